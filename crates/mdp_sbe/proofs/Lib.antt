@@ -1,0 +1,4 @@
+pub mod Numbers
+pub mod Pieces
+pub mod Framings
+pub mod Groups

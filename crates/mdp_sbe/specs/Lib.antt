@@ -1,0 +1,5 @@
+pub mod Refusal
+pub mod Number
+pub mod Framing
+pub mod Group
+pub mod Answer

@@ -1,0 +1,15 @@
+//! The messages of a CME MDP 3.0 channel as typed values: the packets of the incremental feed, the
+//! snapshots of the market recovery feed, and the instruments that the books are kept for.
+#![tactic(auto)]
+
+mod entry;
+mod fault;
+mod instrument;
+mod packet;
+mod snapshot;
+
+pub use entry::{Action, Entry, Kind, Level};
+pub use fault::{Fault, Memory};
+pub use instrument::{Instrument, InstrumentKind, Name};
+pub use packet::{Message, Packet};
+pub use snapshot::Snapshot;

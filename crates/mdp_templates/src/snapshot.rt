@@ -1,0 +1,110 @@
+//! Snapshots of the market recovery feed.
+
+ghost use Rattle.std.specs.Prelude.{◌≡◌, ◌≤◌, length};
+ghost use Rattle.mdp_templates.specs.Snapshot.{SnapshotContent};
+
+use crate::entry::Level;
+use arrayvec::ArrayVec;
+use std::marker::Model;
+
+/// A security's whole book after a packet, seen as its four sides with the best level first.
+#[derive(Drop)]
+pub struct Snapshot {
+    security: i32,
+    last: u32,
+    bids: ArrayVec<Level, 10>,
+    offers: ArrayVec<Level, 10>,
+    implied_bids: ArrayVec<Level, 2>,
+    implied_offers: ArrayVec<Level, 2>,
+}
+
+impl Model for Snapshot {
+    ghost use Rattle.mdp_templates.specs.Snapshot.{SnapshotContent};
+
+    ghost Value = { SnapshotContent };
+
+    ghost view = { λ s. record {
+      security = s.security;
+      last = s.last;
+      bids = s.bids.items;
+      offers = s.offers.items;
+      implied_bids = s.implied_bids.items;
+      implied_offers = s.implied_offers.items;
+    } };
+}
+
+impl Snapshot {
+    /// A snapshot of these sides.
+    pub fn new(
+        security: i32,
+        last: u32,
+        bids: ArrayVec<Level, 10>,
+        offers: ArrayVec<Level, 10>,
+        implied_bids: ArrayVec<Level, 2>,
+        implied_offers: ArrayVec<Level, 2>,
+    ) -> Snapshot
+        ensures { result ≡ record {
+          security = security;
+          last = last;
+          bids = bids.items;
+          offers = offers.items;
+          implied_bids = implied_bids.items;
+          implied_offers = implied_offers.items;
+        } }
+    {
+        Snapshot {
+            security,
+            last,
+            bids,
+            offers,
+            implied_bids,
+            implied_offers,
+        }
+    }
+
+    /// The security whose book this is.
+    pub fn security(&self) -> i32
+        ensures { result ≡ self.now.security }
+    {
+        self.security
+    }
+
+    /// The number of the last packet that the book includes, 0 where it is the book before packet 1.
+    pub fn last(&self) -> u32
+        ensures { result ≡ self.now.last }
+    {
+        self.last
+    }
+
+    /// The direct bids.
+    pub fn bids(&self) -> &[Level]
+        ensures items { result.now ≡ self.now.bids }
+        ensures few { length self.now.bids ≤ 10 }
+    {
+        self.bids.as_slice()
+    }
+
+    /// The direct offers.
+    pub fn offers(&self) -> &[Level]
+        ensures items { result.now ≡ self.now.offers }
+        ensures few { length self.now.offers ≤ 10 }
+    {
+        self.offers.as_slice()
+    }
+
+    /// The implied bids.
+    pub fn implied_bids(&self) -> &[Level]
+        ensures items { result.now ≡ self.now.implied_bids }
+        ensures few { length self.now.implied_bids ≤ 2 }
+    {
+        self.implied_bids.as_slice()
+    }
+
+    /// The implied offers.
+    pub fn implied_offers(&self) -> &[Level]
+        ensures items { result.now ≡ self.now.implied_offers }
+        ensures few { length self.now.implied_offers ≤ 2 }
+    {
+        self.implied_offers.as_slice()
+    }
+}
