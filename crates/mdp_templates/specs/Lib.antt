@@ -1,2 +1,9 @@
+pub mod Answer
 pub mod Packet
 pub mod Snapshot
+pub mod Entry
+pub mod Layout
+pub mod Incremental
+pub mod Recovery
+pub mod Side
+pub mod Refused

@@ -1,5 +1,11 @@
 //! One entry of a book message.
 
+ghost use Rattle.std.specs.Prelude.{◌≡◌, ◌≤◌, length};
+ghost use Rattle.mdp_templates.specs.Entry.{kind_of, action_of, level_of, quote_of, quoted, entry_of};
+
+use crate::layout::GroupEntry;
+use mdp_sbe::{Refusal, i32_at, i64_at};
+
 /// The side of the book that an entry is for: bids or offers, direct or implied.
 #[derive(Clone, Copy, Debug, PartialEq, Eq)]
 pub enum Kind {
@@ -35,4 +41,103 @@ pub struct Entry {
     pub level: u8,
     pub price: i64,
     pub size: i32,
+}
+
+/// The null price, which no level has.
+const NULL_PRICE: i64 = 9223372036854775807;
+
+/// The null size, which no level has.
+const NULL_SIZE: i32 = 2147483647;
+
+/// The side that an entry type names, an ASCII character.
+pub(crate) fn read_kind(byte: u8) -> Result<Kind, Refusal>
+    ensures { result ≡ kind_of byte }
+{
+    match byte {
+        b'0' => Ok(Kind::Bid),
+        b'1' => Ok(Kind::Offer),
+        b'E' => Ok(Kind::ImpliedBid),
+        b'F' => Ok(Kind::ImpliedOffer),
+        _ => Err(Refusal::EntryType),
+    }
+}
+
+fn read_action(byte: u8) -> Result<Action, Refusal>
+    ensures { result ≡ action_of byte }
+{
+    match byte {
+        0 => Ok(Action::New),
+        1 => Ok(Action::Change),
+        2 => Ok(Action::Delete),
+        _ => Err(Refusal::Action),
+    }
+}
+
+/// The position of a level, inside the depth of its side.
+pub(crate) fn read_position(kind: Kind, level: u8) -> Result<u8, Refusal>
+    ensures { result ≡ level_of kind level }
+{
+    let depth = match kind {
+        Kind::Bid | Kind::Offer => 10,
+        Kind::ImpliedBid | Kind::ImpliedOffer => 2,
+    };
+    if level == 0 || level > depth {
+        return Err(Refusal::Level);
+    }
+    Ok(level)
+}
+
+/// A level with a price and a size, neither of them null, the size not negative.
+pub(crate) fn read_level(price: i64, size: i32) -> Result<Level, Refusal>
+    ensures { result ≡ quote_of price size }
+{
+    if price == NULL_PRICE {
+        return Err(Refusal::Price);
+    }
+    if size == NULL_SIZE || size < 0 {
+        return Err(Refusal::Size);
+    }
+    Ok(Level { price, size })
+}
+
+// With a delete the price and the size are not looked at.
+fn read_quoted(action: Action, price: i64, size: i32) -> Result<Level, Refusal>
+    ensures { result ≡ quoted action price size }
+{
+    match action {
+        Action::New | Action::Change => read_level(price, size),
+        Action::Delete => Ok(Level { price, size }),
+    }
+}
+
+#[tactic(auto, unfolding(crate::specs::Entry::entry_of))]
+fn read_entry(text: &[u8]) -> Result<Entry, Refusal>
+    requires { 27 ≤ length text.now }
+    ensures { result ≡ entry_of text.now }
+{
+    let kind = read_kind(text[26])?;
+    let action = read_action(text[25])?;
+    let level = read_position(kind, text[24])?;
+    let quote = read_quoted(action, i64_at(text, 0), i32_at(text, 8))?;
+    let security = i32_at(text, 12);
+    Ok(Entry {
+        security,
+        kind,
+        action,
+        level,
+        price: quote.price,
+        size: quote.size,
+    })
+}
+
+impl GroupEntry for Entry {
+    const LENGTH: u16 = 27;
+
+    ghost LENGTH = { 27 };
+
+    ghost reads = { entry_of };
+
+    fn read(text: &[u8]) -> Result<Entry, Refusal> {
+        read_entry(text)
+    }
 }

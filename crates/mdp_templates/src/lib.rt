@@ -4,12 +4,20 @@
 
 mod entry;
 mod fault;
+mod incremental;
 mod instrument;
+mod layout;
 mod packet;
+mod quote;
+mod recovery;
+mod side;
 mod snapshot;
+mod template;
 
 pub use entry::{Action, Entry, Kind, Level};
 pub use fault::{Fault, Memory};
+pub use incremental::read_packet;
 pub use instrument::{Instrument, InstrumentKind, Name};
 pub use packet::{Message, Packet};
+pub use recovery::read_snapshots;
 pub use snapshot::Snapshot;

@@ -1,0 +1,73 @@
+-- Messages that are read one after the other.
+use Rattle.std.proofs.Common.{◌≡◌, ℕ, ◌<◌, List, [], ◌∷◌, ◌++◌, drop, Option, Some, None, Result, Ok, Err, sym, ap, ◌∙◌, refl}
+use Rattle.std.specs.Prelude.{IfErr}
+use Rattle.std.specs.List.{filter_map}
+use Rattle.std.proofs.lemmas.List.{append-nil}
+use Rattle.std.proofs.lemmas.List.Elements.{filter_map-append}
+use Rattle.mdp_sbe.proofs.Framings.{AreMessages-push}
+use Rattle.mdp_sbe.specs.declared.refusal.Refusal.{Refusal}
+use Rattle.mdp_sbe.specs.declared.header.Header.{Header}
+use Rattle.mdp_sbe.specs.Framing.{IsHeader, Parts, BeginsMessage, IsUnframed, AreMessages, IsRefusedHere, AreRefused}
+use Rattle.mdp_sbe.specs.Framing.IsRefusedHere.{unframed, in_message}
+use Rattle.mdp_templates.specs.declared.fault.Fault.{Fault}
+use Rattle.mdp_templates.specs.declared.fault.Fault.TheVariants as faults
+use Rattle.mdp_templates.specs.Answer.{OnRefusal}
+use Rattle.mdp_templates.specs.Incremental.{IsIncremental, IsRefusedIncremental, IsRefusedPacket}
+use Rattle.mdp_templates.specs.Incremental.IsRefusedPacket.{in_messages}
+use Rattle.mdp_templates.specs.Recovery.{quote_in, IsRecovery, IsRefusedRecovery, IsRefusedSnapshot, Give, AreRefusedSnapshots}
+use Rattle.mdp_templates.specs.Layout.{IsRefusedLayout}
+use Rattle.mdp_templates.specs.Recovery.IsRefusedSnapshot.{in_layout}
+use Rattle.mdp_templates.specs.Recovery.AreRefusedSnapshots.{in_messages as in_recovery}
+use Rattle.mdp_templates.specs.Snapshot.{SnapshotContent}
+
+-- what is left begins no message
+pub refused_framing : {V : Type 0} (IsValue : Parts → V → Type 0) (IsRefused : Parts → Refusal → Type 0) (rest : List ℕ) (values : List V) (here : List ℕ) (r : Refusal) → AreMessages IsValue rest values here → IsUnframed here r → AreRefused IsValue IsRefused rest r
+refused_framing IsValue IsRefused rest values here r so_far bad = record { values = values; here = here; good = so_far; fault = unframed bad }
+
+-- the next message is refused
+pub refused_message : {V : Type 0} (IsValue : Parts → V → Type 0) (IsRefused : Parts → Refusal → Type 0) (rest : List ℕ) (values : List V) (here : List ℕ) (message : Parts) (after : List ℕ) (fault : Fault) → AreMessages IsValue rest values here → BeginsMessage here message after → OnRefusal (IsRefused message) fault → OnRefusal (AreRefused IsValue IsRefused rest) fault
+refused_message IsValue IsRefused rest values here message after (faults.Refused r) so_far begins bad = record { values = values; here = here; good = so_far; fault = in_message message after begins bad }
+refused_message IsValue IsRefused rest values here message after faults.Memory so_far begins bad = tt
+
+-- the messages of a packet are refused
+pub refused_packet : (text : List ℕ) (header : Header) (fault : Fault) → IsHeader text header → 0 < header.number → OnRefusal (AreRefused IsIncremental IsRefusedIncremental (drop 12 text)) fault → OnRefusal (IsRefusedPacket text) fault
+refused_packet text header (faults.Refused r) begins positive bad = in_messages header begins positive bad
+refused_packet text header faults.Memory begins positive bad = tt
+
+-- ---- the recovery feed
+
+abbrev itself : Option SnapshotContent → Option SnapshotContent
+itself value = value
+
+-- a message more that gives a snapshot, or none
+pub Give-snapshot : (rest : List ℕ) (values : List SnapshotContent) (here : List ℕ) (message : Parts) (value : SnapshotContent) (after : List ℕ) → Give rest values here → BeginsMessage here message after → IsRecovery message (Some value) → Give rest (values ++ value ∷ []) after
+Give-snapshot rest values here message value after so_far begins is =
+    record {
+      each = so_far.each ++ Some value ∷ [];
+      follow = AreMessages-push IsRecovery rest so_far.each here message (Some value) after so_far.follow begins is;
+      values_are = ap (λ (vs : List SnapshotContent). vs ++ value ∷ []) so_far.values_are ∙ sym (filter_map-append itself so_far.each (Some value ∷ []));
+    }
+
+pub Give-nothing : (rest : List ℕ) (values : List SnapshotContent) (here : List ℕ) (message : Parts) (after : List ℕ) → Give rest values here → BeginsMessage here message after → IsRecovery message None → Give rest values after
+Give-nothing rest values here message after so_far begins is =
+    record {
+      each = so_far.each ++ None ∷ [];
+      follow = AreMessages-push IsRecovery rest so_far.each here message None after so_far.follow begins is;
+      values_are = so_far.values_are ∙ sym (append-nil (filter_map itself so_far.each)) ∙ sym (filter_map-append itself so_far.each (None ∷ []));
+    }
+
+pub refused_recovery : (message : Parts) (fault : Fault) → message.template ≡ 52 → OnRefusal (IsRefusedSnapshot message) fault → OnRefusal (IsRefusedRecovery message) fault
+refused_recovery message (faults.Refused r) template bad = (template, bad)
+refused_recovery message faults.Memory template bad = tt
+
+pub refused_snapshot : (message : Parts) (fault : Fault) → OnRefusal (IsRefusedLayout quote_in 16 22 message) fault → OnRefusal (IsRefusedSnapshot message) fault
+refused_snapshot message (faults.Refused r) bad = in_layout bad
+refused_snapshot message faults.Memory bad = tt
+
+pub refused_datagram : (text : List ℕ) (header : Header) (fault : Fault) → IsHeader text header → OnRefusal (AreRefused IsRecovery IsRefusedRecovery (drop 12 text)) fault → OnRefusal (AreRefusedSnapshots text) fault
+refused_datagram text header (faults.Refused r) begins bad = in_recovery header begins bad
+refused_datagram text header faults.Memory begins bad = tt
+
+pub refused_snapshots_result : {V : Type 0} (text : List ℕ) (header : Header) (result : Result V Fault) → IsHeader text header → IfErr result (OnRefusal (AreRefused IsRecovery IsRefusedRecovery (drop 12 text))) → IfErr result (OnRefusal (AreRefusedSnapshots text))
+refused_snapshots_result text header (Ok v) begins bad = tt
+refused_snapshots_result text header (Err fault) begins bad = refused_datagram text header fault begins bad

@@ -1,0 +1,18 @@
+use Rattle.std.proofs.lemmas.Result.{err_from_is_err_and, IfOk-at_ok}
+use Rattle.mdp_sbe.specs.declared.message.Message as lent
+use Rattle.mdp_sbe.specs.Framing.{BeginsMessage, parts}
+use Rattle.mdp_sbe.proofs.Framings.{AreMessages-push}
+use Rattle.mdp_templates.specs.Incremental.{IsIncremental, IsRefusedIncremental}
+use Rattle.mdp_templates.proofs.Messages.{refused_message}
+use Rattle.mdp_templates.proofs.incremental.read_messages.Goals as goal
+
+pub returns-in_err-read_message-clause-refused : goal.returns-in_err-read_message-clause-refused
+returns-in_err-read_message-clause-refused g c =
+    let p = err_from_is_err_and c.from_residual-in_err-read_message.result c.from_residual-in_err-read_message.ensures.1 in
+    let begins = IfOk-at_ok (λ (m : lent.Message). BeginsMessage c.loop-next.cursor (parts m) c.next.new.self) c.in_ok-message.was c.in-Some.ensures.ok in
+    rw (p.1, p.2) (refused_message IsIncremental IsRefusedIncremental c.args.rest.now c.loop-next.list.items c.loop-next.cursor (parts c.in_ok-message.message) c.next.new.self c.in_err-read_message.field-0.0 c.loop-next.invariant begins c.in_err-read_message.ensures.refused)
+
+pub loop-next-preserved : goal.loop-next-preserved
+loop-next-preserved g c =
+    let begins = IfOk-at_ok (λ (m : lent.Message). BeginsMessage c.loop-next.cursor (parts m) c.next.new.self) c.in_ok-message.was c.in-Some.ensures.ok in
+    rw c.in_ok-push.ensures.items (AreMessages-push IsIncremental c.args.rest.now c.loop-next.list.items c.loop-next.cursor (parts c.in_ok-message.message) c.in_ok-read_message.field-0 c.next.new.self c.loop-next.invariant begins c.in_ok-read_message.ensures.ok)

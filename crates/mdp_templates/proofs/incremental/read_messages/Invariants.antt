@@ -1,0 +1,11 @@
+use Rattle.std.proofs.Common.{length}
+use Rattle.mdp_sbe.specs.Framing.{AreMessages}
+use Rattle.mdp_templates.specs.Incremental.{IsIncremental}
+use Rattle.mdp_templates.proofs.incremental.read_messages.Given as goal
+
+-- the messages read so far stand before what is left
+abbrev pub invariant-loop-next : goal.invariant-loop-next
+invariant-loop-next g l = AreMessages IsIncremental l.rest l.list.items l.cursor
+
+abbrev pub decreases-loop-next : goal.decreases-loop-next
+decreases-loop-next g l = length l.cursor

@@ -1,0 +1,31 @@
+-- A snapshot's side while it is gathered, position by position.
+use Rattle.std.specs.Prelude.{◌≡◌, ◌<◌, ◌≤◌, ◌+◌, ℕ, List, [], ◌∷◌, length, slice_get, Option, Some, None}
+use Rattle.std.specs.Option.{option_to_list}
+use Rattle.mdp_templates.specs.declared.entry.Level.{Level}
+use Rattle.mdp_templates.specs.declared.entry.Kind.{Kind}
+use Rattle.mdp_templates.specs.declared.quote.Quote.{Quote}
+use Rattle.mdp_templates.specs.declared.side.Found.{Found}
+use Rattle.mdp_templates.specs.declared.side.Found.TheVariants.{Nothing, One, Many}
+use Rattle.mdp_templates.specs.Recovery.{levels_at}
+
+-- how many levels stand at a position
+abbrev pub found_of : List Level → Found
+found_of [] = Nothing
+found_of (level ∷ []) = One level
+found_of (level ∷ other ∷ levels) = Many
+
+-- what was found, and this level if there is one
+abbrev pub found_and : Found → Option Level → Found
+found_and found None = found
+found_and Nothing (Some level) = One level
+found_and (One other) (Some level) = Many
+found_and Many (Some level) = Many
+
+-- no entry of this kind stands at a position past the depth
+abbrev pub AreShallow : Kind → ℕ → List (Option Quote) → Type 0
+AreShallow kind depth quotes = (k : ℕ) → depth ≤ k → levels_at kind (k + 1) quotes ≡ []
+
+-- up to this position the levels are the side's, which may be shorter
+pub record IsGathered (kind : Kind) (quotes : List (Option Quote)) (position : ℕ) (side : List Level) : Type 0 where
+  pub within : length side ≤ position
+  pub so_far : (k : ℕ) → k < position → levels_at kind (k + 1) quotes ≡ option_to_list (slice_get side k)
