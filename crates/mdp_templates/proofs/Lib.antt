@@ -1,3 +1,4 @@
 pub mod Layouts
 pub mod Messages
 pub mod Sides
+pub mod OneAnswer
