@@ -1,0 +1,56 @@
+-- What a side is after an action.
+use Rattle.std.proofs.Common.{◌≡◌, ◌≢◌, ℕ, zero, suc, ◌+◌, ◌-◌, ◌<◌, ◌≤◌, min, List, [], ◌∷◌, ◌++◌, take, drop, length, Some, true, refl, sym, ap, ◌∙◌, arith}
+use Rattle.std.specs.Prelude.{insert, remove, FitsSigned}
+use Rattle.std.specs.Int.{w32}
+use Rattle.std.proofs.lemmas.List.{length-take, length-append}
+use Rattle.std.proofs.lemmas.List.Elements.{All-append, All-cons, All-take, All-drop, All-push}
+use Rattle.std.proofs.lemmas.List.Edits.{length-insert, length-remove}
+use Rattle.std.proofs.lemmas.Bool.Decides.{nat_tests}
+use Rattle.mdp_templates.specs.declared.entry.Level.{Level}
+use Rattle.mdp_books.specs.Side.{after_new, is_position, HaveSizes, IsSide}
+
+HasSize : Level → Type 0
+HasSize x = FitsSigned w32 x.size
+
+-- what falls past the depth may go before the new level comes
+insert_below : (i m : ℕ) (x : Level) (side : List Level) → i ≤ m → insert (take m side) i x ≡ take (suc m) (insert side i x)
+insert_below zero m x side h = refl
+insert_below (suc i) zero x side h = absurd (omega arith)
+insert_below (suc i) (suc m) x [] h = refl
+insert_below (suc i) (suc m) x (y ∷ side) h = ap (λ (s : List Level). y ∷ s) (insert_below i m x side (omega arith))
+
+position : (last n : ℕ) → n ≢ 0 → n ≤ last → is_position last n ≡ true
+position last n some most = grind (arith, nat_tests)
+
+-- a new level comes in where the levels that stay leave room for it
+pub new_is : (depth n : ℕ) (x : Level) (side : List Level) → n ≢ 0 → n ≤ length side + 1 → n ≤ depth → after_new depth n x side ≡ Some (insert (take (depth - 1) side) (n - 1) x)
+new_is depth n x side some near deep =
+    let one : suc (depth - 1) ≡ depth = omega arith in
+    let same : insert (take (depth - 1) side) (n - 1) x ≡ take depth (insert side (n - 1) x) =
+    insert_below (n - 1) (depth - 1) x side (omega arith) ∙ ap (λ (m : ℕ). take m (insert side (n - 1) x)) one in
+    rw (position (min (length side + 1) depth) n some (omega arith)) (ap Some (sym same))
+
+pub side_insert : (depth n : ℕ) (x : Level) (side : List Level) → FitsSigned w32 x.size → IsSide depth side → n ≢ 0 → n ≤ length side + 1 → n ≤ depth → IsSide depth (insert (take (depth - 1) side) (n - 1) x)
+side_insert depth n x side size is some near deep =
+    let kept = take (depth - 1) side in
+    let sizes : HaveSizes kept = All-take (λ (y : Level). FitsSigned w32 y.size) (depth - 1) side is.sizes in
+    record {
+      few = omega (arith, length-insert kept (n - 1) x, length-take (depth - 1) side);
+      sizes = All-append (λ (y : Level). FitsSigned w32 y.size) (take (n - 1) kept) (x ∷ drop (n - 1) kept)
+          (All-take (λ (y : Level). FitsSigned w32 y.size) (n - 1) kept sizes)
+          (All-cons (λ (y : Level). FitsSigned w32 y.size) x (drop (n - 1) kept) size (All-drop (λ (y : Level). FitsSigned w32 y.size) (n - 1) kept sizes));
+    }
+
+pub side_remove : (depth at : ℕ) (side : List Level) → IsSide depth side → at < length side → IsSide depth (remove side at)
+side_remove depth at side is inside = record {
+  few = omega (arith, length-remove side at inside, is.few);
+  sizes = All-append (λ (y : Level). FitsSigned w32 y.size) (take at side) (drop (suc at) side)
+      (All-take (λ (y : Level). FitsSigned w32 y.size) at side is.sizes)
+      (All-drop (λ (y : Level). FitsSigned w32 y.size) (suc at) side is.sizes);
+}
+
+pub side_push : (depth : ℕ) (side : List Level) (x : Level) → FitsSigned w32 x.size → IsSide depth side → length side < depth → IsSide depth (side ++ x ∷ [])
+side_push depth side x size is room = record {
+  few = omega (arith, length-append side (x ∷ []));
+  sizes = All-push (λ (y : Level). FitsSigned w32 y.size) side x is.sizes size;
+}

@@ -1,0 +1,86 @@
+//! The consolidation of a book.
+
+ghost use Rattle.std.specs.Prelude.{◌≡◌, ◌≤◌, ◌+◌, ◌++◌, length};
+ghost use Rattle.mdp_books.specs.Side.{HaveSizes};
+ghost use Rattle.mdp_quotes.specs.Computed.{consolidated};
+
+use crate::total::{Total, Way, enter_all};
+use arrayvec::ArrayVec;
+use mdp_books::{Book, Sides};
+use mdp_templates::Level;
+use std::marker::Model;
+
+/// The totals of a good book's bids and offers, direct and implied together, seen as those two lists.
+#[derive(Drop)]
+pub struct Consolidated {
+    bids: ArrayVec<Total, 12>,
+    offers: ArrayVec<Total, 12>,
+}
+
+impl Model for Consolidated {
+    ghost use Rattle.mdp_quotes.specs.Quotes.{Quotes};
+
+    ghost Value = { Quotes };
+
+    ghost view = { λ c. record { bids = c.bids.items; offers = c.offers.items } };
+}
+
+// Each price of a direct and an implied side once, with the sum of its sizes.
+fn side_of(way: Way, direct: &[Level], implied: &[Level]) -> ArrayVec<Total, 12>
+    requires few { length direct.now + length implied.now ≤ 12 }
+    requires direct_sizes { HaveSizes direct.now }
+    requires implied_sizes { HaveSizes implied.now }
+    ensures { result.items ≡ consolidated way (direct.now ++ implied.now) }
+{
+    let mut totals = ArrayVec::new();
+    enter_all(&mut totals, way, direct);
+    enter_all(&mut totals, way, implied);
+    totals
+}
+
+impl Consolidated {
+    ghost use Rattle.mdp_quotes.specs.Consolidation.{quotes_of, consolidation_of, IsConsolidationOf};
+
+    // Adds up the four sides of a good book.
+    fn of_sides(sides: &Sides) -> Consolidated
+        ensures { result ≡ quotes_of sides.now }
+    {
+        Consolidated {
+            bids: side_of(
+                Way::Falling,
+                sides.bids.levels(),
+                sides.implied_bids.levels(),
+            ),
+            offers: side_of(
+                Way::Rising,
+                sides.offers.levels(),
+                sides.implied_offers.levels(),
+            ),
+        }
+    }
+
+    /// Adds up the sides of a book. Gives none exactly where the book is a fault.
+    pub fn of(book: &Book) -> Option<Consolidated>
+        ensures is { IsConsolidationOf book.now result }
+        ensures same { result ≡ consolidation_of book.now }
+    {
+        match book {
+            Book::Good(sides) => Some(Consolidated::of_sides(sides)),
+            Book::Fault(_) => None,
+        }
+    }
+
+    /// The bids, each price once, the highest first.
+    pub fn bids(&self) -> &[Total]
+        ensures { result.now ≡ self.now.bids }
+    {
+        self.bids.as_slice()
+    }
+
+    /// The offers, each price once, the lowest first.
+    pub fn offers(&self) -> &[Total]
+        ensures { result.now ≡ self.now.offers }
+    {
+        self.offers.as_slice()
+    }
+}

@@ -1,0 +1,15 @@
+//! Consolidated quotes of a book: each price once, direct and implied sizes added up. No function here takes
+//! memory.
+#![tactic(auto)]
+
+mod consolidated;
+mod laws;
+mod live;
+#[cfg(test)]
+mod tests;
+mod total;
+
+pub use consolidated::Consolidated;
+pub use laws::{consolidation_is_computed, one_consolidation};
+pub use live::Live;
+pub use total::{Total, Way};

@@ -1,0 +1,129 @@
+//! Totals by price, the best first.
+
+ghost use Rattle.std.specs.Prelude.{◌≡◌, ◌<◌, ◌≤◌, length, slice_get, slice_set, slice_index_or};
+ghost use Rattle.std.specs.List.{prefix_len};
+ghost use Rattle.mdp_books.specs.Side.{HaveSizes};
+ghost use Rattle.mdp_quotes.specs.Order.{is_ahead, AreInOrder};
+ghost use Rattle.mdp_quotes.specs.Entering.{entered, entered_all, is_before, has_price, total_of, with, IsSmall, HasRoom};
+ghost use Rattle.mdp_quotes.specs.declared.total.Total.{Total};
+
+use arrayvec::ArrayVec;
+use mdp_templates::Level;
+
+/// How the prices of a side run from its best level on: bids fall and offers rise.
+#[derive(Clone, Copy, Debug, PartialEq, Eq)]
+pub enum Way {
+    /// The highest price is the best, as of bids.
+    Falling,
+    /// The lowest price is the best, as of offers.
+    Rising,
+}
+
+/// A price in units of 10^-9, and the sum of the sizes at that price.
+#[derive(Clone, Copy, Debug, PartialEq, Eq, Default)]
+pub struct Total {
+    /// The price, in units of 10^-9.
+    pub price: i64,
+    /// The sum of the sizes of all levels with this price.
+    pub size: i64,
+}
+
+impl Way {
+    /// Whether price `a` is better than price `b`.
+    pub fn is_ahead(self, a: i64, b: i64) -> bool
+        ensures { result ≡ is_ahead self a b }
+    {
+        match self {
+            Way::Falling => b < a,
+            Way::Rising => a < b,
+        }
+    }
+}
+
+// Whether a total's price is better than a level's.
+fn is_before(total: &Total, way: Way, level: &Level) -> bool
+    ensures { result ≡ is_before way level.now total.now }
+{
+    way.is_ahead(total.price, level.price)
+}
+
+// How many totals have a better price than a level. The search begins at the worst, since the levels of a
+// side mostly come in order.
+fn place_of(totals: &[Total], way: Way, level: &Level) -> usize
+    requires { AreInOrder way totals.now }
+    ensures place { result ≡ prefix_len (is_before way level.now) totals.now }
+    ensures inside { result ≤ length totals.now }
+{
+    let mut at = totals.len();
+    while at > 0 && !is_before(&totals[at - 1], way, level) {
+        at -= 1;
+    }
+    at
+}
+
+// Whether the total there has the level's price.
+fn has_price(totals: &[Total], at: usize, level: &Level) -> bool
+    ensures { result ≡ has_price level.now (slice_get totals.now at) }
+{
+    match totals.get(at) {
+        Some(total) => total.price == level.price,
+        None => false,
+    }
+}
+
+// A level alone at its price.
+fn total_of(level: &Level) -> Total
+    ensures { result ≡ total_of level.now }
+{
+    Total {
+        price: level.price,
+        size: level.size as i64,
+    }
+}
+
+// A total with one more level at its price.
+fn with(total: &Total, level: &Level) -> Total
+    requires { IsSmall 1 total.now }
+    ensures { result ≡ with level.now total.now }
+{
+    Total {
+        price: total.price,
+        size: total.size + level.size as i64,
+    }
+}
+
+// Adds a level's size to the total there.
+fn add_at(totals: &mut ArrayVec<Total, 12>, at: usize, level: &Level)
+    requires inside { at < length totals.old.items }
+    requires small { IsSmall 1 (slice_index_or totals.old.items at zero_total) }
+    ensures { totals.new.items ≡ slice_set totals.old.items at (with level.now (slice_index_or totals.old.items at zero_total)) }
+{
+    let total = totals[at];
+    totals[at] = with(&total, level);
+}
+
+ghost use Rattle.mdp_quotes.specs.Entering.{zero_total};
+
+// Adds a level's size at its price.
+fn enter(totals: &mut ArrayVec<Total, 12>, way: Way, level: &Level)
+    requires { HasRoom way 1 totals.old.items }
+    ensures { totals.new.items ≡ entered way level.now totals.old.items }
+{
+    let at = place_of(totals.as_slice(), way, level);
+    if has_price(totals.as_slice(), at, level) {
+        add_at(totals, at, level);
+    } else {
+        totals.insert(at, total_of(level));
+    }
+}
+
+/// Adds the size of each level at its price.
+pub fn enter_all(totals: &mut ArrayVec<Total, 12>, way: Way, levels: &[Level])
+    requires sizes { HaveSizes levels.now }
+    requires room { HasRoom way (length levels.now) totals.old.items }
+    ensures { totals.new.items ≡ entered_all way levels.now totals.old.items }
+{
+    for level in levels {
+        enter(totals, way, level);
+    }
+}
