@@ -2,14 +2,18 @@
 //! memory.
 #![tactic(auto)]
 
+mod best;
 mod consolidated;
 mod laws;
 mod live;
 #[cfg(test)]
 mod tests;
 mod total;
+mod verdict;
 
+pub use best::Best;
 pub use consolidated::Consolidated;
 pub use laws::{consolidation_is_computed, one_consolidation};
 pub use live::Live;
 pub use total::{Total, Way};
+pub use verdict::{Implied, Verdict, audit};

@@ -107,3 +107,77 @@ fn offers_rise_and_a_gone_price_is_gone(rt: HostRuntime) -> Result<(), Fail> {
     assert!(rt; live.consolidated().is_none());
     Ok(())
 }
+
+fn quoted(bid: Option<Level>, offer: Option<Level>) -> Best {
+    Best {
+        bid,
+        offer,
+        implied_bid: None,
+        implied_offer: None,
+    }
+}
+
+fn at(price: i64, size: i32) -> Option<Level> {
+    Some(Level { price, size })
+}
+
+#[test]
+fn a_spread_is_held_against_its_legs(rt: HostRuntime) {
+    let leg1 = quoted(at(100, 5), at(102, 3));
+    let leg2 = quoted(at(98, 4), at(99, 2));
+    let mut spread = quoted(None, None);
+    assert_eq!(rt;
+        audit(&spread, &leg1, &leg2),
+        [Verdict::Missing, Verdict::Missing]
+    );
+    spread.implied_bid = at(1, 2);
+    spread.implied_offer = at(4, 2);
+    assert_eq!(rt;
+        audit(&spread, &leg1, &leg2),
+        [Verdict::Equal, Verdict::EqualLess]
+    );
+    spread.implied_bid = at(2, 9);
+    spread.implied_offer = at(5, 3);
+    assert_eq!(rt;
+        audit(&spread, &leg1, &leg2),
+        [Verdict::Better, Verdict::Worse]
+    );
+    spread.implied_bid = at(1, 3);
+    spread.implied_offer = None;
+    assert_eq!(rt;
+        audit(&spread, &leg1, &quoted(None, at(99, 2))),
+        [Verdict::EqualMore, Verdict::Neither]
+    );
+    assert_eq!(rt;
+        audit(&spread, &quoted(None, None), &leg2),
+        [Verdict::Extra, Verdict::Neither]
+    );
+}
+
+#[test]
+fn prices_far_apart_are_held_against_one_another(rt: HostRuntime) {
+    let leg1 = quoted(at(9223372036854775807, 1), None);
+    let leg2 = quoted(None, at(-9223372036854775808, 1));
+    let mut spread = quoted(None, None);
+    spread.implied_bid = at(-1, 1);
+    assert_eq!(rt;
+        audit(&spread, &leg1, &leg2),
+        [Verdict::Worse, Verdict::Neither]
+    );
+}
+
+#[test]
+fn level_1_of_each_side_is_the_best(rt: HostRuntime) -> Result<(), Fail> {
+    let mut book = Book::empty();
+    book.apply(place(1), &new(Kind::Bid, 1, 99, 1));
+    book.apply(place(2), &new(Kind::Bid, 1, 100, 5));
+    book.apply(place(3), &new(Kind::ImpliedOffer, 1, 103, 2));
+    let best = Best::of(&book).ok_or("good")?;
+    assert_eq!(rt; best.bid, at(100, 5));
+    assert_eq!(rt; best.offer, None);
+    assert_eq!(rt; best.implied_bid, None);
+    assert_eq!(rt; best.implied_offer, at(103, 2));
+    book.apply(place(4), &new(Kind::Offer, 2, 101, 1));
+    assert!(rt; Best::of(&book).is_none());
+    Ok(())
+}

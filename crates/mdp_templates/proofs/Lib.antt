@@ -2,3 +2,4 @@ pub mod Layouts
 pub mod Messages
 pub mod Sides
 pub mod OneAnswer
+pub mod Fits

@@ -2,6 +2,7 @@ pub mod Answer
 pub mod Packet
 pub mod Snapshot
 pub mod Entry
+pub mod Instrument
 pub mod Layout
 pub mod Incremental
 pub mod Recovery

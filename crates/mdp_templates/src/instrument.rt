@@ -1,6 +1,7 @@
 //! The instruments that books are kept for.
 
-ghost use Rattle.std.specs.Prelude.{◌≡◌, ◌≤◌, length};
+ghost use Rattle.std.specs.Prelude.{◌≡◌, ◌≤◌, ◌↔◌, IsTrue, length};
+ghost use Rattle.mdp_templates.specs.Instrument.{HasOutright, AreLegs, HasLegs, FitsAfter, AreFit};
 
 use arrayvec::ArrayString;
 use std::marker::Model;
@@ -25,6 +26,17 @@ impl Name {
         ensures { result ≡ text.bytes }
     {
         Name { text }
+    }
+
+    /// An equal name.
+    pub fn copy(&self) -> Name
+        ensures { result ≡ self.now }
+    {
+        let mut text = ArrayString::new();
+        match text.try_push_str(self.text.as_str()) {
+            Ok(()) => Name { text },
+            Err(_) => unreachable!(),
+        }
     }
 
     /// The text of the name.
@@ -52,4 +64,67 @@ pub struct Instrument {
     pub id: i32,
     pub name: Name,
     pub kind: InstrumentKind,
+}
+
+impl Instrument {
+    /// An equal instrument.
+    pub fn copy(&self) -> Instrument
+        ensures { result ≡ self.now }
+    {
+        Instrument {
+            id: self.id,
+            name: self.name.copy(),
+            kind: self.kind,
+        }
+    }
+}
+
+/// Whether books can be kept for these instruments: 1 to 512 of them, with different ids, and the two legs of
+/// each calendar different outrights that stand earlier.
+pub fn are_fit(instruments: &[Instrument]) -> bool
+    ensures { IsTrue result ↔ AreFit instruments.now }
+{
+    if instruments.is_empty() || instruments.len() > MOST_INSTRUMENTS {
+        return false;
+    }
+    for (place, instrument) in instruments.iter().enumerate() {
+        if !fits_after(&instruments[..place], instrument) {
+            return false;
+        }
+    }
+    true
+}
+
+const MOST_INSTRUMENTS: usize = 512;
+
+fn fits_after(earlier: &[Instrument], instrument: &Instrument) -> bool
+    ensures { IsTrue result ↔ FitsAfter earlier.now instrument.now }
+{
+    let id = instrument.id;
+    earlier.iter().all(|other| other.id != id) && has_legs(earlier, instrument.kind)
+}
+
+fn has_legs(earlier: &[Instrument], kind: InstrumentKind) -> bool
+    ensures { IsTrue result ↔ HasLegs earlier.now kind }
+{
+    match kind {
+        InstrumentKind::Outright => true,
+        InstrumentKind::Calendar { leg1, leg2 } => are_legs(earlier, leg1, leg2),
+    }
+}
+
+fn are_legs(earlier: &[Instrument], leg1: i32, leg2: i32) -> bool
+    ensures { IsTrue result ↔ AreLegs earlier.now leg1 leg2 }
+{
+    if leg1 == leg2 {
+        return false;
+    }
+    has_outright(earlier, leg1) && has_outright(earlier, leg2)
+}
+
+fn has_outright(instruments: &[Instrument], id: i32) -> bool
+    ensures { IsTrue result ↔ HasOutright instruments.now id }
+{
+    instruments.iter().any(|instrument| instrument.id == id
+        && instrument.kind == InstrumentKind::Outright)
 }

@@ -1,0 +1,4 @@
+mod Names
+mod Fronts
+mod Writes
+mod Steps

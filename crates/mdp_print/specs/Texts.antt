@@ -1,0 +1,64 @@
+-- The texts of the lines that are printed: the bytes of each kind of line, each ended by one line feed.
+use Rattle.std.specs.Prelude.{ℕ, ℤ, List, [], ◌∷◌, ◌++◌, Bool, codes, decimal, if◌then◌else◌}
+use Rattle.std.specs.Fmt.{signed_decimal}
+use Rattle.std.specs.List.{flat_map}
+use Rattle.mdp_sbe.specs.declared.refusal.Refusal.{Refusal}
+use Rattle.mdp_sbe.specs.Refusal.{refusal_number, refusal_name}
+use Rattle.mdp_templates.specs.declared.entry.Level.{Level}
+use Rattle.mdp_books.specs.declared.book.Place.{Place}
+use Rattle.mdp_quotes.specs.declared.total.Total.{Total}
+use Rattle.mdp_print.specs.declared.feed.Feed.{Feed}
+use Rattle.mdp_print.specs.Feed.{feed_letter}
+
+-- one space, the price in units of 10^-9, `x`, and the size
+unfoldable pub quote_text : ℤ → ℤ → List ℕ
+quote_text price size = codes " " ++ signed_decimal price ++ codes "x" ++ signed_decimal size
+
+-- the levels of a side, from the best on
+abbrev pub levels_text : List Level → List ℕ
+levels_text levels = flat_map (λ level. quote_text level.price level.size) levels
+
+-- the levels of a consolidated side, from the best on
+abbrev pub totals_text : List Total → List ℕ
+totals_text totals = flat_map (λ total. quote_text total.price total.size) totals
+
+-- where an event ends, and whose book it is: PACKET.MESSAGE NAME
+abbrev pub event_text : ℕ → ℕ → List ℕ → List ℕ
+event_text packet message name = decimal packet ++ codes "." ++ decimal message ++ codes " " ++ name
+
+-- D PACKET.MESSAGE NAME B LEVELS O LEVELS
+unfoldable pub direct_line : ℕ → ℕ → List ℕ → List Level → List Level → List ℕ
+direct_line packet message name bids offers =
+    codes "D " ++ event_text packet message name ++ codes " B" ++ levels_text bids ++ codes " O" ++ levels_text offers ++ codes "\n"
+
+-- I PACKET.MESSAGE NAME B LEVELS O LEVELS
+unfoldable pub implied_line : ℕ → ℕ → List ℕ → List Level → List Level → List ℕ
+implied_line packet message name bids offers =
+    codes "I " ++ event_text packet message name ++ codes " B" ++ levels_text bids ++ codes " O" ++ levels_text offers ++ codes "\n"
+
+-- C PACKET.MESSAGE NAME B LEVELS O LEVELS
+unfoldable pub consolidated_line : ℕ → ℕ → List ℕ → List Total → List Total → List ℕ
+consolidated_line packet message name bids offers =
+    codes "C " ++ event_text packet message name ++ codes " B" ++ totals_text bids ++ codes " O" ++ totals_text offers ++ codes "\n"
+
+-- the place of an entry: PACKET.MESSAGE.ENTRY
+abbrev pub place_text : Place → List ℕ
+place_text place = decimal place.packet ++ codes "." ++ decimal place.message ++ codes "." ++ decimal place.entry
+
+-- F PACKET.MESSAGE NAME PLACE, the place of the book's first impossible entry
+unfoldable pub fault_line : ℕ → ℕ → List ℕ → Place → List ℕ
+fault_line packet message name place =
+    codes "F " ++ event_text packet message name ++ codes " " ++ place_text place ++ codes "\n"
+
+-- J OLD NEW, the number of the next packet before and after a jump
+unfoldable pub jump_line : ℕ → ℕ → List ℕ
+jump_line old new = codes "J " ++ decimal old ++ codes " " ++ decimal new ++ codes "\n"
+
+-- X FEED LINE NUMBER NAME, a datagram at a line of the capture, and why it was refused
+unfoldable pub refusal_line : Feed → ℕ → Refusal → List ℕ
+refusal_line feed line refusal =
+    codes "X " ++ (feed_letter feed ∷ []) ++ codes " " ++ decimal line ++ codes " " ++ decimal (refusal_number refusal) ++ codes " " ++ refusal_name refusal ++ codes "\n"
+
+-- Z NEXT STATE, the number of the next packet at the end, and whether packets were lost
+unfoldable pub last_line : ℕ → Bool → List ℕ
+last_line next lost = codes "Z " ++ decimal next ++ codes " " ++ (if lost then codes "lost" else codes "live") ++ codes "\n"

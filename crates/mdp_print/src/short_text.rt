@@ -1,0 +1,94 @@
+//! Short texts, put together on the stack.
+
+ghost use Rattle.std.specs.Prelude.{◌≡◌, ◌+◌, ◌≤◌, ◌++◌, ◌∷◌, [], length, decimal};
+ghost use Rattle.std.specs.Fmt.{signed_decimal};
+
+use itoa::write_digits;
+use std::marker::Model;
+
+/// The most bytes of a short text.
+pub(crate) const MOST: usize = 64;
+
+/// A text of at most 64 bytes that grows at its front, since digits come from the last to the first.
+#[derive(Drop)]
+pub(crate) struct ShortText {
+    bytes: [u8; MOST],
+    start: usize,
+}
+
+impl Model for ShortText {
+    ghost use Rattle.std.specs.Prelude.{◌≤◌, ℕ, List, drop};
+
+    ghost Value = { List ℕ };
+
+    ghost view = { λ t. drop t.start t.bytes };
+
+    ghost invariant = { λ t. t.start ≤ 64 };
+}
+
+impl ShortText {
+    /// No text yet.
+    #[inline]
+    pub(crate) fn new() -> ShortText
+        ensures { result ≡ [] }
+    {
+        ShortText {
+            bytes: [0; MOST],
+            start: MOST,
+        }
+    }
+
+    /// The text.
+    #[inline]
+    pub(crate) fn as_slice(&self) -> &[u8]
+        ensures { result.now ≡ self.now }
+    {
+        &self.bytes[self.start..]
+    }
+
+    /// Puts a byte in front.
+    #[inline]
+    pub(crate) fn put_byte(&mut self, byte: u8)
+        requires { 1 + length self.old ≤ 64 }
+        ensures text { self.new ≡ byte ∷ self.old }
+        ensures size { length self.new ≡ 1 + length self.old }
+    {
+        self.start -= 1;
+        self.bytes[self.start] = byte;
+    }
+
+    /// Puts bytes in front.
+    #[inline]
+    pub(crate) fn put_bytes(&mut self, bytes: &[u8])
+        requires { length bytes.now + length self.old ≤ 64 }
+        ensures text { self.new ≡ bytes.now ++ self.old }
+        ensures size { length self.new ≡ length bytes.now + length self.old }
+    {
+        let end = self.start;
+        self.start -= bytes.len();
+        self.bytes[self.start..end].copy_from_slice(bytes);
+    }
+
+    /// Puts a number in front, in decimal.
+    #[inline]
+    pub(crate) fn put_number(&mut self, number: u64)
+        requires { 20 + length self.old ≤ 64 }
+        ensures text { self.new ≡ decimal number ++ self.old }
+        ensures size { length self.new ≤ 20 + length self.old }
+    {
+        self.start = write_digits(number, &mut self.bytes, self.start);
+    }
+
+    /// Puts a number in front, in decimal, with `-` where it is negative.
+    #[inline]
+    pub(crate) fn put_signed(&mut self, number: i64)
+        requires { 21 + length self.old ≤ 64 }
+        ensures text { self.new ≡ signed_decimal number ++ self.old }
+        ensures size { length self.new ≤ 21 + length self.old }
+    {
+        self.put_number(number.unsigned_abs());
+        if number < 0 {
+            self.put_byte(b'-');
+        }
+    }
+}

@@ -1,0 +1,121 @@
+//! The lines of faulty books, jumps and refused datagrams, and the last line.
+
+ghost use Rattle.std.specs.Prelude.{◌≡◌, ◌++◌, codes, OnOk, OnErr};
+ghost use Rattle.mdp_print.specs.Texts.{place_text, fault_line, jump_line, refusal_line, last_line};
+ghost use Rattle.mdp_print.specs.Pieces.{BeginsWith};
+
+use crate::feed::Feed;
+use crate::pieces::{put, put_event, settle};
+use crate::short_text::ShortText;
+use mdp_books::Place;
+use mdp_sbe::Refusal;
+use mdp_templates::Memory;
+use std::alloc::Allocator;
+
+/// The end of an `F` line: the place of an entry.
+fn end_at(place: &Place) -> ShortText
+    ensures { result ≡ codes " " ++ place_text place.now ++ codes "\n" }
+{
+    let mut text = ShortText::new();
+    text.put_byte(b'\n');
+    text.put_number(u64::from(place.entry));
+    text.put_byte(b'.');
+    text.put_number(place.message);
+    text.put_byte(b'.');
+    text.put_number(u64::from(place.packet));
+    text.put_byte(b' ');
+    text
+}
+
+/// Appends the `F` line, or a front of it where memory runs out.
+#[tactic(auto, unfolding(crate::specs::Texts::fault_line))]
+fn put_place<A: Allocator>(
+    out: &mut Vec<u8, A>,
+    packet: u32,
+    message: u64,
+    name: &[u8],
+    place: &Place,
+) -> Result<(), Memory>
+    ensures ok { OnOk result (out.new.items ≡ out.old.items ++ fault_line packet message name.now place.now) }
+    ensures err { OnErr result (BeginsWith out.new.items out.old.items) }
+{
+    put_event(out, b'F', packet, message, name)?;
+    put(out, end_at(place).as_slice())
+}
+
+/// Appends the `F` line of a faulty book, with the place of its first impossible entry, where message
+/// `message` of packet `packet` ends an event. Where memory runs out the vector is as before.
+pub fn put_fault<A: Allocator>(
+    out: &mut Vec<u8, A>,
+    packet: u32,
+    message: u64,
+    name: &[u8],
+    place: &Place,
+) -> Result<(), Memory>
+    ensures ok { OnOk result (out.new.items ≡ out.old.items ++ fault_line packet message name.now place.now) }
+    ensures err { OnErr result (out.new.items ≡ out.old.items) }
+{
+    let start = out.len();
+    let outcome = put_place(out, packet, message, name, place);
+    settle(out, start, outcome)
+}
+
+/// Appends the `J` line of a jump, with the number of the next packet before and after it. Where
+/// memory runs out the vector is as before.
+#[tactic(auto, unfolding(crate::specs::Texts::jump_line))]
+pub fn put_jump<A: Allocator>(out: &mut Vec<u8, A>, old: u64, new: u64) -> Result<(), Memory>
+    ensures ok { OnOk result (out.new.items ≡ out.old.items ++ jump_line old new) }
+    ensures err { OnErr result (out.new.items ≡ out.old.items) }
+{
+    let mut text = ShortText::new();
+    text.put_byte(b'\n');
+    text.put_number(new);
+    text.put_byte(b' ');
+    text.put_number(old);
+    text.put_byte(b' ');
+    text.put_byte(b'J');
+    put(out, text.as_slice())
+}
+
+/// Appends the `X` line of a refused datagram: its feed, its line of the capture, counted from 1, and
+/// the number and the name of the refusal. Where memory runs out the vector is as before.
+#[tactic(auto, using(crate::proofs::Names::refusal_name_short), unfolding(crate::specs::Texts::refusal_line))]
+pub fn put_refusal<A: Allocator>(
+    out: &mut Vec<u8, A>,
+    feed: Feed,
+    line: u32,
+    refusal: Refusal,
+) -> Result<(), Memory>
+    ensures ok { OnOk result (out.new.items ≡ out.old.items ++ refusal_line feed line refusal) }
+    ensures err { OnErr result (out.new.items ≡ out.old.items) }
+{
+    let mut text = ShortText::new();
+    text.put_byte(b'\n');
+    text.put_bytes(refusal.name().as_bytes());
+    text.put_byte(b' ');
+    text.put_number(u64::from(refusal.number()));
+    text.put_byte(b' ');
+    text.put_number(u64::from(line));
+    text.put_byte(b' ');
+    text.put_byte(feed.letter());
+    text.put_byte(b' ');
+    text.put_byte(b'X');
+    put(out, text.as_slice())
+}
+
+/// Appends the `Z` line of the end: the number of the next packet, and whether packets were lost. Where
+/// memory runs out the vector is as before.
+#[tactic(auto, unfolding(crate::specs::Texts::last_line))]
+pub fn put_last<A: Allocator>(out: &mut Vec<u8, A>, next: u64, lost: bool) -> Result<(), Memory>
+    ensures ok { OnOk result (out.new.items ≡ out.old.items ++ last_line next lost) }
+    ensures err { OnErr result (out.new.items ≡ out.old.items) }
+{
+    let mut text = ShortText::new();
+    text.put_byte(b'\n');
+    text.put_bytes(if lost { b"lost" } else { b"live" });
+    text.put_byte(b' ');
+    text.put_number(next);
+    text.put_byte(b' ');
+    text.put_byte(b'Z');
+    put(out, text.as_slice())
+}

@@ -1,0 +1,195 @@
+//! The texts of the lines, writers that fail, and allocations that are refused.
+
+use crate::{
+    CountedWrite, Counting, Feed, put_consolidated, put_direct, put_fault, put_implied, put_jump,
+    put_last, put_refusal, write_all_counted,
+};
+use mdp_books::Place;
+use mdp_quotes::Total;
+use mdp_sbe::Refusal;
+use mdp_templates::Level;
+use std::io;
+use std::io::ErrorKind;
+use std::test::Fail;
+
+fn level(price: i64, size: i32) -> Level {
+    Level { price, size }
+}
+
+fn total(price: i64, size: i64) -> Total {
+    Total { price, size }
+}
+
+#[test]
+fn prints_direct_sides(rt: HostRuntime) -> Result<(), Fail> {
+    let mut out = Vec::new(rt.alloc());
+    let bids = [level(100_000_000_000, 5), level(-25_000_000, 0)];
+    let offers = [level(i64::MIN, i32::MAX), level(i64::MAX, i32::MIN)];
+    assert!(rt; put_direct(&mut out, 7, 3, b"ESM6", &bids, &offers).is_ok());
+    assert!(rt; put_direct(&mut out, u32::MAX, u64::MAX, b"", &[], &[]).is_ok());
+    assert!(rt; put_direct(&mut out, 1, 1, b"NEAR", &[], &offers[..1]).is_ok());
+    let lines =
+        b"D 7.3 ESM6 B 100000000000x5 -25000000x0 O -9223372036854775808x2147483647 9223372036854775807x-2147483648\nD 4294967295.18446744073709551615  B O\nD 1.1 NEAR B O -9223372036854775808x2147483647\n";
+    assert_eq!(rt; out.as_slice(), &lines[..]);
+    Ok(())
+}
+
+#[test]
+fn prints_implied_sides(rt: HostRuntime) -> Result<(), Fail> {
+    let mut out = Vec::new(rt.alloc());
+    assert!(rt; put_implied(&mut out, 12, 34, b"FAR", &[level(-1, 10)], &[]).is_ok());
+    assert!(rt; put_implied(&mut out, 12, 34, b"FAR", &[], &[level(0, 1), level(9, 2)]).is_ok());
+    let lines = b"I 12.34 FAR B -1x10 O\nI 12.34 FAR B O 0x1 9x2\n";
+    assert_eq!(rt; out.as_slice(), &lines[..]);
+    Ok(())
+}
+
+#[test]
+fn prints_consolidated_sides(rt: HostRuntime) -> Result<(), Fail> {
+    let mut out = Vec::new(rt.alloc());
+    let bids = [total(10, 4_294_967_294), total(-10, i64::MAX)];
+    let offers = [total(i64::MAX, i64::MIN)];
+    assert!(rt; put_consolidated(&mut out, 1, 2, b"N-F", &bids, &offers).is_ok());
+    assert!(rt; put_consolidated(&mut out, 1, 2, b"N-F", &[], &[]).is_ok());
+    let lines =
+        b"C 1.2 N-F B 10x4294967294 -10x9223372036854775807 O 9223372036854775807x-9223372036854775808\nC 1.2 N-F B O\n";
+    assert_eq!(rt; out.as_slice(), &lines[..]);
+    Ok(())
+}
+
+#[test]
+fn prints_faults_jumps_and_the_end(rt: HostRuntime) -> Result<(), Fail> {
+    let mut out = Vec::new(rt.alloc());
+    let place = Place {
+        packet: 3,
+        message: u64::MAX,
+        entry: 255,
+    };
+    assert!(rt; put_fault(&mut out, 4, 1, b"NEAR", &place).is_ok());
+    assert!(rt; put_jump(&mut out, 5, u64::MAX).is_ok());
+    assert!(rt; put_jump(&mut out, 0, 1).is_ok());
+    assert!(rt; put_last(&mut out, 9, true).is_ok());
+    assert!(rt; put_last(&mut out, u64::MAX, false).is_ok());
+    let lines =
+        b"F 4.1 NEAR 3.18446744073709551615.255\nJ 5 18446744073709551615\nJ 0 1\nZ 9 lost\nZ 18446744073709551615 live\n";
+    assert_eq!(rt; out.as_slice(), &lines[..]);
+    Ok(())
+}
+
+#[test]
+fn prints_refusals(rt: HostRuntime) -> Result<(), Fail> {
+    let mut out = Vec::new(rt.alloc());
+    assert!(rt; put_refusal(&mut out, Feed::A, 1, Refusal::TooShort).is_ok());
+    assert!(rt; put_refusal(&mut out, Feed::B, 20, Refusal::Price).is_ok());
+    assert!(rt; put_refusal(&mut out, Feed::S, u32::MAX, Refusal::SnapshotLevels).is_ok());
+    let lines = b"X A 1 1 TooShort\nX B 20 15 Price\nX S 4294967295 18 SnapshotLevels\n";
+    assert_eq!(rt; out.as_slice(), &lines[..]);
+    Ok(())
+}
+
+/// Takes one byte a call, and fails at one call: by an error of a kind, or else by taking no byte.
+#[derive(Drop)]
+struct Slow {
+    bytes: Vec<u8>,
+    calls: u64,
+    fail_at: u64,
+    kind: Option<ErrorKind>,
+    failures: u64,
+}
+
+impl CountedWrite for Slow {
+    ghost taken = { λ w. w.bytes.items };
+
+    ghost failed = { λ w. w.failures };
+
+    fn write(&mut self, bytes: &[u8]) -> io::Result<usize> {
+        self.calls = self.calls.saturating_add(1);
+        let byte = match bytes.first() {
+            Some(byte) if self.calls != self.fail_at => *byte,
+            _ => {
+                self.failures += 1;
+                return match self.kind {
+                    Some(kind) => Err(io::Error::from(kind)),
+                    None => Ok(0),
+                };
+            }
+        };
+        if self.bytes.push(byte).is_err() {
+            self.failures += 1;
+            return Err(io::Error::from(ErrorKind::OutOfMemory));
+        }
+        Ok(1)
+    }
+
+    fn failures(&self) -> u64 {
+        self.failures
+    }
+}
+
+#[test]
+fn tells_how_much_went_out(rt: HostRuntime) -> Result<(), Fail> {
+    let line = b"Z 9 live\n";
+    for kind in [None, Some(ErrorKind::Interrupted), Some(ErrorKind::Other)] {
+        for fail_at in 1..11u64 {
+            let mut slow = Slow {
+                bytes: Vec::new(rt.alloc()),
+                calls: 0,
+                fail_at,
+                kind,
+                failures: 0,
+            };
+            match write_all_counted(&mut slow, line) {
+                Ok(()) => {
+                    assert_eq!(rt; fail_at, 10);
+                    assert_eq!(rt; slow.bytes.as_slice(), &line[..]);
+                    assert_eq!(rt; slow.failures(), 0);
+                }
+                Err((written, error)) => {
+                    assert_eq!(rt; written as u64 + 1, fail_at);
+                    assert_eq!(rt; slow.bytes.as_slice(), &line[..written]);
+                    assert_eq!(rt; slow.failures(), 1);
+                    assert_eq!(rt; error.kind(), kind.unwrap_or(ErrorKind::WriteZero));
+                }
+            }
+            assert_eq!(rt; slow.calls, fail_at.min(9));
+        }
+    }
+    Ok(())
+}
+
+#[test]
+fn writes_no_bytes_without_a_write(rt: HostRuntime) -> Result<(), Fail> {
+    let mut slow = Slow {
+        bytes: Vec::new(rt.alloc()),
+        calls: 0,
+        fail_at: 1,
+        kind: None,
+        failures: 0,
+    };
+    assert!(rt; write_all_counted(&mut slow, b"").is_ok());
+    assert_eq!(rt; slow.calls, 0);
+    Ok(())
+}
+
+#[test]
+fn counts_the_failures_of_any_writer(rt: HostRuntime) -> Result<(), Fail> {
+    let mut short = [0u8; 4];
+    let mut counting = Counting::new(&mut short[..]);
+    match write_all_counted(&mut counting, b"Z 9 live\n") {
+        Ok(()) => assert!(rt; false),
+        Err((written, error)) => {
+            assert_eq!(rt; written, 4);
+            assert_eq!(rt; error.kind(), ErrorKind::WriteZero);
+        }
+    }
+    assert_eq!(rt; counting.failures(), 1);
+    Ok(())
+}
+
+#[test]
+fn writes_to_standard_output(rt: HostRuntime) -> Result<(), Fail> {
+    let mut counting = Counting::new(io::writer(&rt));
+    assert!(rt; write_all_counted(&mut counting, b"").is_ok());
+    assert_eq!(rt; counting.failures(), 0);
+    Ok(())
+}
