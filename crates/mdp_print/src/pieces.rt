@@ -1,8 +1,7 @@
 //! The pieces that lines are put together from.
 
-ghost use Rattle.std.specs.Prelude.{◌≡◌, ◌++◌, ◌∷◌, ◌↔◌, [], ℤ, take, codes, OnOk, OnErr, IsOk};
-ghost use Rattle.mdp_print.specs.Texts.{quote_text, event_text};
-ghost use Rattle.mdp_print.specs.Pieces.{BeginsWith, quotes_text};
+ghost use Rattle.std.specs.Prelude.{◌≡◌, ◌+◌, ◌<◌, ◌≤◌, ◌++◌, ℤ, take, length, vec_len, vec_capacity, OnOk, OnErr};
+ghost use Rattle.mdp_print.specs.Pieces.{BeginsWith, head_text, quotes_text};
 
 use crate::short_text::ShortText;
 use mdp_quotes::Total;
@@ -59,6 +58,9 @@ impl Quote for Total {
 pub(crate) fn put<A: Allocator>(out: &mut Vec<u8, A>, bytes: &[u8]) -> Result<(), Memory>
     ensures ok { OnOk result (out.new.items ≡ out.old.items ++ bytes.now) }
     ensures err { OnErr result (out.new.items ≡ out.old.items) }
+    ensures len { OnOk result (vec_len out.new ≡ vec_len out.old + length bytes.now) }
+    ensures room { vec_capacity out.old ≤ vec_capacity out.new }
+    ensures full { OnErr result (vec_capacity out.old < vec_len out.old + length bytes.now) }
 {
     out.extend_from_slice(bytes)?;
     Ok(())
@@ -72,8 +74,11 @@ pub(crate) fn put_event<A: Allocator>(
     message: u64,
     name: &[u8],
 ) -> Result<(), Memory>
-    ensures ok { OnOk result (out.new.items ≡ out.old.items ++ (letter ∷ codes " " ++ event_text packet message name.now)) }
+    ensures ok { OnOk result (out.new.items ≡ out.old.items ++ head_text letter packet message name.now) }
     ensures err { OnErr result (BeginsWith out.new.items out.old.items) }
+    ensures len { OnOk result (vec_len out.new ≡ vec_len out.old + length (head_text letter packet message name.now)) }
+    ensures room { vec_capacity out.old ≤ vec_capacity out.new }
+    ensures full { OnErr result (vec_capacity out.old < vec_len out.old + length (head_text letter packet message name.now)) }
 {
     let mut text = ShortText::new();
     text.put_byte(b' ');
@@ -86,31 +91,36 @@ pub(crate) fn put_event<A: Allocator>(
     put(out, name)
 }
 
-/// The text of one level.
-#[inline]
-fn quote_of(price: i64, size: i64) -> ShortText
-    ensures { result ≡ quote_text price size }
-{
-    let mut text = ShortText::new();
-    text.put_signed(size);
-    text.put_byte(b'x');
-    text.put_signed(price);
-    text.put_byte(b' ');
-    text
-}
-
 /// Appends the levels of a side.
-pub(crate) fn put_quotes<Q: Quote, A: Allocator>(
-    out: &mut Vec<u8, A>,
-    quotes: &[Q],
-) -> Result<(), Memory>
+fn put_quotes<Q: Quote, A: Allocator>(out: &mut Vec<u8, A>, quotes: &[Q]) -> Result<(), Memory>
     ensures ok { OnOk result (out.new.items ≡ out.old.items ++ quotes_text Q.price Q.size quotes.now) }
     ensures err { OnErr result (BeginsWith out.new.items out.old.items) }
+    ensures len { OnOk result (vec_len out.new ≡ vec_len out.old + length (quotes_text Q.price Q.size quotes.now)) }
+    ensures room { vec_capacity out.old ≤ vec_capacity out.new }
+    ensures full { OnErr result (vec_capacity out.old < vec_len out.old + length (quotes_text Q.price Q.size quotes.now)) }
 {
     for quote in quotes {
-        put(out, quote_of(quote.price(), quote.size()).as_slice())?;
+        let mut text = ShortText::new();
+        text.put_quote(quote.price(), quote.size());
+        put(out, text.as_slice())?;
     }
     Ok(())
+}
+
+/// Appends the letter of a side, with a space before it, and the side's levels.
+pub(crate) fn put_side<Q: Quote, A: Allocator>(
+    out: &mut Vec<u8, A>,
+    word: &[u8],
+    quotes: &[Q],
+) -> Result<(), Memory>
+    ensures ok { OnOk result (out.new.items ≡ out.old.items ++ (word.now ++ quotes_text Q.price Q.size quotes.now)) }
+    ensures err { OnErr result (BeginsWith out.new.items out.old.items) }
+    ensures len { OnOk result (vec_len out.new ≡ vec_len out.old + length (word.now ++ quotes_text Q.price Q.size quotes.now)) }
+    ensures room { vec_capacity out.old ≤ vec_capacity out.new }
+    ensures full { OnErr result (vec_capacity out.old < vec_len out.old + length (word.now ++ quotes_text Q.price Q.size quotes.now)) }
+{
+    put(out, word)?;
+    put_quotes(out, quotes)
 }
 
 /// Cuts a vector back to its length before a line that wanted memory, and passes the outcome on.

@@ -2,6 +2,7 @@
 
 ghost use Rattle.std.specs.Prelude.{◌≡◌, ◌+◌, ◌≤◌, ◌++◌, ◌∷◌, [], length, decimal};
 ghost use Rattle.std.specs.Fmt.{signed_decimal};
+ghost use Rattle.mdp_print.specs.Texts.{quote_text};
 
 use itoa::write_digits;
 use std::marker::Model;
@@ -90,5 +91,18 @@ impl ShortText {
         if number < 0 {
             self.put_byte(b'-');
         }
+    }
+
+    /// Puts a level in front: a space, the price, `x` and the size.
+    #[inline]
+    #[tactic(auto, unfolding(crate::specs::Texts::quote_text))]
+    pub(crate) fn put_quote(&mut self, price: i64, size: i64)
+        requires { 44 + length self.old ≤ 64 }
+        ensures { self.new ≡ quote_text price size ++ self.old }
+    {
+        self.put_signed(size);
+        self.put_byte(b'x');
+        self.put_signed(price);
+        self.put_byte(b' ');
     }
 }

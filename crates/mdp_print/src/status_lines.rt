@@ -1,6 +1,6 @@
 //! The lines of faulty books, jumps and refused datagrams, and the last line.
 
-ghost use Rattle.std.specs.Prelude.{◌≡◌, ◌++◌, codes, OnOk, OnErr};
+ghost use Rattle.std.specs.Prelude.{◌≡◌, ◌+◌, ◌<◌, ◌++◌, length, codes, vec_len, vec_capacity, OnOk, OnErr};
 ghost use Rattle.mdp_print.specs.Texts.{place_text, fault_line, jump_line, refusal_line, last_line};
 ghost use Rattle.mdp_print.specs.Pieces.{BeginsWith};
 
@@ -38,6 +38,7 @@ fn put_place<A: Allocator>(
 ) -> Result<(), Memory>
     ensures ok { OnOk result (out.new.items ≡ out.old.items ++ fault_line packet message name.now place.now) }
     ensures err { OnErr result (BeginsWith out.new.items out.old.items) }
+    ensures full { OnErr result (vec_capacity out.old < vec_len out.old + length (fault_line packet message name.now place.now)) }
 {
     put_event(out, b'F', packet, message, name)?;
     put(out, end_at(place).as_slice())
@@ -54,6 +55,7 @@ pub fn put_fault<A: Allocator>(
 ) -> Result<(), Memory>
     ensures ok { OnOk result (out.new.items ≡ out.old.items ++ fault_line packet message name.now place.now) }
     ensures err { OnErr result (out.new.items ≡ out.old.items) }
+    ensures full { OnErr result (vec_capacity out.old < vec_len out.old + length (fault_line packet message name.now place.now)) }
 {
     let start = out.len();
     let outcome = put_place(out, packet, message, name, place);
@@ -66,6 +68,7 @@ pub fn put_fault<A: Allocator>(
 pub fn put_jump<A: Allocator>(out: &mut Vec<u8, A>, old: u64, new: u64) -> Result<(), Memory>
     ensures ok { OnOk result (out.new.items ≡ out.old.items ++ jump_line old new) }
     ensures err { OnErr result (out.new.items ≡ out.old.items) }
+    ensures full { OnErr result (vec_capacity out.old < vec_len out.old + length (jump_line old new)) }
 {
     let mut text = ShortText::new();
     text.put_byte(b'\n');
@@ -88,6 +91,7 @@ pub fn put_refusal<A: Allocator>(
 ) -> Result<(), Memory>
     ensures ok { OnOk result (out.new.items ≡ out.old.items ++ refusal_line feed line refusal) }
     ensures err { OnErr result (out.new.items ≡ out.old.items) }
+    ensures full { OnErr result (vec_capacity out.old < vec_len out.old + length (refusal_line feed line refusal)) }
 {
     let mut text = ShortText::new();
     text.put_byte(b'\n');
@@ -109,6 +113,7 @@ pub fn put_refusal<A: Allocator>(
 pub fn put_last<A: Allocator>(out: &mut Vec<u8, A>, next: u64, lost: bool) -> Result<(), Memory>
     ensures ok { OnOk result (out.new.items ≡ out.old.items ++ last_line next lost) }
     ensures err { OnErr result (out.new.items ≡ out.old.items) }
+    ensures full { OnErr result (vec_capacity out.old < vec_len out.old + length (last_line next lost)) }
 {
     let mut text = ShortText::new();
     text.put_byte(b'\n');

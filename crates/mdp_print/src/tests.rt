@@ -7,9 +7,12 @@ use crate::{
 use mdp_books::Place;
 use mdp_quotes::Total;
 use mdp_sbe::Refusal;
-use mdp_templates::Level;
+use mdp_templates::{Level, Memory};
+use refusing::Refusing;
+use std::alloc::{Allocator, Global};
 use std::io;
 use std::io::ErrorKind;
+use std::process::Abort;
 use std::test::Fail;
 
 fn level(price: i64, size: i32) -> Level {
@@ -191,5 +194,56 @@ fn writes_to_standard_output(rt: HostRuntime) -> Result<(), Fail> {
     let mut counting = Counting::new(io::writer(&rt));
     assert!(rt; write_all_counted(&mut counting, b"").is_ok());
     assert_eq!(rt; counting.failures(), 0);
+    Ok(())
+}
+
+/// A line of each kind, by its number.
+fn put_line<A: Allocator>(out: &mut Vec<u8, A>, kind: usize) -> Result<(), Memory> {
+    let place = Place {
+        packet: 1,
+        message: 2,
+        entry: 3,
+    };
+    let levels = [level(-25_000_000, 7), level(i64::MIN, i32::MAX)];
+    let totals = [total(i64::MAX, i64::MAX), total(i64::MIN, i64::MIN)];
+    match kind {
+        0 => put_direct(out, u32::MAX, u64::MAX, b"NEAR", &levels, &levels),
+        1 => put_implied(out, 1, 2, b"NEAR", &levels, &[]),
+        2 => put_consolidated(out, 1, 2, b"NEAR", &totals, &totals),
+        3 => put_fault(out, 1, 2, b"A NAME OF 20 LETTERS", &place),
+        4 => put_jump(out, u64::MAX, u64::MAX),
+        5 => put_refusal(out, Feed::S, u32::MAX, Refusal::SnapshotLevels),
+        _ => put_last(out, u64::MAX, true),
+    }
+}
+
+/// Appends a line with each allocation refused in turn, and answers how many were.
+fn refuse_each(rt: &impl Abort, alloc: Global, kind: usize) -> Result<u64, Fail> {
+    let mut whole = Vec::from_slice(alloc, b"J 1 2\n")?;
+    assert!(rt; put_line(&mut whole, kind).is_ok());
+    for number in 2..20u64 {
+        let heap = Refusing::new(alloc, number);
+        let mut out = Vec::from_slice(&heap, b"J 1 2\n")?;
+        if put_line(&mut out, kind).is_ok() {
+            assert_eq!(rt; out.as_slice(), whole.as_slice());
+            assert!(rt; !heap.has_refused());
+            return Ok(number - 2);
+        }
+        assert_eq!(rt; out.as_slice(), &b"J 1 2\n"[..]);
+        assert!(rt; heap.has_refused());
+    }
+    assert!(rt; false);
+    Ok(0)
+}
+
+#[test]
+fn keeps_the_vector_where_memory_runs_out(rt: HostRuntime) -> Result<(), Fail> {
+    // the lines of books go out in pieces, so that a later growth finds some of the line in place
+    for kind in 0..4usize {
+        assert!(rt; refuse_each(&rt, rt.alloc(), kind)? > 1);
+    }
+    for kind in 4..7usize {
+        assert!(rt; refuse_each(&rt, rt.alloc(), kind)? > 0);
+    }
     Ok(())
 }

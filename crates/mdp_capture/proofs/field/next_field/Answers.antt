@@ -1,0 +1,14 @@
+use Rattle.std.proofs.Common.{◌≡◌, ◌+◌, ◌-◌, ◌<◌, ◌≤◌, ◌∷◌, length, take, drop, ap, ◌∙◌, sym, arith}
+use Rattle.std.proofs.lemmas.List.{take_rest}
+use Rattle.mdp_capture.specs.Line.{fields}
+use Rattle.mdp_capture.proofs.Splits.{parts_found, parts_none}
+use Rattle.mdp_capture.proofs.field.next_field.Goals as goal
+
+pub returns-in-Some : goal.returns-in-Some
+returns-in-Some c =
+    let text = c.args.text.now in
+    let end = c.in-Some.end in
+    parts_found 32 text end c.in-Some.ensures ∙ ap (λ rest. take end text ∷ fields rest) (sym (take_rest text (end + 1)))
+
+pub returns-in-None : goal.returns-in-None
+returns-in-None c = parts_none 32 c.args.text.now c.in-None.ensures

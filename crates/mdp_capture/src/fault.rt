@@ -1,0 +1,91 @@
+//! Why a capture could not be read.
+
+ghost use Rattle.std.specs.Prelude.{◌≡◌};
+ghost use Rattle.mdp_capture.specs.declared.fault.CaptureFault.TheVariants as faults;
+
+use std::alloc::{AllocError, AllocFailed};
+use std::fmt;
+use thiserror::Error;
+
+/// Why a run is refused, by the number and the name that are printed.
+#[derive(Clone, Copy, Debug, PartialEq, Eq)]
+pub enum CaptureRefusal {
+    /// An earlier instrument has the id or the name of this one.
+    DuplicateId,
+    /// A leg is no outright of an earlier line, or both legs are the same.
+    UnknownLeg,
+    /// This is the 513th instrument.
+    TooMany,
+    /// The capture has no instrument.
+    NoInstrument,
+    /// An instrument stands after a datagram or a close that was not skipped.
+    InstrumentLate,
+}
+
+impl CaptureRefusal {
+    ghost use Rattle.mdp_capture.specs.Faults.{refusal_number, refusal_name};
+
+    /// The number that is printed, from 31 to 35.
+    pub fn number(self) -> u8
+        ensures { result ≡ refusal_number self }
+    {
+        match self {
+            CaptureRefusal::DuplicateId => 31,
+            CaptureRefusal::UnknownLeg => 32,
+            CaptureRefusal::TooMany => 33,
+            CaptureRefusal::NoInstrument => 34,
+            CaptureRefusal::InstrumentLate => 35,
+        }
+    }
+
+    /// The name that is printed, in ASCII letters.
+    pub fn name(self) -> &'static str
+        ensures { result.now ≡ refusal_name self }
+    {
+        match self {
+            CaptureRefusal::DuplicateId => "DuplicateId",
+            CaptureRefusal::UnknownLeg => "UnknownLeg",
+            CaptureRefusal::TooMany => "TooMany",
+            CaptureRefusal::NoInstrument => "None",
+            CaptureRefusal::InstrumentLate => "InstrumentLate",
+        }
+    }
+}
+
+impl fmt::Display for CaptureRefusal {
+    fn fmt<W: fmt::Write>(&self, f: &mut fmt::Formatter<W>) -> fmt::Result {
+        let number = self.number();
+        let name = self.name();
+        write!(f, "{number} {name}")
+    }
+}
+
+/// Why a capture could not be read.
+#[derive(Clone, Copy, Debug, PartialEq, Eq, Error)]
+pub enum CaptureFault {
+    /// The run is refused at this line, or at line 0 where the whole capture lacks an instrument.
+    #[error("line {line}: {refusal}")]
+    Refused { line: u32, refusal: CaptureRefusal },
+    /// Memory ran out.
+    #[error("41 Memory")]
+    Memory,
+    /// A read failed.
+    #[error("43 Input")]
+    Input,
+}
+
+impl From<AllocError> for CaptureFault {
+    ghost from_gives = { λ _ e. e ≡ faults.Memory };
+
+    fn from(_error: AllocError) -> CaptureFault {
+        CaptureFault::Memory
+    }
+}
+
+impl<T: Drop> From<AllocFailed<T>> for CaptureFault {
+    ghost from_gives = { λ _ e. e ≡ faults.Memory };
+
+    fn from(_error: AllocFailed<T>) -> CaptureFault {
+        CaptureFault::Memory
+    }
+}

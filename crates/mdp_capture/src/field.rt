@@ -1,0 +1,88 @@
+//! The fields of a line.
+
+ghost use Rattle.std.specs.Prelude.{◌≡◌, ◌∷◌, []};
+ghost use Rattle.std.specs.Str.{bytes_eq};
+ghost use Rattle.mdp_capture.specs.Parsed.{fields_left};
+ghost use Rattle.mdp_capture.specs.Line.{fields, is_digit, is_number, id_of, is_graphic, is_name, name_of};
+ghost use Rattle.std.specs.List.{list_all};
+
+use arrayvec::ArrayString;
+use memchr::memchr;
+use mdp_templates::Name;
+
+const LARGEST_ID: u64 = 2147483647;
+
+/// The first field of a text, and the text after the space behind it, if there is one.
+pub(crate) fn next_field(text: &[u8]) -> (&[u8], Option<&[u8]>)
+    ensures { fields text.now ≡ result.0.now ∷ fields_left result.1 }
+{
+    match memchr(b' ', text) {
+        Some(end) => (&text[..end], Some(&text[end + 1..])),
+        None => (text, None),
+    }
+}
+
+/// Whether a field is this one letter.
+pub(crate) fn is_letter(field: &[u8], letter: u8) -> bool
+    ensures { result ≡ bytes_eq field.now (letter ∷ []) }
+{
+    field == [letter].as_slice()
+}
+
+/// The id that a field spells, a decimal number from 1 to 2147483647 without sign or leading zero.
+pub(crate) fn id_of(field: &[u8]) -> Option<i32>
+    ensures { result ≡ id_of field.now }
+{
+    if !is_number(field) {
+        return None;
+    }
+    let mut id = 0u64;
+    for digit in field {
+        id = id * 10 + u64::from(digit - b'0');
+        if id > LARGEST_ID {
+            return None;
+        }
+    }
+    if id == 0 { None } else { Some(id as i32) }
+}
+
+/// Whether a field has decimal digits alone and no leading zero.
+fn is_number(field: &[u8]) -> bool
+    ensures { result ≡ is_number field.now }
+{
+    match field {
+        [b'0', ..] => false,
+        _ => has_digits_alone(field),
+    }
+}
+
+fn has_digits_alone(field: &[u8]) -> bool
+    ensures { result ≡ list_all is_digit field.now }
+{
+    field.iter().all(|byte| byte.is_ascii_digit())
+}
+
+/// The name that a field spells, 1 to 20 bytes, each from 33 to 126.
+pub(crate) fn name_of(field: &[u8]) -> Option<Name>
+    ensures { result ≡ name_of field.now }
+{
+    if !is_name(field) {
+        return None;
+    }
+    let text = str::from_utf8(field).ok()?;
+    let text = ArrayString::from(text).ok()?;
+    Some(Name::new(text))
+}
+
+/// Whether a field has 1 to 20 bytes, each from 33 to 126.
+fn is_name(field: &[u8]) -> bool
+    ensures { result ≡ is_name field.now }
+{
+    !field.is_empty() && field.len() <= 20 && is_graphic(field)
+}
+
+fn is_graphic(field: &[u8]) -> bool
+    ensures { result ≡ list_all is_graphic field.now }
+{
+    field.iter().all(|byte| byte.is_ascii_graphic())
+}

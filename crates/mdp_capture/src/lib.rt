@@ -1,0 +1,20 @@
+//! The capture text: the instruments of a channel and what its three feeds brought, read line by line from
+//! any reader that counts its failures.
+#![tactic(auto)]
+
+mod capture;
+mod draft;
+mod fault;
+mod field;
+mod line;
+mod reader;
+mod reading;
+mod record;
+mod skip;
+
+pub use capture::Capture;
+pub use fault::{CaptureFault, CaptureRefusal};
+pub use reader::{CountedRead, CountingReader};
+pub use reading::read_capture;
+pub use record::Record;
+pub use skip::{Skip, SkippedLine};

@@ -1,0 +1,143 @@
+//! One line of a capture.
+
+ghost use Rattle.std.specs.Prelude.{◌≡◌, IfOk};
+ghost use Rattle.hex.specs.Hex.{decode_of};
+ghost use Rattle.mdp_capture.specs.Line.{fields, calendar_of_fields, kind_of, instrument_of, listing, packet, packet_of, closing_of, line_of};
+ghost use Rattle.mdp_capture.specs.Parsed.{content_of, fields_left};
+
+use crate::field::{id_of, is_letter, name_of, next_field};
+use crate::skip::Skip;
+use hex::FromHexError;
+use mdp_templates::{Instrument, InstrumentKind};
+use std::alloc::{AllocError, Allocator};
+
+/// The feed that a datagram came on: the incremental feeds A and B, or the snapshot feed S.
+#[derive(Clone, Copy, Debug, PartialEq, Eq)]
+pub(crate) enum Feed {
+    A,
+    B,
+    S,
+}
+
+/// What a line says.
+#[derive(Drop)]
+pub(crate) enum Line<A: Allocator> {
+    /// Nothing.
+    Blank,
+    /// An instrument of the channel.
+    Listing(Instrument),
+    /// A datagram's bytes, at most 2,048.
+    Packet(Feed, Vec<u8, A>),
+    /// The close of the channel.
+    Closing,
+    /// Nothing that could be read.
+    Skipped(Skip),
+}
+
+const LONGEST_DATAGRAM: usize = 2048;
+
+/// What a line says, without its line feed and the carriage return before it.
+pub(crate) fn line_of<A: Allocator>(alloc: A, text: &[u8]) -> Result<Line<A>, AllocError>
+    ensures { IfOk result (λ line. content_of line ≡ line_of text.now) }
+{
+    if text.is_empty() {
+        return Ok(Line::Blank);
+    }
+    let (letter, rest) = next_field(text);
+    if is_letter(letter, b'I') {
+        Ok(listing_of(rest))
+    } else if is_letter(letter, b'A') {
+        packet_of(alloc, Feed::A, rest)
+    } else if is_letter(letter, b'B') {
+        packet_of(alloc, Feed::B, rest)
+    } else if is_letter(letter, b'S') {
+        packet_of(alloc, Feed::S, rest)
+    } else if is_letter(letter, b'X') {
+        Ok(closing_of(rest))
+    } else {
+        Ok(Line::Skipped(Skip::LineForm))
+    }
+}
+
+fn listing_of<A: Allocator>(rest: Option<&[u8]>) -> Line<A>
+    ensures { content_of result ≡ listing (instrument_of (fields_left rest.entry)) }
+{
+    match instrument_of(rest) {
+        Some(instrument) => Line::Listing(instrument),
+        None => Line::Skipped(Skip::LineForm),
+    }
+}
+
+fn instrument_of(rest: Option<&[u8]>) -> Option<Instrument>
+    ensures { result ≡ instrument_of (fields_left rest.entry) }
+{
+    let (id, rest) = next_field(rest?);
+    let (name, kind) = next_field(rest?);
+    let id = id_of(id)?;
+    let name = name_of(name)?;
+    let kind = kind_of(kind)?;
+    Some(Instrument { id, name, kind })
+}
+
+fn kind_of(rest: Option<&[u8]>) -> Option<InstrumentKind>
+    ensures { result ≡ kind_of (fields_left rest.entry) }
+{
+    match next_field(rest?) {
+        (letter, None) if is_letter(letter, b'O') => Some(InstrumentKind::Outright),
+        (letter, Some(legs)) if is_letter(letter, b'C') => calendar_of(legs),
+        _ => None,
+    }
+}
+
+fn calendar_of(legs: &[u8]) -> Option<InstrumentKind>
+    ensures { result ≡ calendar_of_fields (fields legs.now) }
+{
+    let (leg1, rest) = next_field(legs);
+    let (leg2, rest) = next_field(rest?);
+    if rest.is_some() {
+        return None;
+    }
+    let leg1 = id_of(leg1)?;
+    let leg2 = id_of(leg2)?;
+    Some(InstrumentKind::Calendar { leg1, leg2 })
+}
+
+fn packet_of<A: Allocator>(
+    alloc: A,
+    feed: Feed,
+    rest: Option<&[u8]>,
+) -> Result<Line<A>, AllocError>
+    ensures { IfOk result (λ line. content_of line ≡ packet_of feed (fields_left rest.entry)) }
+{
+    let Some(rest) = rest else {
+        return Ok(Line::Skipped(Skip::LineForm));
+    };
+    let (digits, rest) = next_field(rest);
+    if rest.is_some() {
+        return Ok(Line::Skipped(Skip::LineForm));
+    }
+    if digits.is_empty() {
+        return Ok(Line::Skipped(Skip::LineForm));
+    }
+    packet(alloc, feed, digits)
+}
+
+fn packet<A: Allocator>(alloc: A, feed: Feed, digits: &[u8]) -> Result<Line<A>, AllocError>
+    ensures { IfOk result (λ line. content_of line ≡ packet feed (decode_of digits.now)) }
+{
+    match hex::decode(alloc, digits) {
+        Ok(bytes) if bytes.len() <= LONGEST_DATAGRAM => Ok(Line::Packet(feed, bytes)),
+        Ok(_) => Ok(Line::Skipped(Skip::TooLong)),
+        Err(FromHexError::OutOfMemory) => Err(AllocError),
+        Err(_) => Ok(Line::Skipped(Skip::Hex)),
+    }
+}
+
+fn closing_of<A: Allocator>(rest: Option<&[u8]>) -> Line<A>
+    ensures { content_of result ≡ closing_of (fields_left rest.entry) }
+{
+    match rest {
+        Some(_) => Line::Skipped(Skip::LineForm),
+        None => Line::Closing,
+    }
+}

@@ -1,0 +1,136 @@
+//! Reading a capture piece by piece.
+
+ghost use Rattle.std.specs.Prelude.{◌≡◌, ◌≢◌, ◌++◌, ◌∷◌, [], ◌+◌, ◌-◌, ◌<◌, ◌^◌, ℕ, List, OnOk, IfOk, IfErr, IfSome};
+ghost use Rattle.std.specs.Str.Lines.{strip_carriage_return};
+ghost use Rattle.mdp_capture.specs.Capture.{IsFaultOf, capture_of, needs_instrument};
+ghost use Rattle.mdp_capture.specs.Draft.{capture_so_far, AreFitSoFar};
+ghost use Rattle.mdp_templates.specs.Instrument.{AreFit};
+ghost use Rattle.mdp_capture.specs.Reading.{capture_with, IsSound};
+
+use crate::capture::Capture;
+use crate::draft::Draft;
+use crate::fault::CaptureFault;
+use crate::line::line_of;
+use crate::reader::CountedRead;
+use memchr::memchr;
+use std::alloc::Allocator;
+
+/// Reads a capture to its end: the instruments, the records of the three feeds, and the lines that were skipped.
+/// The first refusal of the run ends the reading. Beside the capture itself it takes room for one line and a piece
+/// of 64 KiB.
+///
+/// # Errors
+///
+/// `Refused` at the first line that refuses the run, `Memory` where memory ran out, and `Input` where a read failed.
+pub fn read_capture<R: CountedRead, A: Allocator + Copy>(
+    alloc: A,
+    reader: &mut R,
+) -> Result<Capture<A>, CaptureFault>
+    requires { R.failed reader.old < 2 ^ 64 - 1 }
+    ensures capture { IfOk result (λ capture. IfSome (R.rest reader.old) (λ text. capture_of text ≡ Ok capture)) }
+    ensures fit { IfOk result (λ capture. AreFit capture.instruments) }
+    ensures refused { IfErr result (λ fault. IfSome (R.rest reader.old) (λ text. IsFaultOf (capture_of text) fault)) }
+    ensures input { result ≡ Err CaptureFault.Input → R.failed reader.new ≡ R.failed reader.old + 1 }
+    ensures sound { result ≢ Err CaptureFault.Input → R.failed reader.new ≡ R.failed reader.old }
+{
+    let mut reading = Reading::new(alloc);
+    let mut piece = vec![in alloc; 0u8; PIECE]?;
+    loop {
+        match reader.read(piece.as_mut_slice()) {
+            Ok(0) => return reading.finish(alloc),
+            Ok(n) => reading.take_piece(alloc, &piece[..n])?,
+            Err(_) => return Err(CaptureFault::Input),
+        }
+    }
+}
+
+const PIECE: usize = 65536;
+
+/// A capture of which some pieces were read.
+#[derive(Drop)]
+pub(crate) struct Reading<A: Allocator> {
+    draft: Draft<A>,
+    pending: Vec<u8, A>,
+}
+
+impl<A: Allocator + Copy> Reading<A> {
+    /// A capture of which nothing was read.
+    pub(crate) fn new(alloc: A) -> Reading<A>
+        ensures capture { (text : List ℕ) → capture_with result text ≡ capture_of text }
+        ensures sound { IsSound result }
+    {
+        Reading {
+            draft: Draft::new(alloc),
+            pending: Vec::new(alloc),
+        }
+    }
+
+    /// Takes in the next piece of the text.
+    pub(crate) fn take_piece(&mut self, alloc: A, piece: &[u8]) -> Result<(), CaptureFault>
+        requires { IsSound self.old }
+        ensures capture { OnOk result ((text : List ℕ) → capture_with self.old (piece.now ++ text) ≡ capture_with self.new text) }
+        ensures sound { OnOk result (IsSound self.new) }
+        ensures refused { IfErr result (λ fault. (text : List ℕ) → IsFaultOf (capture_with self.old (piece.now ++ text)) fault) }
+        ensures no_input { IfErr result (λ fault. fault ≢ CaptureFault.Input) }
+    {
+        let mut rest = piece;
+        while let Some(end) = memchr(b'\n', rest) {
+            self.pending.extend_from_slice(&rest[..end])?;
+            self.end_line(alloc)?;
+            rest = &rest[end + 1..];
+        }
+        self.pending.extend_from_slice(rest)?;
+        Ok(())
+    }
+
+    fn end_line(&mut self, alloc: A) -> Result<(), CaptureFault>
+        requires { IsSound self.old }
+        ensures capture { OnOk result ((text : List ℕ) → capture_with self.old (10 ∷ text) ≡ capture_with self.new text) }
+        ensures sound { OnOk result (IsSound self.new) }
+        ensures pending { OnOk result (self.new.pending.items ≡ []) }
+        ensures refused { IfErr result (λ fault. (text : List ℕ) → IsFaultOf (capture_with self.old (10 ∷ text)) fault) }
+        ensures no_input { IfErr result (λ fault. fault ≢ CaptureFault.Input) }
+    {
+        let line = line_of(alloc, without_carriage_return(self.pending.as_slice()))?;
+        self.pending.clear();
+        self.draft.add_line(line)?;
+        Ok(())
+    }
+
+    /// The capture, where the text has ended.
+    pub(crate) fn finish(mut self, alloc: A) -> Result<Capture<A>, CaptureFault>
+        requires { IsSound self }
+        ensures capture { IfOk result (λ capture. capture_with self [] ≡ Ok capture) }
+        ensures fit { IfOk result (λ capture. AreFit capture.instruments) }
+        ensures refused { IfErr result (IsFaultOf (capture_with self [])) }
+        ensures no_input { IfErr result (λ fault. fault ≢ CaptureFault.Input) }
+    {
+        self.end_text(alloc)?;
+        let Reading { draft, pending: _ } = self;
+        draft.finish()
+    }
+
+    fn end_text(&mut self, alloc: A) -> Result<(), CaptureFault>
+        requires { IsSound self.old }
+        ensures capture { OnOk result (capture_with self.old [] ≡ needs_instrument (Ok (capture_so_far self.new.draft))) }
+        ensures fit { OnOk result (AreFitSoFar self.new.draft.instruments.items) }
+        ensures refused { IfErr result (IsFaultOf (capture_with self.old [])) }
+        ensures no_input { IfErr result (λ fault. fault ≢ CaptureFault.Input) }
+    {
+        if self.pending.is_empty() {
+            return Ok(());
+        }
+        let line = line_of(alloc, self.pending.as_slice())?;
+        self.draft.add_line(line)?;
+        Ok(())
+    }
+}
+
+fn without_carriage_return(line: &[u8]) -> &[u8]
+    ensures { result.now ≡ strip_carriage_return line.now }
+{
+    match line {
+        [text @ .., b'\r'] => text,
+        _ => line,
+    }
+}

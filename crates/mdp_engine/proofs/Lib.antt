@@ -1,0 +1,5 @@
+pub mod Marks
+pub mod Showing
+pub mod Fronts
+pub mod Hearing
+pub mod Agreeing

@@ -1,0 +1,26 @@
+-- Moves that are a complete feed's.
+use Rattle.std.specs.Prelude.{◌≡◌, ℕ, ◌+◌, List, [], ◌∷◌, take, ⊤}
+use Rattle.std.specs.List.{AllZip}
+use Rattle.mdp_templates.specs.Packet.{PacketContent}
+use Rattle.mdp_templates.specs.Snapshot.{SnapshotContent}
+use Rattle.mdp_templates.specs.declared.instrument.Instrument.{Instrument}
+use Rattle.mdp_books.specs.Feed.{sent, book_at}
+use Rattle.mdp_engine.specs.Feed.{IsFeed, IsIn, IsJumpedTo}
+use Rattle.mdp_engine.specs.Lines.{Footing, lines}
+use Rattle.mdp_engine.specs.Shown.{Move, Start, shown_lines, steps_of}
+use Rattle.mdp_engine.specs.Shown.Move.{passed, jumped}
+
+-- From packet `next` on, each packet that passes is the feed's next, and a jump's snapshots are books of the feed that
+-- leave out no packet behind the jump.
+abbrev pub AreOf : List Instrument → List PacketContent → ℕ → List Move → Type 0
+AreOf listed feed next [] = ⊤
+AreOf listed feed next (passed packet ∷ moves) = (packet.number ≡ next) × IsIn feed packet × AreOf listed feed (next + 1) moves
+AreOf listed feed next (jumped old new snapshots ∷ moves) = AllZip (λ (i : Instrument) (s : SnapshotContent). IsJumpedTo feed new i.id s) listed snapshots × AreOf listed feed new moves
+
+-- a listed security as the complete feed has it: its book after the packet that is its base
+abbrev pub start_of : List PacketContent → Footing → Start
+start_of feed i = record { instrument = i.instrument; base = i.base; jumped = i.jumped; book = book_at i.instrument.id (sent (take i.base feed)) }
+
+-- The moves show what the complete feed owes.
+abbrev pub ShowsWhatIsOwed : Type 0
+ShowsWhatIsOwed = (listed : List Instrument) (feed : List PacketContent) (moves : List Move) → IsFeed feed → AreOf listed feed 1 moves → shown_lines listed moves ≡ lines listed feed (steps_of moves)

@@ -1,0 +1,31 @@
+-- The complete feed that the lines are defined by.
+use Rattle.std.specs.Prelude.{◌≡◌, ◌≤◌, ℕ, ℤ, ◌+◌, ◌-◌, List, [], ◌∷◌, length, take, slice_get, Some, ⊤}
+use Rattle.mdp_templates.specs.Packet.{PacketContent}
+use Rattle.mdp_templates.specs.Snapshot.{SnapshotContent}
+use Rattle.mdp_books.specs.Book.{book_of_snapshot}
+use Rattle.mdp_books.specs.Feed.{sent, book_at}
+
+-- packets in number order, the first of which has this number
+abbrev pub NumberedFrom : ℕ → List PacketContent → Type 0
+NumberedFrom k [] = ⊤
+NumberedFrom k (p ∷ ps) = (p.number ≡ k) × NumberedFrom (k + 1) ps
+
+-- the complete feed: its k-th packet has number k, and no number is past the largest
+pub record IsFeed (feed : List PacketContent) : Type 0 where
+  pub numbered : NumberedFrom 1 feed
+  pub long : length feed ≤ 4294967295
+
+-- a packet stands in the feed, in the place that its number says
+pub record IsIn (feed : List PacketContent) (packet : PacketContent) : Type 0 where
+  pub first : 1 ≤ packet.number
+  pub place : slice_get feed (packet.number - 1) ≡ Some packet
+
+-- a snapshot's book is the complete feed's after its last packet
+pub record IsSnapshotOf (feed : List PacketContent) (id : ℤ) (snapshot : SnapshotContent) : Type 0 where
+  pub within : snapshot.last ≤ length feed
+  pub book : book_of_snapshot snapshot ≡ book_at id (sent (take snapshot.last feed))
+
+-- a snapshot of the feed that leaves out no packet behind a jump to this number
+pub record IsJumpedTo (feed : List PacketContent) (next : ℕ) (id : ℤ) (snapshot : SnapshotContent) : Type 0 where
+  pub covers : next ≤ snapshot.last + 1
+  pub is : IsSnapshotOf feed id snapshot

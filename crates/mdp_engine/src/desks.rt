@@ -1,0 +1,141 @@
+//! The desks of all listed securities.
+
+ghost use Rattle.std.specs.Prelude.{◌≡◌, ◌++◌, ◌≤◌, ℕ, IfOk, OnOk, IfSome, IfNone, Some, slice_get, map, length};
+ghost use Rattle.std.specs.List.{flat_map};
+ghost use Rattle.mdp_templates.specs.Instrument.{AreFit};
+ghost use Rattle.mdp_books.specs.Feed.{sent_as, sent_in};
+ghost use Rattle.mdp_engine.specs.Desks.{desk_at_start, desk_heard, desk_settled, desk_standing, desks_after, desks_text, desks_through, passed_desks, passed_text};
+ghost use Rattle.mdp_engine.specs.Lines.{lines_as};
+
+use crate::desk::Desk;
+use crate::slots::Slots;
+use mdp_books::Place;
+use mdp_templates::{Entry, Instrument, Memory, Message, Packet};
+use std::alloc::Allocator;
+use std::marker::Model;
+
+/// The desks of the listed securities, seen as their list.
+#[derive(Drop)]
+pub struct Desks<A: Allocator> {
+    slots: Slots<A>,
+    desks: Vec<Desk, A>,
+}
+
+impl<A: Allocator> Model for Desks<A> {
+    ghost use Rattle.std.specs.Prelude.{List, ◌≡◌, ◌≢◌, map};
+    ghost use Rattle.std.specs.List.{AllPairs};
+    ghost use Rattle.mdp_engine.specs.declared.desk.Desk.{Desk};
+    ghost use Rattle.mdp_engine.specs.Slots.{AreSlotsOf};
+
+    ghost Value = { List Desk };
+
+    ghost view = { λ d. d.desks.items };
+
+    ghost invariant = { λ d. AreSlotsOf d.desks.items d.slots };
+}
+
+// The place of the security that an entry names, if it is listed.
+fn slot_named<A: Allocator + Copy>(slots: &Slots<A>, entry: &Entry) -> Option<usize>
+    ensures some { IfSome result (λ slot. slice_get slots.now slot ≡ Some entry.now.security) }
+    ensures none { IfNone result ((slot : ℕ) → slice_get slots.now slot ≡ Some entry.now.security → ⊥) }
+{
+    slots.slot_of(entry.security)
+}
+
+fn settle_all(desks: &mut [Desk], packet: u32)
+    ensures { desks.new ≡ map (desk_settled packet) desks.old }
+{
+    for n in 0..desks.len() {
+        desks[n].settle(packet);
+    }
+}
+
+impl<A: Allocator + Copy> Desks<A> {
+    /// The desks of these securities before any packet.
+    pub fn new(alloc: A, instruments: &[Instrument]) -> Result<Desks<A>, Memory>
+        requires { AreFit instruments.now }
+        ensures { IfOk result (λ d. d ≡ map desk_at_start instruments.now) }
+    {
+        let mut slots = Slots::new(alloc);
+        let mut desks = Vec::with_capacity(alloc, instruments.len())?;
+        for instrument in instruments {
+            slots.add(instrument.id)?;
+            desks.push(Desk::new(instrument.copy()))?;
+        }
+        Ok(Desks { slots, desks })
+    }
+
+    // Takes an entry, which is for one desk at most.
+    fn enter(&mut self, place: Place, entry: &Entry)
+        ensures { self.new ≡ map (desk_heard place entry.now) self.old }
+    {
+        if let Some(slot) = slot_named(&self.slots, entry) {
+            self.desks[slot].enter(place, entry);
+        }
+    }
+
+    // Takes the entries of a message.
+    fn hear(&mut self, packet: u32, message: u64, entries: &[Entry])
+        requires { length entries.now ≤ 255 }
+        ensures { self.new ≡ desks_through packet message 1 entries.now self.old }
+    {
+        for n in 0..entries.len() {
+            let place = Place {
+                packet,
+                message,
+                entry: n as u8 + 1,
+            };
+            self.enter(place, &entries[n]);
+        }
+    }
+
+    // Appends the lines that an event end owes.
+    fn put(&self, out: &mut Vec<u8, A>, packet: u32, message: u64) -> Result<(), Memory>
+        ensures { OnOk result (out.new.items ≡ out.old.items ++ lines_as packet message (map (desk_standing packet) self.now)) }
+    {
+        for desk in &self.desks {
+            desk.put(out, packet, message)?;
+        }
+        Ok(())
+    }
+
+    // Forgets the marks where an event ended.
+    fn settle(&mut self, packet: u32)
+        ensures { self.new ≡ map (desk_settled packet) self.old }
+    {
+        settle_all(&mut self.desks, packet);
+    }
+
+    // Takes a message, and appends the lines that are owed where it ends an event.
+    fn take(
+        &mut self,
+        out: &mut Vec<u8, A>,
+        packet: u32,
+        message: u64,
+        taken: &Message<A>,
+    ) -> Result<(), Memory>
+        ensures desks { OnOk result (self.new ≡ desks_after (sent_as packet message taken.now) self.old) }
+        ensures text { OnOk result (out.new.items ≡ out.old.items ++ desks_text (sent_as packet message taken.now) self.old) }
+    {
+        self.hear(packet, message, taken.entries());
+        if taken.is_end() {
+            self.put(out, packet, message)?;
+            self.settle(packet);
+        }
+        Ok(())
+    }
+
+    /// Passes a packet, and appends the lines that its event ends owe. After want of memory the text and
+    /// the desks are of no more use.
+    pub fn pass(&mut self, out: &mut Vec<u8, A>, packet: &Packet<A>) -> Result<(), Memory>
+        ensures desks { OnOk result (self.new ≡ passed_desks (sent_in packet.now) self.old) }
+        ensures text { OnOk result (out.new.items ≡ out.old.items ++ passed_text (sent_in packet.now) self.old) }
+    {
+        let number = packet.number();
+        let messages = packet.messages();
+        for n in 0..messages.len() {
+            self.take(out, number, n as u64 + 1, &messages[n])?;
+        }
+        Ok(())
+    }
+}
