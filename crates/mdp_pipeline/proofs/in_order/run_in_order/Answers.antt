@@ -1,0 +1,23 @@
+use Rattle.std.proofs.Common.{◌≡◌, ◌∙◌, List, take, subst, sym, ap, arith, Ok, Err, Result}
+use Rattle.std.specs.Prelude.{IfOk}
+use Rattle.std.proofs.lemmas.List.{take_all}
+use Rattle.mdp_capture.specs.Record.{RecordContent}
+use Rattle.mdp_pipeline.specs.Running.{Writes}
+use Rattle.mdp_pipeline.proofs.Turns.{writes_more, run_written}
+use Rattle.mdp_pipeline.proofs.in_order.run_in_order.Goals as goal
+
+pub loop-record-preserved : goal.loop-record-preserved
+loop-record-preserved g c = record {
+  writes = c.in_ok-hand_on_pieces.ensures.writes _ _ _
+      (writes_more c.args.instruments.now c.args.a.now c.loop-record.record-index c.record-item.result _ _ _ _ _ _ _ _ _ _ c.loop-record-test.true c.record-item.is (c.in-Ok-take.ensures c.args.instruments.now) c.loop-record.invariant.writes);
+  failed = c.in_ok-hand_on_pieces.ensures.failed ∙ c.loop-record.invariant.failed;
+}
+
+pub returns : goal.returns
+returns g c =
+    let all : take c.loop-record.record-index c.args.a.now ≡ c.args.a.now = take_all c.loop-record.record-index c.args.a.now (omega arith) in
+    let start = g.W.CountedWrite.taken c.args.writer.now in
+    let taken = g.W.CountedWrite.taken c.loop-record.writer in
+    let run = c.loop-record.run in
+    let writes = subst (λ (rs : List RecordContent). Writes c.args.instruments.now rs start taken run.desks run.text.items run.refusals.items run.next) all c.loop-record.invariant.writes in
+    record { text = run_written c.args.instruments.now c.args.a.now start taken (g.W.CountedWrite.taken c.finish.new.writer) run.desks run.text.items run.refusals.items run.next c.finish.result c.finish.ensures.taken c.finish.ensures.next writes }

@@ -1,0 +1,9 @@
+//! Runs over the records of a channel's feeds: what is printed is what the complete feed defines.
+#![tactic(auto)]
+
+mod in_order;
+mod run;
+mod summary;
+
+pub use in_order::run_in_order;
+pub use summary::{RunFault, Summary};

@@ -1,0 +1,22 @@
+//! What became of a run.
+
+/// What a run came to. The number of bytes stays at 2^64 - 1 once it is there.
+#[derive(Clone, Copy, Debug, PartialEq, Eq)]
+pub struct Summary {
+    /// The number of the packet that comes next, from 1 to 4294967296.
+    pub next: u64,
+    /// Whether packets were lost that nothing has made up for.
+    pub lost: bool,
+    /// How many bytes were written.
+    pub written: u64,
+}
+
+/// Why a run ended early, with the number of bytes that went out before. They are a beginning of what the whole
+/// run prints.
+#[derive(Clone, Copy, Debug, PartialEq, Eq)]
+pub enum RunFault {
+    /// Memory ran out.
+    Memory { written: u64 },
+    /// A write failed.
+    Output { written: u64 },
+}
