@@ -1,3 +1,4 @@
 pub mod Reading
 pub mod Output
 pub mod Running
+pub mod Faults

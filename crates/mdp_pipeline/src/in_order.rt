@@ -2,6 +2,7 @@
 
 ghost use Rattle.std.specs.Prelude.{◌≡◌, ◌<◌, ◌^◌, ◌-◌, ◌++◌, [], ℕ, List, IfOk, OnOk, MatchResult};
 ghost use Rattle.mdp_templates.specs.Instrument.{AreFit};
+ghost use Rattle.mdp_pipeline.specs.Faults.{FailsBy};
 ghost use Rattle.mdp_pipeline.specs.Output.{Prints};
 ghost use Rattle.std.specs.Prelude.{false};
 ghost use Rattle.mdp_print.specs.Texts.{last_line};
@@ -27,7 +28,7 @@ fn hand_on<W: CountedWrite, A: Allocator>(
 ) -> Result<(), RunFault>
     requires { W.failed writer.old < 2 ^ 64 - 1 }
     ensures taken { OnOk result (W.taken writer.new ≡ W.taken writer.old ++ text.old.items) }
-    ensures failed { OnOk result (W.failed writer.new ≡ W.failed writer.old) }
+    ensures failed { FailsBy result (W.failed writer.old) (W.failed writer.new) }
     ensures emptied { OnOk result (text.new.items ≡ []) }
 {
     match write_all_counted(writer, text) {
@@ -52,7 +53,7 @@ fn hand_on_pieces<W: CountedWrite, A: Allocator>(
     ensures writes { OnOk result ((listed : List Instrument) (records : List RecordContent) (start : List ℕ) →
         Writes listed records start (W.taken writer.old) run.old.desks run.old.text.items run.old.refusals.items run.old.next →
         Writes listed records start (W.taken writer.new) run.new.desks run.new.text.items run.new.refusals.items run.new.next) }
-    ensures failed { OnOk result (W.failed writer.new ≡ W.failed writer.old) }
+    ensures failed { FailsBy result (W.failed writer.old) (W.failed writer.new) }
 {
     if run.text.len() >= PIECE {
         hand_on(writer, &mut run.text, written)?;
@@ -62,7 +63,7 @@ fn hand_on_pieces<W: CountedWrite, A: Allocator>(
 
 /// Runs over the records of the feeds on one thread, in the order of the capture's lines, and writes what is owed.
 /// Until two feeds are arbitrated, feed A is read alone, its packets pass in number order, and the window is not
-/// looked at.
+/// looked at. `Output` is answered exactly where a write failed.
 pub fn run_in_order<W: CountedWrite, A: Allocator + Copy>(
     alloc: A,
     instruments: &[Instrument],
@@ -76,6 +77,7 @@ pub fn run_in_order<W: CountedWrite, A: Allocator + Copy>(
     requires fit { AreFit instruments.now }
     requires one_feed { (b.now ≡ []) × (s.now ≡ []) }
     ensures text { IfOk result (λ summary. (text : List ℕ) × (W.taken writer.new ≡ W.taken writer.old ++ text) × Prints instruments.now a.now text summary.next) }
+    ensures failed { FailsBy result (W.failed writer.old) (W.failed writer.new) }
 {
     let mut written = 0;
     let Ok(mut run) = Run::new(alloc, instruments) else {
@@ -99,6 +101,7 @@ fn finish<W: CountedWrite, A: Allocator + Copy>(
     requires { W.failed writer.old < 2 ^ 64 - 1 }
     ensures taken { OnOk result (W.taken writer.new ≡ W.taken writer.old ++ (run.text.items ++ (run.refusals.items ++ last_line run.next false))) }
     ensures next { IfOk result (λ summary. summary.next ≡ run.next) }
+    ensures failed { FailsBy result (W.failed writer.old) (W.failed writer.new) }
 {
     let Run {
         desks: _,

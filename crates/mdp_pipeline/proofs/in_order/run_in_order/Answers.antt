@@ -1,7 +1,8 @@
-use Rattle.std.proofs.Common.{◌≡◌, ◌∙◌, List, take, subst, sym, ap, arith, Ok, Err, Result}
+use Rattle.std.proofs.Common.{◌≡◌, ◌∙◌, ℕ, List, take, subst, sym, ap, arith, Ok, Err, Result}
 use Rattle.std.specs.Prelude.{IfOk}
 use Rattle.std.proofs.lemmas.List.{take_all}
 use Rattle.mdp_capture.specs.Record.{RecordContent}
+use Rattle.mdp_pipeline.specs.Faults.{FailsBy}
 use Rattle.mdp_pipeline.specs.Running.{Writes}
 use Rattle.mdp_pipeline.proofs.Turns.{writes_more, run_written}
 use Rattle.mdp_pipeline.proofs.in_order.run_in_order.Goals as goal
@@ -20,4 +21,5 @@ returns g c =
     let taken = g.W.CountedWrite.taken c.loop-record.writer in
     let run = c.loop-record.run in
     let writes = subst (λ (rs : List RecordContent). Writes c.args.instruments.now rs start taken run.desks run.text.items run.refusals.items run.next) all c.loop-record.invariant.writes in
-    record { text = run_written c.args.instruments.now c.args.a.now start taken (g.W.CountedWrite.taken c.finish.new.writer) run.desks run.text.items run.refusals.items run.next c.finish.result c.finish.ensures.taken c.finish.ensures.next writes }
+    let failed = subst (λ (n : ℕ). FailsBy c.finish.result n (g.W.CountedWrite.failed c.finish.new.writer)) c.loop-record.invariant.failed c.finish.ensures.failed in
+    record { failed = failed; text = run_written c.args.instruments.now c.args.a.now start taken (g.W.CountedWrite.taken c.finish.new.writer) run.desks run.text.items run.refusals.items run.next c.finish.result c.finish.ensures.taken c.finish.ensures.next writes }
