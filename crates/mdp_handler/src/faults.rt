@@ -1,6 +1,6 @@
 //! What is told on standard error. A write that fails there is passed over.
 
-ghost use Rattle.std.specs.Prelude.{◌≡◌, ◌<◌, ◌-◌, ◌^◌, ◌++◌};
+ghost use Rattle.std.specs.Prelude.{◌≡◌, ◌<◌, ◌-◌, ◌^◌, ◌++◌, codes};
 
 use arrayvec::ArrayString;
 use mdp_capture::{CaptureRefusal, SkippedLine};
@@ -20,7 +20,9 @@ pub fn tell<F: CountedWrite>(faults: &mut F, text: &[u8])
 }
 
 /// Tells that memory ran out.
-pub fn tell_memory<F: CountedWrite>(faults: &mut F) {
+pub fn tell_memory<F: CountedWrite>(faults: &mut F)
+    ensures { F.failed faults.new ≡ F.failed faults.old → F.failed faults.old < 2 ^ 64 - 1 → F.taken faults.new ≡ F.taken faults.old ++ codes "41 Memory\n" }
+{
     tell(faults, b"41 Memory\n");
 }
 
@@ -32,7 +34,9 @@ pub fn tell_output<F: CountedWrite>(faults: &mut F, written: u64) {
 }
 
 /// Tells that a read failed.
-pub fn tell_input<F: CountedWrite>(faults: &mut F) {
+pub fn tell_input<F: CountedWrite>(faults: &mut F)
+    ensures { F.failed faults.new ≡ F.failed faults.old → F.failed faults.old < 2 ^ 64 - 1 → F.taken faults.new ≡ F.taken faults.old ++ codes "43 Input\n" }
+{
     tell(faults, b"43 Input\n");
 }
 

@@ -4,6 +4,8 @@
 mod faults;
 mod program;
 mod settings;
+#[cfg(test)]
+mod tests;
 
 use mdp_capture::CountingReader;
 use mdp_print::Counting;

@@ -26,7 +26,8 @@ The capture is text, one record a line:
   A HEX, B HEX           a datagram of incremental feed A or B
   S HEX                  a datagram of the snapshot feed
   X                      the snapshot feed closes
-Instruments come first. A datagram has at most 2,048 bytes.
+Instruments come first. A datagram has at most 2,048 bytes. So far feed A alone
+is used, by one thread, whatever the options say.
 
 At each event end these lines are printed for each security that it names, where
 K.J is the packet's number and the message's place in it:
@@ -35,10 +36,10 @@ K.J is the packet's number and the message's place in it:
   C K.J NAME B QUOTES O QUOTES  both, added up by price
   F K.J NAME PLACE              no book: the first entry that had no place in it
 After these comes X FEED LINE NUMBER NAME for each refused datagram, and at the
-end Z NEXT live, or Z NEXT lost where packets are missing. Prices are in units
-of 10^-9.
+end Z NEXT live, NEXT being the number of the packet that would come next.
+Prices are in units of 10^-9.
 
-Example, one bid of 5 at a price of 100:
+Example, which begins with a bid of 5 at a price of 100:
   $ mdp_handler --in-order < examples/plain.capture
   D 1.1 NEAR B 100x5 O
   I 1.1 NEAR B O
