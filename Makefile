@@ -1,0 +1,19 @@
+# make run    proves and builds the program, and runs it on an example
+# make test   the merge gate and the worked rows; the last line is 'N passed, M failed'
+
+SHELL := /bin/bash
+program := crates/mdp_handler/out/mdp_handler
+
+.PHONY: run test build
+
+run: build
+	@$(program) --in-order < examples/plain.capture
+
+test:
+	@tests/run_all.sh
+
+# What the prover says is shown only where it refuses something.
+build:
+	@echo "proving and building mdp_handler; the first time takes minutes" >&2
+	@log=$$(mktemp); trap 'rm -f "$$log"' EXIT; \
+	(cd crates/mdp_handler && rt run -- --version) > "$$log" 2>&1 < /dev/null || { cat "$$log" >&2; exit 1; }

@@ -1,0 +1,56 @@
+//! `mdp_handler`: reads a capture of one CME MDP 3.0 channel from standard input, and prints its books.
+#![tactic(auto)]
+
+mod faults;
+mod program;
+mod settings;
+#[cfg(test)]
+mod tests;
+
+use mdp_capture::CountingReader;
+use mdp_print::Counting;
+use std::alloc::{AllocError, Global};
+use std::process::ExitCode;
+use std::{env, io};
+
+// What to tell of a command line that is no text.
+const NO_TEXT: &[u8] = b"error: a word of the command line is not UTF-8\n";
+
+/// Runs the program over the real standard input, output and error.
+fn main(rt: HostRuntime) -> ExitCode {
+    let alloc = rt.alloc();
+    let mut input = CountingReader::new(rt.reader());
+    let mut output = Counting::new(io::writer(&rt));
+    let mut faults = Counting::new(rt.stderr());
+    let texts = match env::args(&rt) {
+        Ok(texts) => texts,
+        Err(error) if error.kind() == io::ErrorKind::InvalidData => {
+            faults::tell(&mut faults, NO_TEXT);
+            return ExitCode::from(program::REFUSED);
+        }
+        Err(_) => {
+            faults::tell_memory(&mut faults);
+            return ExitCode::from(program::FAILED);
+        }
+    };
+    let collected: Result<Vec<String>, AllocError> = texts.collect(alloc);
+    let Ok(texts) = collected else {
+        faults::tell_memory(&mut faults);
+        return ExitCode::from(program::FAILED);
+    };
+    let Ok(words) = words_of(alloc, &texts) else {
+        faults::tell_memory(&mut faults);
+        return ExitCode::from(program::FAILED);
+    };
+    let status = program::program(alloc, alloc, &words, &mut input, &mut output, &mut faults);
+    ExitCode::from(status)
+}
+
+// The words as borrowed texts.
+fn words_of<'a>(alloc: Global, texts: &'a [String]) -> Result<Vec<&'a str>, AllocError> {
+    let mut words = Vec::with_capacity(alloc, texts.len())?;
+    for text in texts {
+        words.push(text.as_str())?;
+    }
+    Ok(words)
+}

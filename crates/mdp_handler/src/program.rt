@@ -1,0 +1,144 @@
+//! The program, over any input and outputs.
+
+ghost use Rattle.std.specs.Prelude.{◌≡◌, ◌≤◌, ◌<◌, ◌-◌, ◌^◌};
+ghost use Rattle.mdp_templates.specs.Instrument.{AreFit};
+
+use crate::faults::{tell, tell_input, tell_memory, tell_output, tell_refused, tell_skipped};
+use crate::settings::read_settings;
+use clap::Error;
+use clap::error::ErrorKind;
+use mdp_capture::{Capture, CaptureFault, CountedRead, read_capture};
+use mdp_pipeline::{RunFault, run_in_order};
+use mdp_print::{CountedWrite, write_all_counted};
+use std::alloc::{Allocator, Global};
+
+/// The exit status of a run to the end, and of help.
+pub const DONE: u8 = 0;
+/// The exit status where memory ran out, or a write or a read failed.
+pub const FAILED: u8 = 1;
+/// The exit status where the command line or the capture is refused.
+pub const REFUSED: u8 = 2;
+
+/// The program. It reads the command line `words`, of which the first is the program's name, then a capture from
+/// `input`, writes the text of the run to `output`, and tells what went wrong on `faults`. Answers the exit status:
+/// 0 for a run to the end and for help, 1 where memory ran out or a read or a write of the output failed, and 2 where
+/// the command line or the capture is refused; then nothing is written to `output`. A write to `faults` that fails is
+/// passed over.
+pub fn program<I: CountedRead, O: CountedWrite, F: CountedWrite, A: Allocator + Copy>(
+    words_alloc: Global,
+    alloc: A,
+    words: &[&str],
+    input: &mut I,
+    output: &mut O,
+    faults: &mut F,
+) -> u8
+    requires input { I.failed input.old < 2 ^ 64 - 1 }
+    requires output { O.failed output.old < 2 ^ 64 - 1 }
+    ensures status { result ≤ 2 }
+    ensures reads { result ≡ 0 → I.failed input.new ≡ I.failed input.old }
+    ensures refused { result ≡ 2 → O.taken output.new ≡ O.taken output.old }
+{
+    match read_settings(words_alloc, words) {
+        Ok(settings) => run_over(alloc, settings.window, input, output, faults),
+        Err(error) => show(alloc, &error, output, faults),
+    }
+}
+
+// Shows what the command line gives in place of a run.
+fn show<O: CountedWrite, F: CountedWrite, A: Allocator>(
+    alloc: A,
+    error: &Error,
+    output: &mut O,
+    faults: &mut F,
+) -> u8
+    requires { O.failed output.old < 2 ^ 64 - 1 }
+    ensures status { result ≤ 2 }
+    ensures refused { result ≡ 2 → O.taken output.new ≡ O.taken output.old }
+{
+    if error.kind() == ErrorKind::OutOfMemory {
+        tell_memory(faults);
+        return FAILED;
+    }
+    let Ok(text) = format!(in alloc; "{error}") else {
+        tell_memory(faults);
+        return FAILED;
+    };
+    if error.use_stderr() {
+        tell(faults, text.as_bytes());
+        return REFUSED;
+    }
+    match write_all_counted(output, text.as_bytes()) {
+        Ok(()) => DONE,
+        Err((written, _)) => {
+            tell_output(faults, written as u64);
+            FAILED
+        }
+    }
+}
+
+// Reads the capture and runs over it.
+fn run_over<I: CountedRead, O: CountedWrite, F: CountedWrite, A: Allocator + Copy>(
+    alloc: A,
+    window: u32,
+    input: &mut I,
+    output: &mut O,
+    faults: &mut F,
+) -> u8
+    requires input { I.failed input.old < 2 ^ 64 - 1 }
+    requires output { O.failed output.old < 2 ^ 64 - 1 }
+    ensures status { result ≤ 2 }
+    ensures reads { result ≡ 0 → I.failed input.new ≡ I.failed input.old }
+    ensures refused { result ≡ 2 → O.taken output.new ≡ O.taken output.old }
+{
+    match read_capture(alloc, input) {
+        Ok(capture) => run_capture(alloc, &capture, window, output, faults),
+        Err(CaptureFault::Refused { line, refusal }) => {
+            tell_refused(faults, line, refusal);
+            REFUSED
+        }
+        Err(CaptureFault::Memory) => {
+            tell_memory(faults);
+            FAILED
+        }
+        Err(CaptureFault::Input) => {
+            tell_input(faults);
+            FAILED
+        }
+    }
+}
+
+// Tells the skipped lines, and runs over feed A alone: the other feeds are not arbitrated yet.
+fn run_capture<O: CountedWrite, F: CountedWrite, A: Allocator + Copy>(
+    alloc: A,
+    capture: &Capture<A>,
+    window: u32,
+    output: &mut O,
+    faults: &mut F,
+) -> u8
+    requires output { O.failed output.old < 2 ^ 64 - 1 }
+    requires fit { AreFit capture.now.instruments }
+    ensures { result ≤ 1 }
+{
+    tell_skipped(faults, capture.skipped());
+    let none = Vec::new(alloc);
+    let instruments = capture.instruments();
+    match run_in_order(
+        alloc,
+        instruments,
+        capture.a(),
+        &none,
+        &none,
+        window,
+        output,
+    ) {
+        Ok(_) => DONE,
+        Err(RunFault::Memory { .. }) => {
+            tell_memory(faults);
+            FAILED
+        }
+        Err(RunFault::Output { written }) => {
+            tell_output(faults, written);
+            FAILED
+        }
+    }
+}

@@ -1,0 +1,100 @@
+//! What the command line asks for.
+
+ghost use Rattle.std.specs.Prelude.{◌≡◌, ◌≤◌, IfOk};
+
+use clap::{Arg, ArgAction, Command, Error, value_parser};
+use std::alloc::{AllocError, Global};
+
+/// What the command line asks for.
+#[derive(Clone, Copy, Debug, PartialEq, Eq)]
+pub struct Settings {
+    /// How many packet numbers can be ahead of the next one before packets count as lost, from 1 to 65536.
+    pub window: u32,
+    /// How many threads keep books, from 1 to 16.
+    pub workers: u8,
+    /// Whether one thread takes the records of all feeds in the order of their lines.
+    pub in_order: bool,
+}
+
+const ABOUT: &str =
+    "Reads a capture of one CME MDP 3.0 channel on standard input, and prints its books.";
+
+const MORE: &str = "\
+The capture is text, one record a line:
+  I ID NAME O            an outright
+  I ID NAME C LEG1 LEG2  a calendar spread, leg 1 minus leg 2
+  A HEX, B HEX           a datagram of incremental feed A or B
+  S HEX                  a datagram of the snapshot feed
+  X                      the snapshot feed closes
+Instruments come first. A datagram has at most 2,048 bytes. So far feed A alone
+is used, by one thread, whatever the options say.
+
+At each event end these lines are printed for each security that it names, where
+K.J is the packet's number and the message's place in it:
+  D K.J NAME B QUOTES O QUOTES  direct book, QUOTES being PRICExSIZE, best first
+  I K.J NAME B QUOTES O QUOTES  implied book
+  C K.J NAME B QUOTES O QUOTES  both, added up by price
+  F K.J NAME PLACE              no book: the first entry that had no place in it
+After these comes X FEED LINE NUMBER NAME for each refused datagram, and at the
+end Z NEXT live, NEXT being the number of the packet that would come next.
+Prices are in units of 10^-9.
+
+Example, which begins with a bid of 5 at a price of 100:
+  $ mdp_handler --in-order < examples/plain.capture
+  D 1.1 NEAR B 100x5 O
+  I 1.1 NEAR B O
+  C 1.1 NEAR B 100x5 O
+  ..
+
+Exit status, with the text on standard error:
+  0  done; a line for each skipped line of the capture, as 'line 3: 22 Hex'
+  1  out of memory (41 Memory), a failed write (42 Output after N bytes) or a
+     failed read (43 Input)
+  2  a fault of the command line, or a capture that is refused, as
+     'line 2: 31 DuplicateId'";
+
+fn command<'a>(alloc: Global) -> Result<Command<'a>, AllocError> {
+    let window = Arg::new(alloc, "window")
+        .long("window")
+        .value_name("N")
+        .help("Packet numbers that can be ahead of the next, 1 to 65536")
+        .value_parser(value_parser!(u32).range(1..=65536))
+        .default_value("1024");
+    let workers = Arg::new(alloc, "workers")
+        .long("workers")
+        .value_name("N")
+        .help("Threads that keep books, 1 to 16")
+        .value_parser(value_parser!(u8).range(1..=16))
+        .default_value("2");
+    let in_order = Arg::new(alloc, "in-order")
+        .long("in-order")
+        .help("Take all records in the order of their lines, on one thread")
+        .action(ArgAction::SetTrue);
+    Command::new(alloc, "mdp_handler")
+        .version("0.1.0")
+        .about(ABOUT)
+        .after_help(MORE)
+        .arg(window)?
+        .arg(workers)?
+        .arg(in_order)
+}
+
+/// Reads the command line, of which the first word is the program's name.
+///
+/// # Errors
+///
+/// What is shown in place of a run: a fault of the command line, the help, the version, or want of memory.
+pub fn read_settings(alloc: Global, words: &[&str]) -> Result<Settings, Error>
+    ensures window { IfOk result (λ settings. (1 ≤ settings.window) × (settings.window ≤ 65536)) }
+    ensures workers { IfOk result (λ settings. (1 ≤ settings.workers) × (settings.workers ≤ 16)) }
+{
+    let matches = command(alloc)?.try_get_matches_from(words)?;
+    // What `clap` lets through lies in these ranges already.
+    let window = matches.get_one::<u32>("window").unwrap_or(1024);
+    let workers = matches.get_one::<u8>("workers").unwrap_or(2);
+    Ok(Settings {
+        window: window.clamp(1, 65536),
+        workers: workers.clamp(1, 16),
+        in_order: matches.get_flag("in-order"),
+    })
+}

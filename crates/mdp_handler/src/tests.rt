@@ -1,0 +1,236 @@
+//! Reads and writes that fail, memory that runs out, and the help.
+
+ghost use Rattle.std.specs.Prelude.{◌≡◌, ◌<◌, ◌-◌, ◌^◌};
+
+use crate::program::program;
+use mdp_capture::{CountedRead, CountingReader};
+use mdp_print::CountedWrite;
+use refusing::Refusing;
+use std::alloc::Global;
+use std::io;
+use std::io::{ErrorKind, Read};
+use std::process::Abort;
+use std::test::Fail;
+
+const CAPTURE: &[u8] =
+    b"I 1 NEAR O\nA 01000000000000000000000038000b002e000100090000000000000000008000002000016400000000000000050000000100000000000000010000000100300000000000\n";
+
+const TEXT: &[u8] = b"D 1.1 NEAR B 100x5 O\nI 1.1 NEAR B O\nC 1.1 NEAR B 100x5 O\nZ 2 live\n";
+
+const WORDS: &[&str] = &["mdp_handler", "--in-order"];
+
+// Keeps what it takes, at most so many bytes a call, and fails at one call.
+#[derive(Drop)]
+struct Kept {
+    bytes: Vec<u8>,
+    most: usize,
+    calls: u64,
+    fail_at: u64,
+    failures: u64,
+}
+
+impl Kept {
+    // Takes all bytes of a call, and never fails.
+    fn new(alloc: Global) -> Kept
+        ensures { result.failures ≡ 0 }
+    {
+        Kept::slow(alloc, usize::MAX, 0)
+    }
+
+    fn slow(alloc: Global, most: usize, fail_at: u64) -> Kept
+        ensures { result.failures ≡ 0 }
+    {
+        Kept {
+            bytes: Vec::new(alloc),
+            most,
+            calls: 0,
+            fail_at,
+            failures: 0,
+        }
+    }
+}
+
+impl CountedWrite for Kept {
+    ghost taken = { λ w. w.bytes.items };
+
+    ghost failed = { λ w. w.failures };
+
+    fn write(&mut self, bytes: &[u8]) -> io::Result<usize> {
+        self.calls = self.calls.saturating_add(1);
+        let count = bytes.len().min(self.most);
+        if self.calls == self.fail_at || self.bytes.extend_from_slice(&bytes[..count]).is_err() {
+            self.failures += 1;
+            return Err(io::Error::from(ErrorKind::Other));
+        }
+        if count == 0 {
+            self.failures += 1;
+        }
+        Ok(count)
+    }
+
+    fn failures(&self) -> u64 {
+        self.failures
+    }
+}
+
+// Gives at most so many bytes a call, and fails at one call.
+#[derive(Drop)]
+struct Halting<'a> {
+    rest: &'a [u8],
+    most: usize,
+    calls: u64,
+    fail_at: u64,
+}
+
+impl<'a> Read for Halting<'a> {
+    fn read(&mut self, buf: &mut [u8]) -> io::Result<usize> {
+        self.calls = self.calls.saturating_add(1);
+        if self.calls == self.fail_at {
+            return Err(io::Error::from(ErrorKind::Interrupted));
+        }
+        let count = self.rest.len().min(self.most).min(buf.len());
+        buf[..count].copy_from_slice(&self.rest[..count]);
+        self.rest = &self.rest[count..];
+        Ok(count)
+    }
+}
+
+#[test]
+fn a_failed_read_prints_nothing(rt: HostRuntime) -> Result<(), Fail> {
+    let alloc = rt.alloc();
+    let mut failed = 0u64;
+    for fail_at in 1..100u64 {
+        let mut input = CountingReader::new(Halting {
+            rest: CAPTURE,
+            most: 10,
+            calls: 0,
+            fail_at,
+        });
+        let mut output = Kept::new(alloc);
+        let mut faults = Kept::new(alloc);
+        let status = program(alloc, alloc, WORDS, &mut input, &mut output, &mut faults);
+        if status == 0 {
+            assert_eq!(rt; input.failures(), 0);
+            assert_eq!(rt; output.bytes.as_slice(), TEXT);
+            assert_eq!(rt; faults.bytes.as_slice(), b"".as_slice());
+            break;
+        }
+        failed = fail_at;
+        assert_eq!(rt; status, 1);
+        assert_eq!(rt; output.bytes.as_slice(), b"".as_slice());
+        assert_eq!(rt; faults.bytes.as_slice(), b"43 Input\n".as_slice());
+    }
+    // 149 bytes in pieces of 10, and a read that finds the end
+    assert_eq!(rt; failed, 16);
+    Ok(())
+}
+
+#[test]
+fn a_failed_write_tells_what_went_out(rt: HostRuntime) -> Result<(), Fail> {
+    let alloc = rt.alloc();
+    let mut input = CountingReader::new(CAPTURE);
+    let mut output = Kept::slow(alloc, 1, 30);
+    let mut faults = Kept::new(alloc);
+    let status = program(alloc, alloc, WORDS, &mut input, &mut output, &mut faults);
+    assert_eq!(rt; status, 1);
+    assert_eq!(rt; TEXT.len(), 66);
+    assert_eq!(rt; output.bytes.as_slice(), &TEXT[..29]);
+    assert_eq!(rt; output.calls, 30);
+    assert_eq!(rt;
+        faults.bytes.as_slice(),
+        b"42 Output after 29 bytes\n".as_slice()
+    );
+    Ok(())
+}
+
+#[test]
+fn each_refused_allocation_ends_the_run(rt: HostRuntime) -> Result<(), Fail> {
+    let mut refused = 0u64;
+    for number in 1..1000u64 {
+        let heap = Refusing::new(rt.alloc(), number);
+        let mut input = CountingReader::new(CAPTURE);
+        let mut output = Kept::new(rt.alloc());
+        let mut faults = Kept::new(rt.alloc());
+        let status = program(
+            rt.alloc(),
+            &heap,
+            WORDS,
+            &mut input,
+            &mut output,
+            &mut faults,
+        );
+        let printed = output.bytes.as_slice();
+        if !heap.has_refused() {
+            assert_eq!(rt; status, 0);
+            assert_eq!(rt; printed, TEXT);
+            break;
+        }
+        refused = number;
+        assert_eq!(rt; status, 1);
+        assert_eq!(rt; faults.bytes.as_slice(), b"41 Memory\n".as_slice());
+        assert!(rt; TEXT.starts_with(printed));
+    }
+    assert!(rt; refused > 5);
+    Ok(())
+}
+
+#[test]
+fn want_of_memory_at_the_capture_tells_no_skipped_line(rt: HostRuntime) -> Result<(), Fail> {
+    // the first allocation is the room for a piece of the capture, and a later one is another line's
+    let text = b"I 1 NEAR O\nQ\nA 00\nA 00\nA 00\nA 00\nA 00\n";
+    for number in 1..6u64 {
+        let heap = Refusing::new(rt.alloc(), number);
+        let mut input = CountingReader::new(text.as_slice());
+        let mut output = Kept::new(rt.alloc());
+        let mut faults = Kept::new(rt.alloc());
+        let status = program(
+            rt.alloc(),
+            &heap,
+            WORDS,
+            &mut input,
+            &mut output,
+            &mut faults,
+        );
+        assert_eq!(rt; status, 1);
+        assert_eq!(rt; output.bytes.as_slice(), b"".as_slice());
+        assert_eq!(rt; faults.bytes.as_slice(), b"41 Memory\n".as_slice());
+    }
+    Ok(())
+}
+
+// Asks for help with an output that fails at a call, and answers the status.
+fn ask_for_help(alloc: Global, output: &mut Kept, faults: &mut Kept) -> u8
+    requires { output.old.failures < 2 ^ 64 - 1 }
+{
+    let words = ["mdp_handler", "--help"];
+    let mut input = CountingReader::new(Halting {
+        rest: b"",
+        most: 0,
+        calls: 0,
+        fail_at: 1,
+    });
+    program(alloc, alloc, &words, &mut input, output, faults)
+}
+
+#[test]
+fn help_reads_no_capture(rt: HostRuntime) -> Result<(), Fail> {
+    let alloc = rt.alloc();
+    let mut output = Kept::new(alloc);
+    let mut faults = Kept::new(alloc);
+    assert_eq!(rt; ask_for_help(alloc, &mut output, &mut faults), 0);
+    let usage = b"Usage: mdp_handler";
+    assert!(rt;
+        output
+            .bytes
+            .windows(usage.len())
+            .any(|text| text == usage.as_slice())
+    );
+    assert_eq!(rt; faults.bytes.as_slice(), b"".as_slice());
+    let mut output = Kept::slow(alloc, 1, 8);
+    assert_eq!(rt; ask_for_help(alloc, &mut output, &mut faults), 1);
+    assert_eq!(rt;
+        faults.bytes.as_slice(),
+        b"42 Output after 7 bytes\n".as_slice()
+    );
+    Ok(())
+}

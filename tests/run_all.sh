@@ -1,0 +1,48 @@
+#!/usr/bin/env bash
+# Proves everything from nothing and runs all tests: the merge gate, then the example and the worked rows on the program
+# that the gate has built. The last line is 'N passed, M failed', over all of them. The exit status is 1 if any failed.
+set -u
+
+cd "$(dirname "$(realpath "$0")")/.." || exit 2
+program=crates/mdp_handler/out/mdp_handler
+scratch=$(mktemp -d)
+trap 'rm -rf "$scratch"' EXIT
+passed=0
+failed=0
+
+# Runs the words after the first, shows what they print, and adds up their closing line, which it shows under the name
+# that is the first word. An end with a fault and no such line, or with one that tells of no failure, counts as a failure.
+run_part() {
+    local name=$1 status line of_it=0 missed=0
+    shift
+    "$@" 2>&1 | tee "$scratch/text" | sed -u -E "s/^[0-9]+ passed, [0-9]+ failed\$/$name: &/"
+    status=${PIPESTATUS[0]}
+    line=$(grep -E '^[0-9]+ passed, [0-9]+ failed$' "$scratch/text" | tail -n 1)
+    if [ -n "$line" ]; then
+        read -r of_it _ missed _ <<<"$line"
+    else
+        missed=1
+        echo "$name: no closing line"
+    fi
+    if [ "$status" -ne 0 ] && [ "$missed" -eq 0 ]; then
+        missed=1
+        echo "$name: exit status $status"
+    fi
+    passed=$((passed + of_it))
+    failed=$((failed + missed))
+}
+
+# The example prints the text that lies beside it.
+run_example() {
+    if "$program" --in-order <examples/plain.capture | diff -u examples/plain.txt -; then
+        echo "1 passed, 0 failed"
+    else
+        echo "0 passed, 1 failed"
+    fi
+}
+
+run_part "rt ci" rt ci
+run_part "the example" run_example
+run_part "the worked rows" tests/run_rows.sh "$program"
+echo "$passed passed, $failed failed"
+[ "$failed" -eq 0 ]
