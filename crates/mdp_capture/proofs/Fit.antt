@@ -27,8 +27,8 @@ not_found [] id none k d below = absurd (omega arith)
 not_found (x ∷ xs) id none zero d below = λ same. let found = ap (λ other. int_eq id other) same ∙ same_id id in let P : Bool → Type 0 = λ b. cond b (Some x.kind) (kind_with_id xs id) ≡ None in let is = subst P found none in absurd (cc)
 not_found (x ∷ xs) id none (suc k) d below =
     elim (cases_Bool (int_eq id x.id)) [
-      inl found ↦ let P : Bool → Type 0 = λ b. cond b (Some x.kind) (kind_with_id xs id) ≡ None in let is = subst P found none in absurd (cc)
-    | inr other ↦ let P : Bool → Type 0 = λ b. cond b (Some x.kind) (kind_with_id xs id) ≡ None in not_found xs id (subst P other none) k d (omega arith)
+      | inl found ↦ let P : Bool → Type 0 = λ b. cond b (Some x.kind) (kind_with_id xs id) ≡ None in let is = subst P found none in absurd (cc)
+      | inr other ↦ let P : Bool → Type 0 = λ b. cond b (Some x.kind) (kind_with_id xs id) ≡ None in not_found xs id (subst P other none) k d (omega arith)
     ]
 
 -- an outright that is found stands there
@@ -37,8 +37,8 @@ found_outright [] id is = absurd (cc)
 found_outright (x ∷ xs) id is =
     let P : Bool → Type 0 = λ b. cond b (Some x.kind) (kind_with_id xs id) ≡ Some Outright in
     elim (cases_Bool (int_eq id x.id)) [
-      inl found ↦ let kind : Some x.kind ≡ Some Outright = subst P found is in let here : x.kind ≡ Outright = cc in (0, x, omega arith, refl, (sym ((Decides-int_eq id x.id).0 found), here))
-    | inr other ↦ let later = found_outright xs id (subst P other is) in (suc later.0, later.1, omega (arith, later.2), later.3, later.4)
+      | inl found ↦ let kind : Some x.kind ≡ Some Outright = subst P found is in let here : x.kind ≡ Outright = cc in (0, x, omega arith, refl, (sym ((Decides-int_eq id x.id).0 found), here))
+      | inr other ↦ let later = found_outright xs id (subst P other is) in (suc later.0, later.1, omega (arith, later.2), later.3, later.4)
     ]
 
 some_outright : (o : Option InstrumentKind) → is_outright o ≡ true → o ≡ Some Outright

@@ -17,9 +17,9 @@ use Rattle.mdp_capture.proofs.Splits.{IsFreeOf, parts_at, split_there, free_befo
 pub free_append : (c : ℕ) (front rest : List ℕ) → IsFreeOf c front → IsFreeOf c rest → IsFreeOf c (front ++ rest)
 free_append c front rest free free' i d below =
     elim (cases_lt i (length front)) [
-      inl low ↦ rw (get_or_append_left front rest d i low) (free i d low)
-    | inr high ↦ let within : i - length front < length rest = omega (arith, length-append front rest) in
-      rw (get_or-append_right front rest (length front) i d refl high) (free' (i - length front) d within)
+      | inl low ↦ rw (get_or_append_left front rest d i low) (free i d low)
+      | inr high ↦ let within : i - length front < length rest = omega (arith, length-append front rest) in
+          rw (get_or-append_right front rest (length front) i d refl high) (free' (i - length front) d within)
     ]
 
 -- a part before more parts

@@ -160,7 +160,8 @@ impl<A: Allocator + Copy> Draft<A> {
         requires { IsIndexed self.now }
         ensures { result ≡ is_listed self.now.instruments.items instrument.now }
     {
-        self.kind_with_id(instrument.id).is_some() || has_name(self.instruments.as_slice(), instrument.name.as_str())
+        self.kind_with_id(instrument.id).is_some()
+            || has_name(self.instruments.as_slice(), instrument.name.as_str())
     }
 
     fn has_legs(&self, kind: InstrumentKind) -> bool

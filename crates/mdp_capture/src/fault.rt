@@ -4,7 +4,6 @@ ghost use Rattle.std.specs.Prelude.{◌≡◌};
 ghost use Rattle.mdp_capture.specs.declared.fault.CaptureFault.TheVariants as faults;
 
 use std::alloc::{AllocError, AllocFailed};
-use std::fmt;
 use thiserror::Error;
 
 /// Why a run is refused, by the number and the name that are printed.
@@ -52,19 +51,11 @@ impl CaptureRefusal {
     }
 }
 
-impl fmt::Display for CaptureRefusal {
-    fn fmt<W: fmt::Write>(&self, f: &mut fmt::Formatter<W>) -> fmt::Result {
-        let number = self.number();
-        let name = self.name();
-        write!(f, "{number} {name}")
-    }
-}
-
 /// Why a capture could not be read.
 #[derive(Clone, Copy, Debug, PartialEq, Eq, Error)]
 pub enum CaptureFault {
     /// The run is refused at this line, or at line 0 where the whole capture lacks an instrument.
-    #[error("line {line}: {refusal}")]
+    #[error("line {line}: {} {}", .refusal.number(), .refusal.name())]
     Refused { line: u32, refusal: CaptureRefusal },
     /// Memory ran out.
     #[error("41 Memory")]

@@ -7,8 +7,8 @@ ghost use Rattle.mdp_capture.specs.Line.{fields, is_digit, is_number, id_of, is_
 ghost use Rattle.std.specs.List.{list_all};
 
 use arrayvec::ArrayString;
-use memchr::memchr;
 use mdp_templates::Name;
+use memchr::memchr;
 
 const LARGEST_ID: u64 = 2147483647;
 

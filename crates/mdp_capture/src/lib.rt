@@ -18,3 +18,6 @@ pub use reader::{CountedRead, CountingReader};
 pub use reading::read_capture;
 pub use record::Record;
 pub use skip::{Skip, SkippedLine};
+
+#[cfg(test)]
+mod tests;

@@ -102,11 +102,7 @@ fn calendar_of(legs: &[u8]) -> Option<InstrumentKind>
     Some(InstrumentKind::Calendar { leg1, leg2 })
 }
 
-fn packet_of<A: Allocator>(
-    alloc: A,
-    feed: Feed,
-    rest: Option<&[u8]>,
-) -> Result<Line<A>, AllocError>
+fn packet_of<A: Allocator>(alloc: A, feed: Feed, rest: Option<&[u8]>) -> Result<Line<A>, AllocError>
     ensures { IfOk result (λ line. content_of line ≡ packet_of feed (fields_left rest.entry)) }
 {
     let Some(rest) = rest else {

@@ -1,7 +1,8 @@
 //! Reading a capture piece by piece.
 
-ghost use Rattle.std.specs.Prelude.{◌≡◌, ◌≢◌, ◌++◌, ◌∷◌, [], ◌+◌, ◌-◌, ◌<◌, ◌^◌, ℕ, List, OnOk, IfOk, IfErr, IfSome};
+ghost use Rattle.std.specs.Prelude.{◌≡◌, ◌≢◌, ◌++◌, ◌∷◌, [], ◌+◌, ◌-◌, ◌<◌, ◌^◌, ℕ, List, OnOk, IfOk, IfErr, IfSome, vec_len};
 ghost use Rattle.std.specs.Str.Lines.{strip_carriage_return};
+ghost use Rattle.std.specs.Io.KnownBytes.{IsAtEnd};
 ghost use Rattle.mdp_capture.specs.Capture.{IsFaultOf, capture_of, needs_instrument};
 ghost use Rattle.mdp_capture.specs.Draft.{capture_so_far, AreFitSoFar};
 ghost use Rattle.mdp_templates.specs.Instrument.{AreFit};
@@ -13,7 +14,7 @@ use crate::fault::CaptureFault;
 use crate::line::line_of;
 use crate::reader::CountedRead;
 use memchr::memchr;
-use std::alloc::Allocator;
+use std::alloc::{AllocError, Allocator};
 
 /// Reads a capture to its end: the instruments, the records of the three feeds, and the lines that were skipped.
 /// The first refusal of the run ends the reading. Beside the capture itself it takes room for one line and a piece
@@ -29,12 +30,13 @@ pub fn read_capture<R: CountedRead, A: Allocator + Copy>(
     requires { R.failed reader.old < 2 ^ 64 - 1 }
     ensures capture { IfOk result (λ capture. IfSome (R.rest reader.old) (λ text. capture_of text ≡ Ok capture)) }
     ensures fit { IfOk result (λ capture. AreFit capture.instruments) }
+    ensures end { OnOk result (IsAtEnd (R.rest reader.new)) }
     ensures refused { IfErr result (λ fault. IfSome (R.rest reader.old) (λ text. IsFaultOf (capture_of text) fault)) }
     ensures input { result ≡ Err CaptureFault.Input → R.failed reader.new ≡ R.failed reader.old + 1 }
     ensures sound { result ≢ Err CaptureFault.Input → R.failed reader.new ≡ R.failed reader.old }
 {
     let mut reading = Reading::new(alloc);
-    let mut piece = vec![in alloc; 0u8; PIECE]?;
+    let mut piece = room_for_a_piece(alloc)?;
     loop {
         match reader.read(piece.as_mut_slice()) {
             Ok(0) => return reading.finish(alloc),
@@ -44,7 +46,15 @@ pub fn read_capture<R: CountedRead, A: Allocator + Copy>(
     }
 }
 
+/// How many bytes are read at once.
 const PIECE: usize = 65536;
+
+fn room_for_a_piece<A: Allocator>(alloc: A) -> Result<Vec<u8, A>, AllocError>
+    ensures { IfOk result (λ piece. vec_len piece ≡ PIECE) }
+{
+    let piece = vec![in alloc; 0u8; PIECE]?;
+    Ok(piece)
+}
 
 /// A capture of which some pieces were read.
 #[derive(Drop)]

@@ -1,6 +1,6 @@
 use Rattle.std.proofs.Common.{◌≡◌, ◌<◌, [], Ok, length, take, refl, sym, ap, ◌∙◌, arith}
 use Rattle.std.specs.Prelude.{IfSome}
-use Rattle.std.specs.Io.KnownBytes.{Consumes, IsAtEnd}
+use Rattle.std.specs.Io.KnownBytes.{IsAtEnd}
 use Rattle.std.proofs.lemmas.Result.{err_from_is_err_and, IfOk-weaker, IfErr-weaker}
 use Rattle.mdp_capture.specs.Capture.{capture_of, IsFaultOf}
 use Rattle.mdp_capture.specs.Reading.{capture_with}
@@ -8,7 +8,7 @@ use Rattle.mdp_capture.proofs.Following.{starts, goes_on, comes_to, fails_at_end
 use Rattle.mdp_capture.proofs.reading.read_capture.Goals as goal
 
 pub loop-reading-init : goal.loop-reading-init
-loop-reading-init g c = (starts c.new-reading.result (g.R.CountedRead.rest c.args.reader.now) c.new-reading.ensures.capture, c.new-reading.ensures.sound, refl, c.in_ok-piece.ensures.len)
+loop-reading-init g c = (starts c.new-reading.result (g.R.CountedRead.rest c.args.reader.now) c.new-reading.ensures.capture, c.new-reading.ensures.sound, refl, c.in_ok-piece.ensures)
 
 pub returns-in-Ok-eq0-clause-capture : goal.returns-in-Ok-eq0-clause-capture
 returns-in-Ok-eq0-clause-capture g c =
@@ -31,6 +31,12 @@ returns-in-Ok-eq0-clause-refused g c =
     let room : 0 < length c.read.new.buf = omega (arith, c.read.auto.buf, c.as_mut_slice.ensures.len, c.loop-reading.invariant.3) in
     let read = rw none at c.in-Ok-eq0.ensures.bytes.0 in
     IfErr-weaker c.finish.result (IsFaultOf (capture_with reading [])) (λ fault. IfSome whole (λ text. IsFaultOf (capture_of text) fault)) (λ fault is. fails_at_end whole old new reading fault c.loop-reading.invariant.0 read (c.in-Ok-eq0.ensures.bytes.1 none room) is) c.finish.ensures.refused
+
+pub returns-in-Ok-eq0-clause-end : goal.returns-in-Ok-eq0-clause-end
+returns-in-Ok-eq0-clause-end g c =
+    let room : 0 < length c.read.new.buf = omega (arith, c.read.auto.buf, c.as_mut_slice.ensures.len, c.loop-reading.invariant.3) in
+    let end = c.in-Ok-eq0.ensures.bytes.1 c.in-Ok-eq0.field-0-test room in
+    IfOk-weaker c.finish.result (λ capture. capture_with c.loop-reading.reading [] ≡ Ok capture) (λ capture. IsAtEnd (g.R.CountedRead.rest c.read.new.self)) (λ capture is. end) c.finish.ensures.capture
 
 pub loop-reading-preserved : goal.loop-reading-preserved
 loop-reading-preserved g c =
