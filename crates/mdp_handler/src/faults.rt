@@ -43,10 +43,12 @@ pub fn tell_input<F: CountedWrite>(faults: &mut F)
 /// Tells why a capture is refused, with the line where it is, unless that is line 0.
 pub fn tell_refused<F: CountedWrite>(faults: &mut F, line: u32, refusal: CaptureRefusal) {
     let mut text = ArrayString::<MOST>::new();
+    let number = refusal.number();
+    let name = refusal.name();
     let _ = if line == 0 {
-        writeln!(text, "{refusal}")
+        writeln!(text, "{number} {name}")
     } else {
-        writeln!(text, "line {line}: {refusal}")
+        writeln!(text, "line {line}: {number} {name}")
     };
     tell(faults, text.as_bytes());
 }
