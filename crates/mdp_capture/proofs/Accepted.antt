@@ -1,12 +1,11 @@
 -- An instrument whose line is accepted.
-use Rattle.std.proofs.Common.{◌≡◌, Bool, true, false, cond, List, length, leb, Option, None, Some, refl, sym, ◌∙◌}
-use Rattle.std.specs.Prelude.{◌||◌, is_some}
+use Rattle.std.proofs.Common.{◌≡◌, Bool, true, false, cond, length, leb, Option, None, Some, refl}
+use Rattle.std.specs.Prelude.{is_some}
 use Rattle.std.specs.List.{list_any}
 use Rattle.std.specs.Str.{bytes_eq}
 use Rattle.std.proofs.lemmas.Bool.{or_parts}
 use Rattle.mdp_templates.specs.declared.instrument.Instrument.{Instrument}
 use Rattle.mdp_capture.specs.Capture.{CaptureContent, refusal_of, has_record, is_listed, has_legs, kind_with_id}
-use Rattle.mdp_capture.specs.declared.fault.CaptureRefusal.{CaptureRefusal}
 use Rattle.mdp_capture.specs.declared.fault.CaptureRefusal.TheVariants.{DuplicateId, UnknownLeg, TooMany, InstrumentLate}
 
 -- none of the reasons to refuse a line holds

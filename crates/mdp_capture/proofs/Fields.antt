@@ -1,7 +1,7 @@
 -- Lines with a field too many, and names as text.
-use Rattle.std.proofs.Common.{◌≡◌, ℕ, ◌+◌, ◌<◌, ◌≤◌, Bool, true, false, cond, List, [], ◌∷◌, length, Option, None, Some, Result, Ok, Err, refl, sym, ap, ◌∙◌, arith, leb, eqb, get_or, lit<, inl, inr}
+use Rattle.std.proofs.Common.{◌≡◌, ℕ, ◌<◌, true, false, List, [], ◌∷◌, length, Option, None, Some, Result, Ok, Err, refl, arith, leb, eqb, get_or, lit<, inl, inr}
 use Rattle.std.specs.Prelude.{is_ok, is_some, MatchResult, codes, ◌&&◌}
-use Rattle.std.specs.List.{slice_split, list_all, AllPass}
+use Rattle.std.specs.List.{list_all, AllPass}
 use Rattle.std.specs.Str.{bytes_eq, IsUtf8, IsAscii}
 use Rattle.std.proofs.lemmas.Bool.{and_parts, leb-true, cond-false, cases_lt}
 use Rattle.std.proofs.lemmas.List.{get_or_past}
@@ -10,8 +10,7 @@ use Rattle.mdp_capture.specs.Parsed.{fields_left}
 use Rattle.std.proofs.lemmas.List.Splits.{length-slice_split}
 use Rattle.std.proofs.lemmas.List.Sums.{AllPass-from_list_all}
 use Rattle.std.proofs.lemmas.Str.{IsUtf8-from_ascii}
-use Rattle.mdp_templates.specs.declared.instrument.InstrumentKind.{InstrumentKind}
-use Rattle.mdp_capture.specs.Line.{LineContent, Skipped, fields, closing_of, packet_of, kind_of, calendar_of_fields, is_graphic, is_name}
+use Rattle.mdp_capture.specs.Line.{Skipped, fields, closing_of, packet_of, kind_of, calendar_of_fields, is_graphic, is_name}
 use Rattle.mdp_capture.specs.declared.line.Feed.{Feed}
 use Rattle.mdp_capture.specs.declared.skip.Skip.TheVariants.{LineForm}
 

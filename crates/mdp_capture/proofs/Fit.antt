@@ -1,22 +1,21 @@
 -- Instruments whose lines are accepted fit.
-use Rattle.std.proofs.Common.{◌≡◌, ◌≢◌, ℕ, ℤ, zero, suc, ◌+◌, ◌<◌, ◌≤◌, Bool, true, false, cond, List, [], ◌∷◌, ◌++◌, length, get_or, take, leb, eqb, Option, None, Some, Result, Ok, Err, refl, sym, ap, ◌∙◌, arith, inl, inr, map, subst}
-use Rattle.std.specs.Prelude.{Any, All, not, ◌&&◌}
+use Rattle.std.proofs.Common.{◌≡◌, ◌≢◌, ℕ, ℤ, zero, suc, ◌<◌, Bool, true, cond, List, [], ◌∷◌, ◌++◌, length, Option, None, Some, Result, Ok, refl, sym, ap, ◌∙◌, arith, inl, inr, subst}
+use Rattle.std.specs.Prelude.{All, not, ◌&&◌}
 use Rattle.std.specs.Ordering.{int_eq}
 use Rattle.std.proofs.lemmas.Bool.{cases_Bool, and_parts, not-true, leb-false, both_ways}
-use Rattle.std.proofs.lemmas.Bool.Decides.{Decides-int_eq, nat_tests}
+use Rattle.std.proofs.lemmas.Bool.Decides.{Decides-int_eq}
 use Rattle.std.proofs.lemmas.List.{length_push}
 use Rattle.mdp_templates.specs.declared.instrument.Instrument.{Instrument}
 use Rattle.mdp_templates.specs.declared.instrument.InstrumentKind.{InstrumentKind}
 use Rattle.mdp_templates.specs.declared.instrument.InstrumentKind.TheVariants.{Outright, Calendar}
-use Rattle.mdp_templates.specs.Instrument.{HasOutright, AreLegs, HasLegs, FitsAfter, AreFit}
-use Rattle.mdp_templates.proofs.Fits.{FitSoFar, fit, fit_push}
+use Rattle.mdp_templates.specs.Instrument.{HasOutright, HasLegs, FitsAfter, AreFit}
+use Rattle.mdp_templates.proofs.Fits.{fit, fit_push}
 use Rattle.mdp_capture.specs.Line.{LineContent, Blank, Listing, Packet, Closing, Skipped}
-use Rattle.mdp_capture.specs.Capture.{CaptureContent, RefusedLine, kind_with_id, is_outright, are_legs, has_legs, has_record, is_listed, refusal_of, unless_refused, add_instrument, add_line, add_record, needs_instrument}
+use Rattle.mdp_capture.specs.Capture.{CaptureContent, RefusedLine, kind_with_id, is_outright, has_legs, refusal_of, unless_refused, add_line}
 use Rattle.mdp_capture.specs.Draft.{AreFitSoFar}
 use Rattle.mdp_capture.specs.declared.fault.CaptureRefusal.{CaptureRefusal}
-use Rattle.mdp_capture.specs.declared.fault.CaptureRefusal.TheVariants.{NoInstrument}
 use Rattle.mdp_capture.specs.declared.line.Feed.TheVariants as feeds
-use Rattle.mdp_capture.proofs.Accepted.{IsAccepted, accepted, new_id}
+use Rattle.mdp_capture.proofs.Accepted.{accepted, new_id}
 
 same_id : (id : ℤ) → int_eq id id ≡ true
 same_id id = (Decides-int_eq id id).1 refl

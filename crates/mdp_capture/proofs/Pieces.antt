@@ -1,5 +1,5 @@
 -- A text that is read piece by piece, and line by line.
-use Rattle.std.proofs.Common.{◌≡◌, ℕ, ◌+◌, ◌-◌, ◌<◌, ◌≤◌, Bool, true, false, cond, eqb, List, [], ◌∷◌, ◌++◌, Option, None, Some, Result, Ok, Err, length, take, drop, get_or, refl, sym, ap, ◌∙◌, subst, arith, append_assoc, append-nil, length-append}
+use Rattle.std.proofs.Common.{◌≡◌, ℕ, ◌+◌, ◌-◌, ◌<◌, false, eqb, List, [], ◌∷◌, ◌++◌, Some, Result, Ok, length, take, drop, refl, sym, ap, ◌∙◌, subst, arith, append_assoc, append-nil, length-append}
 use Rattle.std.specs.Str.Lines.{lines, lines_of_parts, strip_carriage_return}
 use Rattle.std.specs.List.{slice_split}
 use Rattle.std.proofs.lemmas.Bool.{cond-false, ne_eqb, cases_lt}
@@ -12,7 +12,7 @@ use Rattle.mdp_capture.specs.Capture.{CaptureContent, RefusedLine, add_line, add
 use Rattle.mdp_capture.specs.Reading.{capture_from}
 use Rattle.mdp_capture.specs.declared.fault.CaptureFault.{CaptureFault}
 use Rattle.mdp_capture.specs.declared.fault.CaptureFault.TheVariants as faults
-use Rattle.mdp_capture.proofs.Splits.{IsFreeOf, parts_at, split_there, free_before, free_of}
+use Rattle.mdp_capture.proofs.Splits.{IsFreeOf, parts_at, split_there}
 
 pub free_append : (c : ℕ) (front rest : List ℕ) → IsFreeOf c front → IsFreeOf c rest → IsFreeOf c (front ++ rest)
 free_append c front rest free free' i d below =

@@ -9,7 +9,7 @@ use Rattle.mdp_templates.specs.declared.instrument.Instrument.{Instrument}
 use Rattle.mdp_templates.specs.declared.instrument.InstrumentKind.{InstrumentKind}
 use Rattle.mdp_templates.specs.declared.instrument.InstrumentKind.TheVariants.{Outright, Calendar}
 use Rattle.mdp_capture.specs.Line.{LineContent, Blank, Listing, Packet, Closing, Skipped, line_of}
-use Rattle.mdp_capture.specs.Record.{RecordContent, Received, Datagram, Close}
+use Rattle.mdp_capture.specs.Record.{RecordContent, Datagram, Close}
 use Rattle.mdp_capture.specs.declared.line.Feed.{Feed}
 use Rattle.mdp_capture.specs.declared.line.Feed.TheVariants as feeds
 use Rattle.mdp_capture.specs.declared.skip.SkippedLine.{SkippedLine}

@@ -1,5 +1,5 @@
 -- What a reading of a capture has still to say, whatever pieces its text comes in.
-use Rattle.std.specs.Prelude.{◌≡◌, ℕ, ◌≤◌, List, ◌++◌, length, eqb, Bool, false, All, Option, None, Some, Result}
+use Rattle.std.specs.Prelude.{◌≡◌, ℕ, List, ◌++◌, eqb, false, All, Option, None, Some, Result}
 use Rattle.std.specs.Str.Lines.{lines}
 use Rattle.mdp_capture.specs.Capture.{CaptureContent, RefusedLine, capture_of, needs_instrument, add_lines}
 use Rattle.mdp_capture.specs.Draft.{capture_so_far, IsIndexed, AreFitSoFar}

@@ -1,9 +1,8 @@
 -- Instruments that fit, one after another.
-use Rattle.std.proofs.Common.{◌≡◌, ◌≢◌, ℕ, ◌+◌, ◌<◌, ◌≤◌, List, [], ◌∷◌, ◌++◌, length, get_or, take, slice_get, Some, refl, sym, ap, ◌∙◌, subst, arith, below_more}
+use Rattle.std.proofs.Common.{◌≡◌, ℕ, ◌<◌, ◌≤◌, List, [], ◌∷◌, ◌++◌, length, get_or, take, refl, ◌∙◌, arith, below_more}
 use Rattle.std.proofs.lemmas.List.{get_or-take, length-take-le, take-append-le, get_or_append_left, get_or_push, length_push, take_at, get_or_default}
 use Rattle.std.proofs.lemmas.Option.{get_or_from_slice_get, slice_get-get_or, slice_get_within}
-use Rattle.std.specs.Prelude.{All, AllPairs}
-use Rattle.mdp_templates.specs.Instrument.{HasLegs, FitsAfter, AreFit}
+use Rattle.mdp_templates.specs.Instrument.{FitsAfter, AreFit}
 use Rattle.mdp_templates.specs.declared.instrument.Instrument.{Instrument}
 
 -- each of the first n instruments fits after those before it

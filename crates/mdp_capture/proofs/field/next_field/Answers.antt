@@ -1,4 +1,4 @@
-use Rattle.std.proofs.Common.{◌≡◌, ◌+◌, ◌-◌, ◌<◌, ◌≤◌, ◌∷◌, length, take, drop, ap, ◌∙◌, sym, arith}
+use Rattle.std.proofs.Common.{◌+◌, ◌∷◌, take, ap, ◌∙◌, sym}
 use Rattle.std.proofs.lemmas.List.{take_rest}
 use Rattle.mdp_capture.specs.Line.{fields}
 use Rattle.mdp_capture.proofs.Splits.{parts_found, parts_none}

@@ -1,6 +1,4 @@
-use Rattle.std.proofs.Common.{sym, ap, ◌∙◌}
-use Rattle.mdp_capture.specs.Line.{closing_of}
-use Rattle.mdp_capture.specs.Parsed.{fields_left}
+use Rattle.std.proofs.Common.{sym}
 use Rattle.mdp_capture.proofs.Fields.{fields_some, closing_of_more}
 use Rattle.mdp_capture.proofs.line.closing_of.Goals as goal
 
