@@ -75,9 +75,13 @@ run_row() {
 
 passed=0
 failed=0
+off=0
 for row in "$rows"/*/; do
     row=${row%/}
-    is_on "$row" || continue
+    if ! is_on "$row"; then
+        off=$((off + 1))
+        continue
+    fi
     difference=$(run_row "$row")
     if [ -z "$difference" ]; then
         passed=$((passed + 1))
@@ -87,5 +91,12 @@ for row in "$rows"/*/; do
         printf '%s\n' "$difference"
     fi
 done
+if [ "$off" -ne 0 ]; then
+    echo "not run: $off rows of other stages"
+fi
+if [ "$passed" -eq 0 ] && [ "$failed" -eq 0 ]; then
+    echo "FAILED: no row was run"
+    failed=1
+fi
 echo "$passed passed, $failed failed"
 [ "$failed" -eq 0 ]
