@@ -1,5 +1,5 @@
 # make run    proves and builds the program, and runs it on an example
-# make test   the merge gate and the worked rows; the last line is 'N passed, M failed'
+# make test   the merge gate and the rows; the last line is 'N passed, M failed'
 
 SHELL := /bin/bash
 program := crates/mdp_handler/out/mdp_handler

@@ -1,5 +1,5 @@
 #!/usr/bin/env bash
-# Proves everything from nothing and runs all tests: the merge gate, then the example and the worked rows on the program
+# Proves everything from nothing and runs all tests: the merge gate, then the example and the rows on the program
 # that the gate has built. The last line is 'N passed, M failed', over all of them. The exit status is 1 if any failed.
 set -u
 
@@ -43,6 +43,6 @@ run_example() {
 
 run_part "rt ci" rt ci
 run_part "the example" run_example
-run_part "the worked rows" tests/run_rows.sh "$program"
+run_part "the rows" tests/run_rows.sh "$program"
 echo "$passed passed, $failed failed"
 [ "$failed" -eq 0 ]

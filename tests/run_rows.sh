@@ -1,5 +1,5 @@
 #!/usr/bin/env bash
-# Runs the worked rows of tests/rows against a built program: run_rows.sh PROGRAM
+# Runs the rows of tests/rows against a built program: run_rows.sh PROGRAM
 #
 # Prints each row that fails with how it differs, then one line 'N passed, M failed'. The exit status is 1 if any failed.
 set -u
