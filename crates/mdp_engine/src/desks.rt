@@ -8,7 +8,7 @@ ghost use Rattle.mdp_engine.specs.Desks.{desk_at_start, desk_heard, desk_settled
 ghost use Rattle.mdp_engine.specs.Lines.{lines_as};
 
 use crate::desk::Desk;
-use crate::slots::Slots;
+use mdp_arbiter::Slots;
 use mdp_books::Place;
 use mdp_templates::{Entry, Instrument, Memory, Message, Packet};
 use std::alloc::Allocator;
@@ -56,10 +56,9 @@ impl<A: Allocator + Copy> Desks<A> {
         requires { AreFit instruments.now }
         ensures { IfOk result (λ d. d ≡ map desk_at_start instruments.now) }
     {
-        let mut slots = Slots::new(alloc);
+        let slots = Slots::of(alloc, instruments)?;
         let mut desks = Vec::with_capacity(alloc, instruments.len())?;
         for instrument in instruments {
-            slots.add(instrument.id)?;
             desks.push(Desk::new(instrument.copy()))?;
         }
         Ok(Desks { slots, desks })

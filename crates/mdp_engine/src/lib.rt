@@ -5,7 +5,6 @@ mod desk;
 mod desks;
 mod laws;
 mod lines;
-mod slots;
 
 pub use desks::Desks;
 pub use laws::shows_what_is_owed;

@@ -107,4 +107,29 @@ impl Snapshot {
     {
         self.implied_offers.as_slice()
     }
+
+    /// An equal snapshot, which takes no memory.
+    pub fn copy(&self) -> Snapshot
+        ensures { result ≡ self.now }
+    {
+        Snapshot {
+            security: self.security,
+            last: self.last,
+            bids: copy_of(&self.bids),
+            offers: copy_of(&self.offers),
+            implied_bids: copy_of(&self.implied_bids),
+            implied_offers: copy_of(&self.implied_offers),
+        }
+    }
+}
+
+/// An equal list of levels.
+fn copy_of<const DEPTH: usize>(levels: &ArrayVec<Level, DEPTH>) -> ArrayVec<Level, DEPTH>
+    ensures { result.items ≡ levels.now.items }
+{
+    let mut copy = ArrayVec::new_in(());
+    match copy.try_extend_from_slice(levels.as_slice()) {
+        Ok(()) => copy,
+        Err(_) => unreachable!(),
+    }
 }

@@ -1,0 +1,7 @@
+pub mod Appended
+pub mod Runs
+pub mod Places
+pub mod Standings
+pub mod Renewals
+pub mod Jumps
+pub mod NoLoss

@@ -1,0 +1,4 @@
+pub mod Slots
+pub mod Accepted
+pub mod Machine
+pub mod Standing

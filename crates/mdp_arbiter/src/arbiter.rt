@@ -1,0 +1,215 @@
+//! The arbiter of a channel's feeds.
+
+ghost use Rattle.std.specs.Prelude.{◌≡◌, ◌≤◌, ◌<◌, ◌↔◌, ◌+◌, ◌-◌, ℕ, List, [], ◌∷◌, ◌++◌, length, true, IsTrue, IfOk, Some, None, slice_get, option_copied};
+ghost use Rattle.std.specs.FinMap as map;
+ghost use Rattle.mdp_templates.specs.Instrument.{AreFit};
+ghost use Rattle.mdp_arbiter.specs.Slots.{ids_of};
+ghost use Rattle.mdp_arbiter.specs.Accepted.{Event};
+ghost use Rattle.mdp_arbiter.specs.Accepted.Event.{came, recovered, closed};
+ghost use Rattle.mdp_arbiter.specs.Machine.{start, is_lost};
+ghost use Rattle.mdp_arbiter.specs.Standing.{StandsAt, IsSameChannel, Receives, is_taken_in, Renews, Answers, Moves, StepsAs, seen_move, state};
+
+use crate::newest::{are_all_fresh, copy_all, least_number, none_for, renews};
+use crate::slots::Slots;
+use crate::step::Step;
+use mdp_templates::{Instrument, Memory, Packet, Snapshot};
+use mdp_window::{Put, Window};
+use std::alloc::Allocator;
+use std::marker::Model;
+
+/// Puts the packets of two feeds into one order, and recovers what neither feed showed by snapshots.
+///
+/// It takes in what came on any feed, and hands on the one step that is possible. `next` is the number of the packet
+/// that passes next, from 1 to 4294967296.
+#[derive(Drop)]
+pub struct Arbiter<A: Allocator, W: Window<Packet<A>> + Drop> {
+    window: W,
+    room: u64,
+    slots: Slots<A>,
+    newest: Vec<Option<Snapshot>, A>,
+    bases: Vec<Option<Snapshot>, A>,
+    next: u64,
+    top: u64,
+    is_closed: bool,
+}
+
+impl<A: Allocator, W: Window<Packet<A>> + Drop> Model for Arbiter<A, W> {
+    ghost use Rattle.std.specs.Prelude.{◌≡◌, ◌≤◌, ◌<◌, ◌+◌, ◌-◌, ℕ, max, length, None};
+    ghost use Rattle.std.specs.FinMap as map;
+    ghost use Rattle.mdp_arbiter.specs.Standing.{View, view_code};
+
+    ghost Value = { View };
+
+    ghost coded = { view_code };
+
+    ghost view = { λ a. record {
+      room = a.room;
+      ids = a.slots;
+      next = a.next;
+      top = a.top;
+      is_closed = a.is_closed;
+      newest = a.newest.items;
+      bases = a.bases.items;
+      held = (W.view a.window).held;
+    } };
+
+    ghost invariant = { λ a. ((W.view a.window).first ≡ max a.next (a.top + 1 - a.room))
+        × ((W.view a.window).room ≡ a.room) × (1 ≤ a.room) × (a.room ≤ 65536)
+        × (1 ≤ a.next) × (a.next ≤ a.top + 1) × (a.top ≤ 4294967295)
+        × ((k : ℕ) → a.top < k → map.get (W.view a.window).held k ≡ None)
+        × (length a.newest.items ≡ length a.slots) × (length a.bases.items ≡ length a.slots) };
+}
+
+impl<A: Allocator + Copy, W: Window<Packet<A>> + Drop> Arbiter<A, W> {
+    /// An arbiter that has taken in nothing. The instruments are fit, and the window begins at 1 and holds nothing. All
+    /// the room for snapshots is made here.
+    pub fn new(alloc: A, instruments: &[Instrument], window: W) -> Result<Arbiter<A, W>, Memory>
+        requires fit { AreFit instruments.now }
+        requires first { (W.view window).first ≡ 1 }
+        requires empty { (W.view window).held ≡ map.empty }
+        ensures stands { IfOk result (StandsAt []) }
+        ensures start { IfOk result (λ arbiter. state arbiter ≡ start arbiter.ids) }
+        ensures room { IfOk result (λ arbiter. arbiter.room ≡ (W.view window).room) }
+        ensures ids { IfOk result (λ arbiter. arbiter.ids ≡ ids_of instruments.now) }
+    {
+        let slots = Slots::of(alloc, instruments)?;
+        let newest = none_for(alloc, instruments)?;
+        let bases = none_for(alloc, instruments)?;
+        let room = window.capacity();
+        Ok(Arbiter {
+            window,
+            room,
+            slots,
+            newest,
+            bases,
+            next: 1,
+            top: 0,
+            is_closed: false,
+        })
+    }
+
+    /// The number of the packet that passes next, from 1 to 4294967296.
+    pub fn next(&self) -> u64
+        ensures next { result ≡ self.now.next }
+        ensures least { 1 ≤ result }
+        ensures most { result ≤ 4294967296 }
+    {
+        self.next
+    }
+
+    /// Whether the receiver is lost: a packet came that is so far ahead that the next one is given up.
+    pub fn lost(&self) -> bool
+        ensures far { IsTrue result ↔ (self.now.next + self.now.room ≤ self.now.top) }
+        ensures stands { (es : List Event) → StandsAt es self.now
+            → result ≡ is_lost self.now.room es (state self.now) }
+    {
+        self.top >= self.next + self.room
+    }
+
+    /// The snapshot of the security at a listed place, from 0, that the latest jump took, if there was a jump.
+    pub fn base(&self, slot: usize) -> Option<&Snapshot>
+        requires { slot < length self.now.ids }
+        ensures { slice_get self.now.bases slot ≡ Some (option_copied result) }
+    {
+        self.bases[slot].as_ref()
+    }
+
+    /// Takes in that the channel was closed: from now on no step is possible, and all that is handed in comes back.
+    pub fn close(&mut self)
+        ensures keeps { state self.new ≡ state self.old }
+        ensures channel { IsSameChannel self.old self.new }
+        ensures stands { (es : List Event) → StandsAt es self.old
+            → StandsAt (es ++ closed ∷ []) self.new }
+    {
+        self.is_closed = true;
+    }
+
+    /// Takes in a packet, and makes no step. What comes back is old, a repeat, or came after a close, but for want of
+    /// memory, and leaves all as it was.
+    pub fn packet(&mut self, packet: Packet<A>) -> Put<Packet<A>>
+        ensures receives { Receives W.ALLOCATES packet self.old self.new result }
+        ensures keeps { state self.new ≡ state self.old }
+        ensures channel { IsSameChannel self.old self.new }
+        ensures stands { (es : List Event) → is_taken_in result ≡ true → StandsAt es self.old
+            → StandsAt (es ++ came packet ∷ []) self.new }
+    {
+        self.receive(packet)
+    }
+
+    /// Takes in a snapshot, and makes no step. What comes back is of no listed security, has no greater number than the
+    /// newest, or came after a close, and leaves all as it was.
+    pub fn snapshot(&mut self, snapshot: Snapshot) -> Option<Snapshot>
+        ensures renews { Renews snapshot self.old self.new result }
+        ensures keeps { state self.new ≡ state self.old }
+        ensures channel { IsSameChannel self.old self.new }
+        ensures stands { (es : List Event) → StandsAt es self.old
+            → StandsAt (es ++ recovered snapshot ∷ []) self.new }
+    {
+        self.renew(snapshot)
+    }
+
+    /// The one step that is possible, none exactly where none is.
+    pub fn step(&mut self) -> Option<Step<A>>
+        ensures channel { IsSameChannel self.old self.new }
+        ensures steps { (es : List Event) → StandsAt es self.old → StepsAs es self.old self.new result }
+    {
+        self.take_step()
+    }
+
+    /// Puts a packet into the window, unless the channel was closed.
+    fn receive(&mut self, packet: Packet<A>) -> Put<Packet<A>>
+        ensures { Receives W.ALLOCATES packet self.old self.new result }
+    {
+        if self.is_closed {
+            return Put::Back(packet);
+        }
+        let number = u64::from(packet.number());
+        let answer = self.window.put(packet);
+        if let Put::Kept = answer {
+            self.top = self.top.max(number);
+        }
+        answer
+    }
+
+    /// Puts a snapshot in the place of an older one of its security.
+    fn renew(&mut self, snapshot: Snapshot) -> Option<Snapshot>
+        ensures { Renews snapshot self.old self.new result }
+    {
+        if self.is_closed {
+            return Some(snapshot);
+        }
+        let Some(slot) = self.slots.slot_of(snapshot.security()) else {
+            return Some(snapshot);
+        };
+        if !renews(&self.newest[slot], &snapshot) {
+            return Some(snapshot);
+        }
+        self.newest[slot] = Some(snapshot);
+        None
+    }
+
+    /// Makes the move that is seen.
+    fn take_step(&mut self) -> Option<Step<A>>
+        ensures answers { Answers (seen_move self.old) result }
+        ensures moves { Moves (seen_move self.old) self.old self.new }
+    {
+        if self.is_closed {
+            return None;
+        }
+        if self.top < self.next + self.room {
+            let packet = self.window.take_first()?;
+            self.next += 1;
+            return Some(Step::Pass(packet));
+        }
+        if !are_all_fresh(&self.newest, self.top, self.room) {
+            return None;
+        }
+        let last = u64::from(least_number(&self.newest)?);
+        let old = self.next;
+        self.next = last + 1;
+        self.top = self.top.max(last);
+        self.window.drop_below(last + 1);
+        copy_all(&self.newest, &mut self.bases);
+        Some(Step::Jump { old, new: last + 1 })
+    }
+}

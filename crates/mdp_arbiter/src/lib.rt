@@ -1,0 +1,18 @@
+//! Which packet of a channel passes next, and when recovery jumps to snapshots.
+#![tactic(auto)]
+
+mod arbiter;
+mod laws;
+mod newest;
+mod slots;
+mod step;
+#[cfg(test)]
+mod tests;
+
+pub use arbiter::Arbiter;
+pub use laws::{
+    all_pass_without_loss, events_add, fronts_begin, jumps_recover, moves_are_settled,
+    passes_are_first,
+};
+pub use slots::Slots;
+pub use step::Step;

@@ -1,0 +1,10 @@
+//! Packets of a channel that came ahead of the next number.
+#![tactic(auto, using(crate::proofs::Lookups::lookups))]
+
+mod map_window;
+#[cfg(test)]
+mod tests;
+mod window;
+
+pub use map_window::MapWindow;
+pub use window::{Numbered, Put, Window};

@@ -1,0 +1,134 @@
+//! One table of calls, over every window of this crate.
+
+use crate::{MapWindow, Put, Window};
+use mdp_templates::Packet;
+use std::alloc::Global;
+use std::process::Abort;
+
+#[derive(Clone, Copy)]
+enum Call {
+    Put(u32),
+    TakeFirst,
+    DropBelow(u32),
+}
+
+#[derive(Clone, Copy, Debug, PartialEq, Eq)]
+enum Answer {
+    Kept,
+    Back(u32),
+    Memory(u32),
+    Taken(u32),
+    Nothing,
+}
+
+/// Each call on a window of two places, its answer, and then the first number and the numbers held.
+const TABLE: [(Call, Answer, u32, [Option<u32>; 2]); 8] = [
+    (Call::Put(2), Answer::Kept, 1, [Some(2), None]),
+    (Call::Put(3), Answer::Kept, 2, [Some(2), Some(3)]),
+    (Call::Put(3), Answer::Back(3), 2, [Some(2), Some(3)]),
+    (Call::TakeFirst, Answer::Taken(2), 3, [Some(3), None]),
+    (Call::DropBelow(5), Answer::Nothing, 5, [None, None]),
+    (Call::Put(4), Answer::Back(4), 5, [None, None]),
+    (
+        Call::Put(4294967295),
+        Answer::Kept,
+        4294967294,
+        [Some(4294967295), None],
+    ),
+    (
+        Call::TakeFirst,
+        Answer::Nothing,
+        4294967294,
+        [Some(4294967295), None],
+    ),
+];
+
+fn answer_to<W: Window<Packet<Global>>>(alloc: Global, window: &mut W, call: Call) -> Answer {
+    match call {
+        Call::Put(number) => match window.put(Packet::new(number, Vec::new(alloc))) {
+            Put::Kept => Answer::Kept,
+            Put::Back(packet) => Answer::Back(packet.number()),
+            Put::Memory(packet) => Answer::Memory(packet.number()),
+        },
+        Call::TakeFirst => match window.take_first() {
+            Some(packet) => Answer::Taken(packet.number()),
+            None => Answer::Nothing,
+        },
+        Call::DropBelow(number) => {
+            window.drop_below(u64::from(number));
+            Answer::Nothing
+        }
+    }
+}
+
+/// Makes the first calls of the table, each with its answer, and tells where the window then begins and what it holds.
+fn follow<W: Window<Packet<Global>>>(
+    rt: &impl Abort,
+    alloc: Global,
+    window: &mut W,
+    calls: usize,
+) -> (u32, [Option<u32>; 2]) {
+    let mut state = (1, [None, None]);
+    for (call, answer, first, held) in TABLE.iter().take(calls) {
+        assert_eq!(rt; answer_to(alloc, window, *call), *answer);
+        state = (*first, *held);
+    }
+    state
+}
+
+/// Takes out a packet that is held, and comes back as a repeat before that.
+fn take_held<W: Window<Packet<Global>>>(
+    rt: &impl Abort,
+    alloc: Global,
+    window: &mut W,
+    number: u32,
+) {
+    assert_eq!(rt;
+        answer_to(alloc, window, Call::Put(number)),
+        Answer::Back(number)
+    );
+    assert_eq!(rt;
+        answer_to(alloc, window, Call::DropBelow(number)),
+        Answer::Nothing
+    );
+    assert_eq!(rt;
+        answer_to(alloc, window, Call::TakeFirst),
+        Answer::Taken(number)
+    );
+}
+
+/// Sees that the window begins at this number and holds these.
+fn look<W: Window<Packet<Global>>>(
+    rt: &impl Abort,
+    alloc: Global,
+    window: &mut W,
+    first: u32,
+    held: [Option<u32>; 2],
+) {
+    let before = first.saturating_sub(1);
+    assert_eq!(rt;
+        answer_to(alloc, window, Call::Put(before)),
+        Answer::Back(before)
+    );
+    let [lower, upper] = held;
+    if lower != Some(first) {
+        assert_eq!(rt; answer_to(alloc, window, Call::TakeFirst), Answer::Nothing);
+    }
+    if let Some(number) = lower {
+        take_held(rt, alloc, window, number);
+    }
+    if let Some(number) = upper {
+        take_held(rt, alloc, window, number);
+    }
+    assert_eq!(rt; answer_to(alloc, window, Call::TakeFirst), Answer::Nothing);
+}
+
+#[test]
+fn a_map_window_follows_the_table(rt: HostRuntime) {
+    for calls in 0..=TABLE.len() {
+        let mut window = MapWindow::new(rt.alloc(), 2);
+        assert_eq!(rt; window.capacity(), 2);
+        let (first, held) = follow(&rt, rt.alloc(), &mut window, calls);
+        look(&rt, rt.alloc(), &mut window, first, held);
+    }
+}
