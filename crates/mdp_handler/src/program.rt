@@ -1,6 +1,7 @@
 //! The program, over any input and outputs.
 
-ghost use Rattle.std.specs.Prelude.{◌≡◌, ◌≤◌, ◌<◌, ◌-◌, ◌^◌};
+ghost use Rattle.std.specs.Prelude.{◌≡◌, ◌≤◌, ◌<◌, ◌-◌, ◌^◌, ◌⊎◌};
+ghost use Rattle.mdp_handler.specs.Printed.{HasPrinted, HasRun};
 ghost use Rattle.mdp_templates.specs.Instrument.{AreFit};
 
 use crate::faults::{tell, tell_input, tell_memory, tell_output, tell_refused, tell_skipped};
@@ -36,6 +37,7 @@ pub fn program<I: CountedRead, O: CountedWrite, F: CountedWrite, A: Allocator + 
     requires output { O.failed output.old < 2 ^ 64 - 1 }
     ensures status { result ≤ 2 }
     ensures reads { result ≡ 0 → I.failed input.new ≡ I.failed input.old }
+    ensures text { result ≡ 0 → (I.rest input.new ≡ I.rest input.old) ⊎ HasRun (I.rest input.old) (O.taken output.old) (O.taken output.new) }
     ensures refused { result ≡ 2 → O.taken output.new ≡ O.taken output.old }
 {
     match read_settings(words_alloc, words) {
@@ -88,6 +90,7 @@ fn run_over<I: CountedRead, O: CountedWrite, F: CountedWrite, A: Allocator + Cop
     requires output { O.failed output.old < 2 ^ 64 - 1 }
     ensures status { result ≤ 2 }
     ensures reads { result ≡ 0 → I.failed input.new ≡ I.failed input.old }
+    ensures text { result ≡ 0 → HasRun (I.rest input.old) (O.taken output.old) (O.taken output.new) }
     ensures refused { result ≡ 2 → O.taken output.new ≡ O.taken output.old }
 {
     match read_capture(alloc, input) {
@@ -117,7 +120,8 @@ fn run_capture<O: CountedWrite, F: CountedWrite, A: Allocator + Copy>(
 ) -> u8
     requires output { O.failed output.old < 2 ^ 64 - 1 }
     requires fit { AreFit capture.now.instruments }
-    ensures { result ≤ 1 }
+    ensures status { result ≤ 1 }
+    ensures text { result ≡ 0 → HasPrinted capture.now.instruments capture.now.a (O.taken output.old) (O.taken output.new) }
 {
     tell_skipped(faults, capture.skipped());
     let none = Vec::new(alloc);

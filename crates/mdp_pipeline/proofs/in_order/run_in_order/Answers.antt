@@ -1,11 +1,19 @@
-use Rattle.std.proofs.Common.{◌≡◌, ◌∙◌, ℕ, List, take, subst, sym, ap, arith, Ok, Err, Result}
+use Rattle.std.proofs.Common.{◌≡◌, ◌∙◌, ℕ, List, take, subst, sym, ap, arith, Ok, Err, Result, [], refl}
 use Rattle.std.specs.Prelude.{IfOk}
 use Rattle.std.proofs.lemmas.List.{take_all}
 use Rattle.mdp_capture.specs.Record.{RecordContent}
 use Rattle.mdp_pipeline.specs.Faults.{FailsBy}
 use Rattle.mdp_pipeline.specs.Running.{Writes}
-use Rattle.mdp_pipeline.proofs.Turns.{writes_more, run_written}
+use Rattle.mdp_pipeline.proofs.Turns.{writes_none, writes_more, run_written}
 use Rattle.mdp_pipeline.proofs.in_order.run_in_order.Goals as goal
+
+pub loop-record-init : goal.loop-record-init
+loop-record-init g c =
+    let run = c.in-Ok.run' in
+    record {
+      writes = writes_none c.args.instruments.now [] (g.W.CountedWrite.taken c.args.writer.now) run.desks run.text.items run.refusals.items run.next c.in-Ok.ensures.run;
+      failed = refl;
+    }
 
 pub loop-record-preserved : goal.loop-record-preserved
 loop-record-preserved g c = record {
