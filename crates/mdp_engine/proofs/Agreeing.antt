@@ -16,8 +16,9 @@ use Rattle.mdp_print.specs.Texts.{jump_line}
 use Rattle.mdp_engine.specs.Feed.{IsFeed, IsIn, IsJumpedTo}
 use Rattle.mdp_engine.specs.Lines.{Seen, lines_of, Step, Footing, footed, at_start, footings_through, footings, lines_from, owed, lines_after}
 use Rattle.mdp_engine.specs.Lines.Step.{pass, jump}
-use Rattle.mdp_engine.specs.Shown.{Start, Shown, Move, started, shown, shown_through, is_shown, shown_seen, shown_at, shown_from, showed, shown_after, step_of, steps_of, opening}
-use Rattle.mdp_engine.specs.Shown.Move.{passed, jumped}
+use Rattle.mdp_arbiter.specs.Machine.{Move}
+use Rattle.mdp_engine.specs.Shown.{Start, Shown, started, shown, shown_through, is_shown, shown_seen, shown_at, shown_from, showed, shown_after, step_of, steps_of, opening}
+use Rattle.mdp_arbiter.specs.Machine.Move.{passed, jumped}
 use Rattle.mdp_engine.specs.Agreed.{start_of, AreOf, ShowsWhatIsOwed}
 use Rattle.mdp_engine.proofs.Showing.{shown-push}
 use Rattle.mdp_engine.proofs.Fronts.{Heard, sent-split, behind-front, lines_shown}

@@ -1,5 +1,5 @@
 -- What the desks show, move by move.
-use Rattle.std.proofs.Common.{◌≡◌, ℕ, ℤ, Bool, true, false, cond, List, [], ◌∷◌, ◌++◌, map, length, refl, sym, ap, subst, ◌∙◌, append_assoc, arith}
+use Rattle.std.proofs.Common.{◌≡◌, ℕ, Bool, true, false, cond, List, [], ◌∷◌, ◌++◌, map, length, refl, sym, ap, subst, ◌∙◌, append_assoc, arith}
 use Rattle.std.specs.Prelude.{Option, Some, None, ◌||◌, ◌&&◌, not, nat_lt}
 use Rattle.std.specs.List.{AllZip}
 use Rattle.std.proofs.lemmas.List.{append-nil}
@@ -13,8 +13,9 @@ use Rattle.mdp_books.proofs.Feeds.{book_from-push, behind-push}
 use Rattle.mdp_print.specs.Texts.{jump_line}
 use Rattle.mdp_engine.specs.declared.desk.Desk.{Desk}
 use Rattle.mdp_engine.specs.Lines.{Seen, lines_of}
-use Rattle.mdp_engine.specs.Shown.{Start, Shown, Move, opening, shown, shown_through, started, book_since, is_due, is_shown, shown_seen, shown_at, shown_from, showed, shown_after, shown_lines}
-use Rattle.mdp_engine.specs.Shown.Move.{passed, jumped}
+use Rattle.mdp_arbiter.specs.Machine.{Move}
+use Rattle.mdp_engine.specs.Shown.{Start, Shown, opening, shown, shown_through, started, book_since, is_due, is_shown, shown_seen, shown_at, shown_from, showed, shown_after, shown_lines}
+use Rattle.mdp_arbiter.specs.Machine.Move.{passed, jumped}
 use Rattle.mdp_engine.specs.Desks.{desk_at_start, heard, desk_after, desk_seen, desks_after, desks_text, passed_desks, passed_text, jumped_desks}
 use Rattle.mdp_engine.specs.Standing.{DeskShows, Shows}
 use Rattle.mdp_engine.proofs.Marks.{is_due-push, is_shown-due}

@@ -1,6 +1,5 @@
 -- What the steps themselves show, with no complete feed: a packet that passes bears its messages, a jump its snapshots.
 use Rattle.std.specs.Prelude.{Option, Some, None, ℕ, List, [], ◌∷◌, ◌++◌, Bool, true, false, not, ◌&&◌, ◌||◌, if◌then◌else◌, fold, map, nat_lt}
-use Rattle.mdp_templates.specs.Packet.{PacketContent}
 use Rattle.mdp_templates.specs.Snapshot.{SnapshotContent}
 use Rattle.mdp_templates.specs.declared.instrument.Instrument.{Instrument}
 use Rattle.mdp_books.specs.declared.book.Book.{Book}
@@ -9,10 +8,8 @@ use Rattle.mdp_books.specs.Feed.{Sent, sent_in, book_from, since_end, touches, h
 use Rattle.mdp_print.specs.Texts.{jump_line}
 use Rattle.mdp_engine.specs.Lines.{Seen, Step, lines_of}
 use Rattle.mdp_engine.specs.Lines.Step.{pass, jump}
-
-pub data Move : Type 0 where
-  passed : PacketContent → Move
-  jumped : ℕ → ℕ → List SnapshotContent → Move
+use Rattle.mdp_arbiter.specs.Machine.{Move}
+use Rattle.mdp_arbiter.specs.Machine.Move.{passed, jumped}
 
 -- the step that a move is
 abbrev pub step_of : Move → Step

@@ -1,10 +1,11 @@
 -- What the desks stand for, after the moves so far.
-use Rattle.std.specs.Prelude.{◌≡◌, ℕ, List, ◌++◌, map}
+use Rattle.std.specs.Prelude.{◌≡◌, ℕ, List, map}
 use Rattle.std.specs.List.{AllZip}
 use Rattle.mdp_templates.specs.declared.instrument.Instrument.{Instrument}
 use Rattle.mdp_books.specs.Feed.{Sent, behind}
 use Rattle.mdp_engine.specs.declared.desk.Desk.{Desk}
-use Rattle.mdp_engine.specs.Shown.{Move, Start, shown, shown_lines, book_since, is_due}
+use Rattle.mdp_arbiter.specs.Machine.{Move}
+use Rattle.mdp_engine.specs.Shown.{Start, shown, shown_lines, book_since, is_due}
 
 -- a desk stands where the moves show it
 pub record DeskShows (since : List Sent) (i : Start) (desk : Desk) : Type 0 where

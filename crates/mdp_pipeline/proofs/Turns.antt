@@ -1,12 +1,11 @@
 -- Packets that pass in turn, record by record.
-use Rattle.std.proofs.Common.{◌≡◌, ◌≢◌, ◌⊎◌, ℕ, zero, suc, ◌+◌, ◌-◌, ◌<◌, ◌≤◌, Bool, true, false, cond, List, [], ◌∷◌, ◌++◌, map, take, length, get_or, Option, Some, None, refl, sym, ap, subst, ◌∙◌, append_assoc, arith, inl, inr}
-use Rattle.std.specs.Prelude.{◌==◌, slice_get, Result, Ok, Err, IfOk, OnOk}
+use Rattle.std.proofs.Common.{◌≡◌, ◌≢◌, ℕ, suc, ◌+◌, ◌<◌, Bool, true, false, cond, List, [], ◌∷◌, ◌++◌, map, take, length, get_or, Option, Some, None, refl, sym, ap, subst, ◌∙◌, append_assoc, arith}
+use Rattle.std.specs.Prelude.{◌==◌, Result, Ok, Err, IfOk, OnOk}
 use Rattle.mdp_pipeline.specs.declared.summary.Summary.{Summary}
 use Rattle.mdp_pipeline.specs.declared.summary.RunFault.{RunFault}
 use Rattle.std.specs.Option.{option_to_list}
-use Rattle.std.specs.List.{AllByRecursion, filter_map, flat_map}
+use Rattle.std.specs.List.{AllByRecursion}
 use Rattle.std.proofs.Math.Seq.{take-suc}
-use Rattle.std.proofs.lemmas.Bool.{cases_Bool, eqb-true}
 use Rattle.std.proofs.lemmas.Bool.Decides.{nat_tests}
 use Rattle.std.proofs.lemmas.List.{append-nil, map-append, length-append}
 use Rattle.std.proofs.lemmas.List.Elements.{filter_map-append}
@@ -18,17 +17,17 @@ use Rattle.mdp_templates.specs.Refused.{IsRefusedAs}
 use Rattle.mdp_templates.specs.Refused.Feed.{incremental}
 use Rattle.mdp_templates.specs.declared.instrument.Instrument.{Instrument}
 use Rattle.mdp_capture.specs.Record.{RecordContent, Received, Datagram, Close}
-use Rattle.mdp_print.specs.declared.feed.Feed.{Feed}
 use Rattle.mdp_print.specs.declared.feed.Feed.TheVariants as feeds
 use Rattle.mdp_print.specs.Texts.{refusal_line, last_line}
 use Rattle.mdp_engine.specs.declared.desk.Desk.{Desk}
 use Rattle.mdp_books.specs.Feed.{sent_in}
 use Rattle.mdp_engine.specs.Desks.{passed_desks, passed_text, desk_at_start}
-use Rattle.mdp_engine.specs.Feed.{IsFeed, IsIn}
+use Rattle.mdp_engine.specs.Feed.{IsIn}
 use Rattle.mdp_engine.specs.Lines.{Step, lines}
 use Rattle.mdp_engine.specs.Lines.Step.{pass}
-use Rattle.mdp_engine.specs.Shown.{Move, shown_lines, steps_of}
-use Rattle.mdp_engine.specs.Shown.Move.{passed}
+use Rattle.mdp_arbiter.specs.Machine.{Move}
+use Rattle.mdp_engine.specs.Shown.{steps_of}
+use Rattle.mdp_arbiter.specs.Machine.Move.{passed}
 use Rattle.mdp_engine.specs.Agreed.{AreOf}
 use Rattle.mdp_engine.specs.Standing.{Shows}
 use Rattle.mdp_engine.proofs.Showing.{shows_passed, shows_nothing}

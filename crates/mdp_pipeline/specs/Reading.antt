@@ -1,5 +1,5 @@
 -- What the records of an incremental feed say: a packet, or a refusal, for each datagram.
-use Rattle.std.specs.Prelude.{◌≡◌, ℕ, List, [], ◌∷◌, map, Option, Some, None}
+use Rattle.std.specs.Prelude.{◌≡◌, ℕ, List, [], map, Option, Some, None}
 use Rattle.std.specs.List.{AllByRecursion, filter_map, flat_map}
 use Rattle.mdp_sbe.specs.declared.refusal.Refusal.{Refusal}
 use Rattle.mdp_templates.specs.Packet.{PacketContent}

@@ -6,8 +6,8 @@ use Rattle.mdp_print.specs.declared.feed.Feed.TheVariants as feeds
 use Rattle.mdp_engine.specs.declared.desk.Desk.{Desk}
 use Rattle.mdp_books.specs.Feed.{sent_in}
 use Rattle.mdp_engine.specs.Desks.{passed_desks, passed_text}
-use Rattle.mdp_engine.specs.Shown.{Move}
-use Rattle.mdp_engine.specs.Shown.Move.{passed}
+use Rattle.mdp_arbiter.specs.Machine.{Move}
+use Rattle.mdp_arbiter.specs.Machine.Move.{passed}
 use Rattle.mdp_engine.specs.Standing.{Shows}
 use Rattle.mdp_templates.specs.Packet.{PacketContent}
 use Rattle.mdp_pipeline.specs.Reading.{Reading, AreReadings, Said, Says, accepted_packets, refusal_lines}

@@ -1,5 +1,5 @@
 -- Reading in two steps: where each step has one answer, so have both.
-use Rattle.std.proofs.Common.{◌≡◌, ◌⊎◌, sym, ap, subst, ◌∙◌, refl, inl, inr}
+use Rattle.std.proofs.Common.{◌≡◌, ◌⊎◌, ap, subst, ◌∙◌, refl, inl, inr}
 use Rattle.mdp_sbe.specs.Answer.{HasOneAnswer}
 use Rattle.mdp_sbe.specs.Answer.HasOneAnswer.{is_good, is_refused}
 use Rattle.mdp_sbe.specs.declared.refusal.Refusal.{Refusal}

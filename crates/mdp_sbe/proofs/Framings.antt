@@ -5,7 +5,7 @@ use Rattle.std.proofs.lemmas.List.{length-take, length-drop, length-append, take
 use Rattle.mdp_sbe.specs.Number.{number_at}
 use Rattle.mdp_sbe.specs.Answer.{HasOneAnswer}
 use Rattle.mdp_sbe.specs.Answer.HasOneAnswer.{is_good, is_refused}
-use Rattle.mdp_sbe.specs.Framing.{IsHeader, IsMessage, Parts, parts_of, BeginsMessage, IsUnframed, AreMessages, IsRefusedHere, AreRefused, IsFramed, IsRoot, IsRefusedRoot}
+use Rattle.mdp_sbe.specs.Framing.{IsHeader, IsMessage, Parts, parts_of, BeginsMessage, IsUnframed, AreMessages, IsRefusedHere, AreRefused, IsFramed}
 use Rattle.mdp_sbe.specs.Framing.IsRefusedHere.{unframed, in_message}
 use Rattle.mdp_sbe.specs.declared.header.Header.{Header}
 use Rattle.mdp_sbe.specs.declared.refusal.Refusal.{Refusal}

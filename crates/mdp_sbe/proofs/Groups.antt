@@ -1,5 +1,5 @@
 -- The law that a root block with its group has one answer.
-use Rattle.std.proofs.Common.{◌≡◌, ◌≢◌, ◌⊎◌, ℕ, zero, suc, ◌+◌, ◌*◌, ◌<◌, ◌≤◌, List, [], ◌∷◌, ◌++◌, take, drop, length, refl, sym, ap, subst, ◌∙◌, arith, inl, inr, append_assoc}
+use Rattle.std.proofs.Common.{◌≡◌, ◌⊎◌, ℕ, suc, ◌+◌, ◌*◌, ◌<◌, ◌≤◌, List, [], ◌∷◌, ◌++◌, take, drop, length, refl, sym, ap, subst, ◌∙◌, arith, inl, inr, append_assoc}
 use Rattle.std.specs.Prelude.{slice_index}
 use Rattle.std.specs.List.{concat, AllByRecursion}
 use Rattle.std.proofs.lemmas.Bool.{cases_lt}
@@ -13,7 +13,7 @@ use Rattle.mdp_sbe.specs.Group.{IsGroup, IsRefusedGroup, IsGrouped, IsRefusedGro
 use Rattle.mdp_sbe.specs.Group.IsRefusedGrouped.{at_root, at_group}
 use Rattle.mdp_sbe.specs.declared.refusal.Refusal.{Refusal}
 use Rattle.mdp_sbe.specs.declared.refusal.Refusal.TheVariants as refusals
-use Rattle.mdp_sbe.proofs.Chains.{Chains, chained, beside}
+use Rattle.mdp_sbe.proofs.Chains.{chained, beside}
 use Rattle.mdp_sbe.proofs.Framings.{same_front}
 use Rattle.mdp_sbe.proofs.Pieces.{is_group}
 

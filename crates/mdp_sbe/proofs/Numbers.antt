@@ -1,6 +1,6 @@
 -- Reads of numbers, in this crate's words.
-use Rattle.std.proofs.Common.{◌≡◌, ℕ, zero, suc, ◌+◌, ◌-◌, ◌*◌, ◌≤◌, ◌<◌, List, [], ◌∷◌, ◌++◌, take, drop, length, slice_index, sym, ap, ◌∙◌, arith, refl}
-use Rattle.std.specs.Int.{w32, w64, cast_signed, cast_unsigned}
+use Rattle.std.proofs.Common.{◌≡◌, ℕ, zero, suc, ◌+◌, ◌-◌, ◌≤◌, List, ◌++◌, take, drop, length, slice_index, sym, ap, ◌∙◌, arith, refl}
+use Rattle.std.specs.Int.{w32, w64, cast_signed}
 use Rattle.std.proofs.lemmas.List.{drop-append-le, length-drop, length-take, take-append-drop, take_rest, get_or_append_left}
 use Rattle.byteorder.specs.Endian.{little_from, little_number}
 use Rattle.mdp_sbe.specs.Number.{number_at, int32_at, int64_at}

@@ -1,15 +1,15 @@
 -- Entries that are read one after the other, and the law that a layout has one answer.
-use Rattle.std.proofs.Common.{◌≡◌, ◌⊎◌, ℕ, zero, suc, ◌<◌, ◌≤◌, List, [], ◌∷◌, ◌++◌, take, drop, length, Some, Result, Ok, Err, refl, sym, ap, subst, ◌∙◌, inl, inr}
+use Rattle.std.proofs.Common.{◌≡◌, ℕ, zero, suc, List, [], ◌∷◌, ◌++◌, take, Some, Result, Err, ap, ◌∙◌, inl, inr}
 use Rattle.std.specs.Prelude.{slice_get}
 use Rattle.std.specs.List.{AllZip}
 use Rattle.mdp_sbe.specs.declared.refusal.Refusal.{Refusal}
 use Rattle.mdp_sbe.specs.Framing.{Parts}
-use Rattle.mdp_sbe.specs.Group.{IsGrouped, IsRefusedGrouped}
+use Rattle.mdp_sbe.specs.Group.{IsGrouped}
 use Rattle.mdp_templates.specs.declared.fault.Fault.{Fault}
 use Rattle.mdp_templates.specs.declared.fault.Fault.TheVariants as faults
 use Rattle.mdp_templates.specs.Answer.{OnRefusal}
-use Rattle.mdp_templates.specs.Layout.{AreEntries, AreRefusedEntries, IsLaidOut, IsRefusedLayout}
-use Rattle.mdp_templates.specs.Layout.IsRefusedLayout.{in_blocks, in_entry}
+use Rattle.mdp_templates.specs.Layout.{AreEntries, AreRefusedEntries, IsRefusedLayout}
+use Rattle.mdp_templates.specs.Layout.IsRefusedLayout.{in_entry}
 
 -- one more of each list
 pub AllZip-more : {A B : Type 0} (R : A → B → Type 0) (xs : List A) (n : ℕ) (x : A) (ys : List B) (y : B) → AllZip R (take n xs) ys → slice_get xs n ≡ Some x → R x y → AllZip R (take (suc n) xs) (ys ++ y ∷ [])

@@ -1,5 +1,5 @@
 -- Messages that are read one after the other.
-use Rattle.std.proofs.Common.{◌≡◌, ℕ, ◌<◌, List, [], ◌∷◌, ◌++◌, drop, Option, Some, None, Result, Ok, Err, sym, ap, ◌∙◌, refl}
+use Rattle.std.proofs.Common.{◌≡◌, ℕ, ◌<◌, List, [], ◌∷◌, ◌++◌, drop, Option, Some, None, Result, Ok, Err, sym, ap, ◌∙◌}
 use Rattle.std.specs.Prelude.{IfErr}
 use Rattle.std.specs.List.{filter_map}
 use Rattle.std.proofs.lemmas.List.{append-nil}
@@ -7,7 +7,7 @@ use Rattle.std.proofs.lemmas.List.Elements.{filter_map-append}
 use Rattle.mdp_sbe.proofs.Framings.{AreMessages-push}
 use Rattle.mdp_sbe.specs.declared.refusal.Refusal.{Refusal}
 use Rattle.mdp_sbe.specs.declared.header.Header.{Header}
-use Rattle.mdp_sbe.specs.Framing.{IsHeader, Parts, BeginsMessage, IsUnframed, AreMessages, IsRefusedHere, AreRefused}
+use Rattle.mdp_sbe.specs.Framing.{IsHeader, Parts, BeginsMessage, IsUnframed, AreMessages, AreRefused}
 use Rattle.mdp_sbe.specs.Framing.IsRefusedHere.{unframed, in_message}
 use Rattle.mdp_templates.specs.declared.fault.Fault.{Fault}
 use Rattle.mdp_templates.specs.declared.fault.Fault.TheVariants as faults

@@ -1,5 +1,5 @@
 -- The law that on each feed every text has exactly one value or exactly one refusal.
-use Rattle.std.proofs.Common.{◌≡◌, ◌≢◌, ◌⊎◌, ℕ, ◌<◌, ◌≤◌, ◌^◌, List, [], ◌∷◌, drop, length, Option, Some, None, Bool, true, false, Result, Ok, Err, refl, sym, ap, subst, ◌∙◌, arith, inl, inr}
+use Rattle.std.proofs.Common.{◌≡◌, ◌≢◌, ◌⊎◌, ℕ, ◌<◌, ◌^◌, List, [], ◌∷◌, drop, length, Option, Some, None, Bool, true, false, Result, Ok, Err, refl, sym, ap, subst, ◌∙◌, arith, inl, inr}
 use Rattle.std.specs.Prelude.{slice_index, bit_and, IsTrue, ◌↔◌}
 use Rattle.std.specs.Int.{IsBitSet}
 use Rattle.std.specs.List.{filter_map}
@@ -12,7 +12,7 @@ use Rattle.mdp_sbe.specs.Group.{IsGrouped, IsRefusedGrouped}
 use Rattle.mdp_sbe.specs.declared.header.Header.{Header}
 use Rattle.mdp_sbe.specs.declared.refusal.Refusal.{Refusal}
 use Rattle.mdp_sbe.specs.declared.refusal.Refusal.TheVariants as refusals
-use Rattle.mdp_sbe.proofs.Chains.{Chains, chained, beside}
+use Rattle.mdp_sbe.proofs.Chains.{chained, beside}
 use Rattle.mdp_sbe.proofs.Framings.{same_or_not, one_header, one_answer_of_messages}
 use Rattle.mdp_sbe.proofs.Groups.{one_root, one_grouped}
 use Rattle.mdp_templates.specs.declared.entry.Entry.{Entry}
@@ -22,7 +22,7 @@ use Rattle.mdp_templates.specs.declared.entry.Kind.TheVariants as kinds
 use Rattle.mdp_templates.specs.declared.quote.Quote.{Quote}
 use Rattle.mdp_templates.specs.declared.template.Template.{Template}
 use Rattle.mdp_templates.specs.declared.template.Template.TheVariants as templates
-use Rattle.mdp_templates.specs.Entry.{entry_of, depth_of}
+use Rattle.mdp_templates.specs.Entry.{entry_of}
 use Rattle.mdp_templates.specs.Packet.{MessageContent, PacketContent}
 use Rattle.mdp_templates.specs.Snapshot.{SnapshotContent}
 use Rattle.mdp_templates.specs.Layout.{AreEntries, AreRefusedEntries, IsLaidOut, IsRefusedLayout}
@@ -32,7 +32,6 @@ use Rattle.mdp_templates.specs.Incremental.IsRefusedPacket.{too_short, number_ze
 use Rattle.mdp_templates.specs.Recovery.{quote_in, IsSide, HasBadSide, IsWhole, IsSnapshot, IsRefusedSnapshot, IsRecovery, IsRefusedRecovery, Give, AreSnapshots, AreRefusedSnapshots}
 use Rattle.mdp_templates.specs.Recovery.IsRefusedSnapshot.{in_layout, in_sides}
 use Rattle.mdp_templates.specs.Recovery.AreRefusedSnapshots.{too_short as short_datagram, in_messages as in_recovery}
-use Rattle.mdp_templates.specs.Side.{AreShallow}
 use Rattle.mdp_templates.proofs.Sides.{SideOrNone, side_or_none, one_side, are_shallow}
 
 -- ---- entries

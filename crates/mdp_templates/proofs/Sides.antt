@@ -1,16 +1,15 @@
 -- Snapshots' sides: what is found at a position, what is gathered, and that a side is one or none.
-use Rattle.std.proofs.Common.{◌≡◌, ◌≢◌, ◌⊎◌, ℕ, zero, suc, ◌+◌, ◌<◌, ◌≤◌, List, [], ◌∷◌, ◌++◌, take, drop, length, get_or, Option, Some, None, Result, Ok, Err, Bool, true, false, refl, sym, ap, subst, ◌∙◌, arith, inl, inr}
-use Rattle.std.specs.Prelude.{slice_get, slice_index, ◌&&◌, ◌==◌, nat_lt, ⊤}
+use Rattle.std.proofs.Common.{◌≡◌, ◌≢◌, ◌⊎◌, ℕ, zero, suc, ◌+◌, ◌<◌, ◌≤◌, List, [], ◌∷◌, ◌++◌, take, length, get_or, Option, Some, None, Result, Ok, Err, true, false, refl, sym, ap, subst, ◌∙◌, arith, inl, inr}
+use Rattle.std.specs.Prelude.{slice_get, slice_index, ◌==◌, nat_lt, ⊤}
 use Rattle.std.specs.Option.{option_to_list}
-use Rattle.std.specs.List.{AllZip, filter_map}
 use Rattle.std.proofs.Math.Seq.{take-suc}
 use Rattle.std.proofs.lemmas.Bool.{cases_lt, cases_Bool}
 use Rattle.std.proofs.lemmas.Bool.Decides.{nat_tests}
 use Rattle.mdp_sbe.specs.declared.refusal.Refusal.{Refusal}
 use Rattle.mdp_sbe.specs.declared.refusal.Refusal.TheVariants as refusals
 use Rattle.mdp_templates.specs.Entry.{kind_of, level_of, depth_of, quote_of}
-use Rattle.std.proofs.lemmas.Option.{slice_get_past, slice_get_within, slice_get-get_or, slice_get_cases}
-use Rattle.std.proofs.lemmas.List.{append-nil, length-append, get_or_append_left}
+use Rattle.std.proofs.lemmas.Option.{slice_get_past, slice_get_within}
+use Rattle.std.proofs.lemmas.List.{length-append}
 use Rattle.std.proofs.lemmas.List.Elements.{filter_map-append}
 use Rattle.mdp_templates.specs.declared.entry.Level.{Level}
 use Rattle.mdp_templates.specs.declared.entry.Kind.{Kind}

@@ -1,5 +1,5 @@
 -- One entry of an incremental book message (MDP 3.0, market data incremental refresh: book entries).
-use Rattle.std.specs.Prelude.{ℕ, ℤ, pos, ◌==◌, nat_lt, nat_le, int_lt, List, slice_index, Result, Ok, Err, Bool, true, false, ◌||◌, ◌&&◌, if◌then◌else◌}
+use Rattle.std.specs.Prelude.{ℕ, ℤ, pos, ◌==◌, nat_lt, int_lt, List, slice_index, Result, Ok, Err, ◌||◌, if◌then◌else◌}
 use Rattle.std.specs.Ordering.{int_eq}
 use Rattle.mdp_sbe.specs.Number.{int32_at, int64_at}
 use Rattle.mdp_sbe.specs.declared.refusal.Refusal.{Refusal}

@@ -1,6 +1,6 @@
 -- The messages of the market recovery feed S, and the snapshots that a datagram gives
 -- (MDP 3.0, snapshot full refresh; that one message holds a whole book is this project's own profile).
-use Rattle.std.specs.Prelude.{◌≡◌, ◌≢◌, ◌⊎◌, ◌<◌, ◌+◌, ◌==◌, ◌&&◌, if◌then◌else◌, ℕ, ℤ, List, [], ◌∷◌, length, drop, slice_index, slice_get, Option, Some, None, Result, Ok, Err, Bool, true, false}
+use Rattle.std.specs.Prelude.{◌≡◌, ◌≢◌, ◌<◌, ◌+◌, ◌==◌, ◌&&◌, if◌then◌else◌, ℕ, List, [], length, drop, slice_index, slice_get, Option, Some, None, Result, Ok, Err, Bool, true, false}
 use Rattle.std.specs.Option.{option_to_list}
 use Rattle.std.specs.List.{filter_map}
 use Rattle.mdp_sbe.specs.Number.{number_at, int32_at, int64_at}

@@ -1,5 +1,4 @@
-use Rattle.std.proofs.Common.{◌≡◌, ◌∙◌, ℕ, List, take, subst, sym, ap, arith, Ok, Err, Result, [], refl}
-use Rattle.std.specs.Prelude.{IfOk}
+use Rattle.std.proofs.Common.{◌≡◌, ◌∙◌, ℕ, List, take, subst, arith, [], refl}
 use Rattle.std.proofs.lemmas.List.{take_all}
 use Rattle.mdp_capture.specs.Record.{RecordContent}
 use Rattle.mdp_pipeline.specs.Faults.{FailsBy}

@@ -1,6 +1,5 @@
-use Rattle.std.proofs.Common.{◌≡◌, ◌+◌, take, sym, ap, ◌∙◌, add-one, List, ℕ, Ok, Result}
+use Rattle.std.proofs.Common.{◌≡◌, ◌+◌, sym, ap, ◌∙◌, add-one, List, ℕ, Ok}
 use Rattle.std.proofs.lemmas.Result.{err_from_is_err_and}
-use Rattle.mdp_templates.specs.Layout.{AreEntries}
 use Rattle.mdp_templates.proofs.Layouts.{AllZip-more, refused_at}
 use Rattle.mdp_templates.proofs.layout.read_entries.Goals as goal
 

@@ -1,4 +1,4 @@
-use Rattle.std.proofs.Common.{◌≡◌, ℕ, subst}
+use Rattle.std.proofs.Common.{ℕ, subst}
 use Rattle.std.proofs.lemmas.Result.{err_from_is_err_and}
 use Rattle.mdp_sbe.specs.Framing.{parts}
 use Rattle.mdp_sbe.specs.Group.{IsGrouped, IsRefusedGrouped}

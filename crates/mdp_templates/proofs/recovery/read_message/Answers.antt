@@ -1,4 +1,3 @@
-use Rattle.std.proofs.Common.{sym, ◌∙◌}
 use Rattle.std.proofs.lemmas.Result.{err_from_is_err_and}
 use Rattle.mdp_sbe.specs.Framing.{parts}
 use Rattle.mdp_templates.proofs.Messages.{refused_recovery}

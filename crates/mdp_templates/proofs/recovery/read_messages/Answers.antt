@@ -1,4 +1,4 @@
-use Rattle.std.proofs.Common.{◌≡◌, Option, Some, None, subst}
+use Rattle.std.proofs.Common.{Option, subst}
 use Rattle.std.proofs.lemmas.Result.{err_from_is_err_and, IfOk-at_ok}
 use Rattle.mdp_sbe.specs.declared.message.Message as lent
 use Rattle.mdp_sbe.specs.Framing.{BeginsMessage, parts}

@@ -1,4 +1,4 @@
-use Rattle.std.proofs.Common.{◌≡◌, List, Option, subst, sym, refl}
+use Rattle.std.proofs.Common.{List, Option, subst, sym, refl}
 use Rattle.std.proofs.lemmas.Result.{err_from_is_err_and}
 use Rattle.mdp_sbe.specs.Framing.{parts}
 use Rattle.mdp_templates.specs.declared.entry.Kind.TheVariants as kinds

@@ -1,6 +1,5 @@
-use Rattle.std.proofs.Common.{◌≡◌, ℤ, take, map, ap, ◌∙◌, arith}
+use Rattle.std.proofs.Common.{◌≡◌, take, map, ap, ◌∙◌, arith}
 use Rattle.std.proofs.lemmas.List.{take_all}
-use Rattle.mdp_templates.specs.declared.instrument.Instrument.{Instrument}
 use Rattle.mdp_engine.specs.Desks.{desk_at_start}
 use Rattle.mdp_engine.proofs.Hearing.{slots_start}
 use Rattle.mdp_engine.proofs.desks.Desks.new.Goals as goal

@@ -1,5 +1,3 @@
-use Rattle.std.proofs.Common.{◌≡◌, List, ℕ, subst, sym}
-use Rattle.mdp_pipeline.specs.Running.{HasRun}
 use Rattle.mdp_pipeline.proofs.Turns.{starts_run}
 use Rattle.mdp_pipeline.proofs.run.Run.new.Goals as goal
 

@@ -1,11 +1,10 @@
-use Rattle.std.proofs.Common.{◌≡◌, List, ℕ, ◌++◌, subst, sym, ap, ◌∙◌}
+use Rattle.std.proofs.Common.{◌++◌, subst, ap, ◌∙◌}
 use Rattle.mdp_sbe.specs.declared.refusal.Refusal.{Refusal}
 use Rattle.mdp_templates.specs.declared.fault.Fault.{Fault}
 use Rattle.mdp_templates.specs.declared.fault.Fault.TheVariants as faults
 use Rattle.mdp_templates.specs.Answer.{OnRefusal}
 use Rattle.mdp_templates.specs.Refused.{IsRefusedAs}
 use Rattle.mdp_templates.specs.Refused.Feed.{incremental}
-use Rattle.mdp_pipeline.specs.Running.{HasRead}
 use Rattle.mdp_pipeline.proofs.Turns.{read_accepted, read_refused}
 use Rattle.mdp_pipeline.proofs.run.Run.receive.Goals as goal
 

@@ -1,6 +1,4 @@
-use Rattle.std.proofs.Common.{◌≡◌, List, ℕ, ◌++◌, subst, sym}
-use Rattle.mdp_capture.specs.Record.{RecordContent}
-use Rattle.mdp_pipeline.specs.Running.{HasRead}
+use Rattle.std.proofs.Common.{◌++◌}
 use Rattle.mdp_pipeline.proofs.Turns.{read_as, read_closed}
 use Rattle.mdp_pipeline.proofs.run.Run.take.Goals as goal
 
