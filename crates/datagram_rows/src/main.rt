@@ -3,6 +3,8 @@
 #![tactic(auto)]
 
 mod notation;
+#[cfg(test)]
+mod tests;
 
 use mdp_templates::{Fault, read_packet, read_snapshots};
 use notation::{packet_text, snapshots_text};

@@ -1,0 +1,99 @@
+//! Readers and copies with each allocation refused in turn, and with none.
+
+use mdp_templates::{Fault, Packet, Snapshot, read_packet, read_snapshots};
+use refusing::Refusing;
+use std::alloc::Global;
+use std::process::Abort;
+use std::test::Fail;
+
+// Packet 1: one book message that ends its event, with the bid 100x5 of security 1 as a new first level.
+const PACKET: &[u8] = &[
+    1, 0, 0, 0, 0, 0, 0, 0, 0, 0, 0, 0, 56, 0, 11, 0, 46, 0, 1, 0, 9, 0, 0, 0, 0, 0, 0, 0, 0, 0,
+    128, 0, 0, 32, 0, 1, 100, 0, 0, 0, 0, 0, 0, 0, 5, 0, 0, 0, 1, 0, 0, 0, 0, 0, 0, 0, 1, 0, 0, 0,
+    1, 0, 48, 0, 0, 0, 0, 0,
+];
+
+// One snapshot, of security 1 behind packet 2, with the bid 100x5.
+const SNAPSHOT: &[u8] = &[
+    1, 0, 0, 0, 0, 0, 0, 0, 0, 0, 0, 0, 51, 0, 16, 0, 52, 0, 1, 0, 9, 0, 2, 0, 0, 0, 0, 0, 0, 0, 1,
+    0, 0, 0, 0, 0, 0, 0, 22, 0, 1, 100, 0, 0, 0, 0, 0, 0, 0, 5, 0, 0, 0, 1, 0, 0, 0, 1, 0, 0, 0, 0,
+    48,
+];
+
+// The packet of the datagram and a copy of it, over an allocator that may refuse.
+fn read_and_copy(
+    heap: &Refusing<Global>,
+) -> Result<(Packet<&Refusing<Global>>, Packet<&Refusing<Global>>), Fault> {
+    let packet = read_packet(heap, PACKET)?;
+    match packet.copy(heap) {
+        Ok(copy) => Ok((packet, copy)),
+        Err(_) => Err(Fault::Memory),
+    }
+}
+
+#[test]
+fn a_packet_is_read_and_copied_unless_memory_is_refused(rt: HostRuntime) -> Result<(), Fail> {
+    let mut refused = 0u64;
+    for number in 1..100u64 {
+        let heap = Refusing::new(rt.alloc(), number);
+        match read_and_copy(&heap) {
+            Ok((packet, copy)) => {
+                assert!(rt; !heap.has_refused());
+                assert_eq!(rt; copy.number(), 1);
+                assert_eq!(rt; copy.messages().len(), 1);
+                assert!(rt; copy.messages().iter().all(|message| message.is_end()));
+                assert!(rt;
+                    copy.messages()
+                        .iter()
+                        .zip(packet.messages())
+                        .all(|(one, other)| one.entries() == other.entries())
+                );
+                break;
+            }
+            Err(fault) => {
+                assert!(rt; fault == Fault::Memory);
+                assert!(rt; heap.has_refused());
+                refused = number;
+            }
+        }
+    }
+    assert!(rt; refused >= 4);
+    Ok(())
+}
+
+fn is_wanted(snapshot: &Snapshot) -> bool {
+    let bids = snapshot.bids();
+    snapshot.security() == 1
+        && snapshot.last() == 2
+        && bids.len() == 1
+        && bids
+            .iter()
+            .all(|level| level.price == 100 && level.size == 5)
+        && snapshot.offers().is_empty()
+        && snapshot.implied_bids().is_empty()
+        && snapshot.implied_offers().is_empty()
+}
+
+#[test]
+fn snapshots_are_read_unless_memory_is_refused(rt: HostRuntime) -> Result<(), Fail> {
+    let mut refused = 0u64;
+    for number in 1..100u64 {
+        let heap = Refusing::new(rt.alloc(), number);
+        match read_snapshots(&heap, SNAPSHOT) {
+            Ok(snapshots) => {
+                assert!(rt; !heap.has_refused());
+                assert_eq!(rt; snapshots.len(), 1);
+                assert!(rt; snapshots.iter().all(|snapshot| is_wanted(snapshot)));
+                assert!(rt; snapshots.iter().all(|snapshot| is_wanted(&snapshot.copy())));
+                break;
+            }
+            Err(fault) => {
+                assert!(rt; fault == Fault::Memory);
+                assert!(rt; heap.has_refused());
+                refused = number;
+            }
+        }
+    }
+    assert!(rt; refused >= 1);
+    Ok(())
+}
