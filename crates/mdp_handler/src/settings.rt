@@ -25,7 +25,7 @@ The capture is text, one record a line:
   I ID NAME C LEG1 LEG2  a calendar spread, leg 1 minus leg 2
   A HEX, B HEX           a datagram of incremental feed A or B
   S HEX                  a datagram of the snapshot feed
-  X                      the snapshot feed closes
+  X                      the channel is closed
 Instruments come first. A datagram has at most 2,048 bytes. So far feed A alone
 is used, by one thread, whatever the options say.
 
