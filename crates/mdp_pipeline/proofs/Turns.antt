@@ -33,6 +33,9 @@ use Rattle.mdp_engine.specs.Standing.{Shows}
 use Rattle.mdp_engine.proofs.Showing.{shows_passed, shows_nothing}
 use Rattle.mdp_engine.proofs.Agreeing.{shows_what_is_owed}
 use Rattle.mdp_pipeline.specs.Reading.{Reading, Said, Says, accepted, refused, closed, IsReading, AreReadings, packet_of, accepted_packets, refusal_text, refusal_lines}
+use Rattle.std.proofs.Math.Nat.{zero-min}
+use Rattle.std.specs.Prelude.{◌^◌, ◌-◌}
+use Rattle.mdp_pipeline.specs.Counted.{HasCounted, counted}
 use Rattle.mdp_pipeline.specs.Output.{in_turn, AgreesWith, passes_from, Prints}
 use Rattle.mdp_pipeline.specs.Running.{moves_of, HasRun, HasRead, RunsOver, Writes, Arrives}
 use Rattle.mdp_pipeline.specs.Running.Arrives.{in_its_turn, out_of_turn}
@@ -243,3 +246,18 @@ run_written listed records start taken taken' desks held refusals next (Ok summa
     let whole = all_written listed records start taken taken' desks held refusals next went so_far in
     (whole.0, whole.1, subst (λ (n : ℕ). Prints listed records whole.0 n) (sym next_is) whole.2)
 run_written listed records start taken taken' desks held refusals next (Err fault) went next_is so_far = tt
+
+-- ---- how much went out
+
+pub counted_none : (taken : List ℕ) → HasCounted taken taken 0
+counted_none taken =
+    let none : length taken - length taken ≡ 0 = omega arith in
+    record { grown = omega arith; count = sym (ap counted none ∙ zero-min (2 ^ 64 - 1)) }
+
+pub run_counted : (start taken after : List ℕ) (written : ℕ) (result : Result Summary RunFault)
+    → IfOk result (λ (summary : Summary). summary.lost ≡ false)
+    → IfOk result (λ (summary : Summary). (start : List ℕ) → HasCounted start taken written → HasCounted start after summary.written)
+    → HasCounted start taken written
+    → IfOk result (λ (summary : Summary). (summary.lost ≡ false) × HasCounted start after summary.written)
+run_counted start taken after written (Ok summary) lost counts so_far = (lost, counts start so_far)
+run_counted start taken after written (Err fault) lost counts so_far = tt

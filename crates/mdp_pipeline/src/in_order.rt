@@ -2,6 +2,7 @@
 
 ghost use Rattle.std.specs.Prelude.{◌≡◌, ◌<◌, ◌^◌, ◌-◌, ◌++◌, [], ℕ, List, IfOk, OnOk, MatchResult};
 ghost use Rattle.mdp_templates.specs.Instrument.{AreFit};
+ghost use Rattle.mdp_pipeline.specs.Counted.{HasCounted};
 ghost use Rattle.mdp_pipeline.specs.Faults.{FailsBy};
 ghost use Rattle.mdp_pipeline.specs.Output.{Prints};
 ghost use Rattle.std.specs.Prelude.{false};
@@ -30,6 +31,7 @@ fn hand_on<W: CountedWrite, A: Allocator>(
     ensures taken { OnOk result (W.taken writer.new ≡ W.taken writer.old ++ text.old.items) }
     ensures failed { FailsBy result (W.failed writer.old) (W.failed writer.new) }
     ensures emptied { OnOk result (text.new.items ≡ []) }
+    ensures counts { OnOk result ((start : List ℕ) → HasCounted start (W.taken writer.old) written.old → HasCounted start (W.taken writer.new) written.new) }
 {
     match write_all_counted(writer, text) {
         Ok(()) => {
@@ -53,6 +55,7 @@ fn hand_on_pieces<W: CountedWrite, A: Allocator>(
     ensures writes { OnOk result ((listed : List Instrument) (records : List RecordContent) (start : List ℕ) →
         Writes listed records start (W.taken writer.old) run.old.desks run.old.text.items run.old.refusals.items run.old.next →
         Writes listed records start (W.taken writer.new) run.new.desks run.new.text.items run.new.refusals.items run.new.next) }
+    ensures counts { OnOk result ((start : List ℕ) → HasCounted start (W.taken writer.old) written.old → HasCounted start (W.taken writer.new) written.new) }
     ensures failed { FailsBy result (W.failed writer.old) (W.failed writer.new) }
 {
     if run.text.len() >= PIECE {
@@ -77,6 +80,7 @@ pub fn run_in_order<W: CountedWrite, A: Allocator + Copy>(
     requires fit { AreFit instruments.now }
     requires one_feed { (b.now ≡ []) × (s.now ≡ []) }
     ensures text { IfOk result (λ summary. (text : List ℕ) × (W.taken writer.new ≡ W.taken writer.old ++ text) × Prints instruments.now a.now text summary.next) }
+    ensures summary { IfOk result (λ summary. (summary.lost ≡ false) × HasCounted (W.taken writer.old) (W.taken writer.new) summary.written) }
     ensures failed { FailsBy result (W.failed writer.old) (W.failed writer.new) }
 {
     let mut written = 0;
@@ -101,6 +105,8 @@ fn finish<W: CountedWrite, A: Allocator + Copy>(
     requires { W.failed writer.old < 2 ^ 64 - 1 }
     ensures taken { OnOk result (W.taken writer.new ≡ W.taken writer.old ++ (run.text.items ++ (run.refusals.items ++ last_line run.next false))) }
     ensures next { IfOk result (λ summary. summary.next ≡ run.next) }
+    ensures lost { IfOk result (λ summary. summary.lost ≡ false) }
+    ensures counts { IfOk result (λ summary. (start : List ℕ) → HasCounted start (W.taken writer.old) written → HasCounted start (W.taken writer.new) summary.written) }
     ensures failed { FailsBy result (W.failed writer.old) (W.failed writer.new) }
 {
     let Run {
@@ -109,9 +115,9 @@ fn finish<W: CountedWrite, A: Allocator + Copy>(
         mut refusals,
         next,
     } = run;
-    if put_last(&mut refusals, next, false).is_err() {
+    let Ok(()) = put_last(&mut refusals, next, false) else {
         return Err(RunFault::Memory { written });
-    }
+    };
     hand_on(writer, &mut text, &mut written)?;
     hand_on(writer, &mut refusals, &mut written)?;
     Ok(Summary {
