@@ -1,6 +1,6 @@
 -- Packets that pass in turn, record by record.
 use Rattle.std.proofs.Common.{◌≡◌, ◌≢◌, ℕ, suc, ◌+◌, ◌<◌, Bool, true, false, cond, List, [], ◌∷◌, ◌++◌, map, take, length, get_or, Option, Some, None, refl, sym, ap, subst, ◌∙◌, append_assoc, arith}
-use Rattle.std.specs.Prelude.{◌==◌, Result, Ok, Err, IfOk, OnOk}
+use Rattle.std.specs.Prelude.{◌==◌, Result, Ok, Err, IfOk, IfErr, OnOk}
 use Rattle.mdp_pipeline.specs.declared.summary.Summary.{Summary}
 use Rattle.mdp_pipeline.specs.declared.summary.RunFault.{RunFault}
 use Rattle.std.specs.Option.{option_to_list}
@@ -35,7 +35,7 @@ use Rattle.mdp_engine.proofs.Agreeing.{shows_what_is_owed}
 use Rattle.mdp_pipeline.specs.Reading.{Reading, Said, Says, accepted, refused, closed, IsReading, AreReadings, packet_of, accepted_packets, refusal_text, refusal_lines}
 use Rattle.std.proofs.Math.Nat.{zero-min}
 use Rattle.std.specs.Prelude.{◌^◌, ◌-◌}
-use Rattle.mdp_pipeline.specs.Counted.{HasCounted, counted}
+use Rattle.mdp_pipeline.specs.Counted.{HasCounted, counted, written_before}
 use Rattle.mdp_pipeline.specs.Output.{in_turn, AgreesWith, passes_from, Prints}
 use Rattle.mdp_pipeline.specs.Running.{moves_of, HasRun, HasRead, RunsOver, Writes, Arrives}
 use Rattle.mdp_pipeline.specs.Running.Arrives.{in_its_turn, out_of_turn}
@@ -261,3 +261,10 @@ pub run_counted : (start taken after : List ℕ) (written : ℕ) (result : Resul
     → IfOk result (λ (summary : Summary). (summary.lost ≡ false) × HasCounted start after summary.written)
 run_counted start taken after written (Ok summary) lost counts so_far = (lost, counts start so_far)
 run_counted start taken after written (Err fault) lost counts so_far = tt
+
+pub fault_counted : (start taken after : List ℕ) (written : ℕ) (result : Result Summary RunFault)
+    → IfErr result (λ (fault : RunFault). (start : List ℕ) → HasCounted start taken written → HasCounted start after (written_before fault))
+    → HasCounted start taken written
+    → IfErr result (λ (fault : RunFault). HasCounted start after (written_before fault))
+fault_counted start taken after written (Ok summary) told so_far = tt
+fault_counted start taken after written (Err fault) told so_far = told start so_far

@@ -1,5 +1,7 @@
 -- How many bytes a run has written.
 use Rattle.std.specs.Prelude.{◌≡◌, ℕ, ◌≤◌, ◌-◌, ◌^◌, List, length, min}
+use Rattle.mdp_pipeline.specs.declared.summary.RunFault.{RunFault}
+use Rattle.mdp_pipeline.specs.declared.summary.RunFault.TheVariants.{Memory, Output}
 
 -- a number that stays at the greatest of 64 bits once it is there
 abbrev pub counted : ℕ → ℕ
@@ -9,3 +11,8 @@ counted n = min n (2 ^ 64 - 1)
 pub record HasCounted (start taken : List ℕ) (written : ℕ) : Type 0 where
   pub grown : length start ≤ length taken
   pub count : written ≡ counted (length taken - length start)
+
+-- how many bytes went out before a run ended early
+abbrev pub written_before : RunFault → ℕ
+written_before (Memory written) = written
+written_before (Output written) = written

@@ -1,8 +1,8 @@
 //! A run on one thread, in the order of the capture's lines.
 
-ghost use Rattle.std.specs.Prelude.{◌≡◌, ◌<◌, ◌^◌, ◌-◌, ◌++◌, [], ℕ, List, IfOk, OnOk, MatchResult};
+ghost use Rattle.std.specs.Prelude.{◌≡◌, ◌<◌, ◌^◌, ◌-◌, ◌++◌, [], ℕ, List, IfOk, IfErr, OnOk, MatchResult};
 ghost use Rattle.mdp_templates.specs.Instrument.{AreFit};
-ghost use Rattle.mdp_pipeline.specs.Counted.{HasCounted};
+ghost use Rattle.mdp_pipeline.specs.Counted.{HasCounted, written_before};
 ghost use Rattle.mdp_pipeline.specs.Faults.{FailsBy};
 ghost use Rattle.mdp_pipeline.specs.Output.{Prints};
 ghost use Rattle.std.specs.Prelude.{false};
@@ -32,6 +32,7 @@ fn hand_on<W: CountedWrite, A: Allocator>(
     ensures failed { FailsBy result (W.failed writer.old) (W.failed writer.new) }
     ensures emptied { OnOk result (text.new.items ≡ []) }
     ensures counts { OnOk result ((start : List ℕ) → HasCounted start (W.taken writer.old) written.old → HasCounted start (W.taken writer.new) written.new) }
+    ensures told { IfErr result (λ fault. (start : List ℕ) → HasCounted start (W.taken writer.old) written.old → HasCounted start (W.taken writer.new) (written_before fault)) }
 {
     match write_all_counted(writer, text) {
         Ok(()) => {
@@ -56,6 +57,7 @@ fn hand_on_pieces<W: CountedWrite, A: Allocator>(
         Writes listed records start (W.taken writer.old) run.old.desks run.old.text.items run.old.refusals.items run.old.next →
         Writes listed records start (W.taken writer.new) run.new.desks run.new.text.items run.new.refusals.items run.new.next) }
     ensures counts { OnOk result ((start : List ℕ) → HasCounted start (W.taken writer.old) written.old → HasCounted start (W.taken writer.new) written.new) }
+    ensures told { IfErr result (λ fault. (start : List ℕ) → HasCounted start (W.taken writer.old) written.old → HasCounted start (W.taken writer.new) (written_before fault)) }
     ensures failed { FailsBy result (W.failed writer.old) (W.failed writer.new) }
 {
     if run.text.len() >= PIECE {
@@ -81,6 +83,7 @@ pub fn run_in_order<W: CountedWrite, A: Allocator + Copy>(
     requires one_feed { (b.now ≡ []) × (s.now ≡ []) }
     ensures text { IfOk result (λ summary. (text : List ℕ) × (W.taken writer.new ≡ W.taken writer.old ++ text) × Prints instruments.now a.now text summary.next) }
     ensures summary { IfOk result (λ summary. (summary.lost ≡ false) × HasCounted (W.taken writer.old) (W.taken writer.new) summary.written) }
+    ensures told { IfErr result (λ fault. HasCounted (W.taken writer.old) (W.taken writer.new) (written_before fault)) }
     ensures failed { FailsBy result (W.failed writer.old) (W.failed writer.new) }
 {
     let mut written = 0;
@@ -107,6 +110,7 @@ fn finish<W: CountedWrite, A: Allocator + Copy>(
     ensures next { IfOk result (λ summary. summary.next ≡ run.next) }
     ensures lost { IfOk result (λ summary. summary.lost ≡ false) }
     ensures counts { IfOk result (λ summary. (start : List ℕ) → HasCounted start (W.taken writer.old) written → HasCounted start (W.taken writer.new) summary.written) }
+    ensures told { IfErr result (λ fault. (start : List ℕ) → HasCounted start (W.taken writer.old) written → HasCounted start (W.taken writer.new) (written_before fault)) }
     ensures failed { FailsBy result (W.failed writer.old) (W.failed writer.new) }
 {
     let Run {

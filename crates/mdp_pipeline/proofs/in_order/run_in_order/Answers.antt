@@ -1,9 +1,10 @@
 use Rattle.std.proofs.Common.{◌≡◌, ◌∙◌, ℕ, List, take, subst, arith, [], refl}
 use Rattle.std.proofs.lemmas.List.{take_all}
+use Rattle.std.proofs.lemmas.Result.{err_from_is_err_and}
 use Rattle.mdp_capture.specs.Record.{RecordContent}
 use Rattle.mdp_pipeline.specs.Faults.{FailsBy}
 use Rattle.mdp_pipeline.specs.Running.{Writes}
-use Rattle.mdp_pipeline.proofs.Turns.{writes_none, writes_more, run_written, run_counted, counted_none}
+use Rattle.mdp_pipeline.proofs.Turns.{writes_none, writes_more, run_written, run_counted, fault_counted, counted_none}
 use Rattle.mdp_pipeline.proofs.in_order.run_in_order.Goals as goal
 
 pub loop-record-init : goal.loop-record-init
@@ -34,5 +35,11 @@ returns g c =
     record {
       failed = failed;
       summary = run_counted start taken (g.W.CountedWrite.taken c.finish.new.writer) c.loop-record.written c.finish.result c.finish.ensures.lost c.finish.ensures.counts c.loop-record.invariant.counts;
+      told = fault_counted start taken (g.W.CountedWrite.taken c.finish.new.writer) c.loop-record.written c.finish.result c.finish.ensures.told c.loop-record.invariant.counts;
       text = run_written c.args.instruments.now c.args.a.now start taken (g.W.CountedWrite.taken c.finish.new.writer) run.desks run.text.items run.refusals.items run.next c.finish.result c.finish.ensures.taken c.finish.ensures.next writes;
     }
+
+pub returns-in_err-hand_on_pieces-clause-told : goal.returns-in_err-hand_on_pieces-clause-told
+returns-in_err-hand_on_pieces-clause-told g c =
+    let fault = err_from_is_err_and c.from_residual.result c.from_residual.ensures.1 in
+    rw (fault.1, fault.2) (c.in_err-hand_on_pieces.ensures.told _ c.loop-record.invariant.counts)
