@@ -1,6 +1,6 @@
 -- An arbiter goes on standing at the events.
 use Rattle.std.proofs.Common.{◌≡◌, ℕ, ℤ, zero, suc, ◌+◌, ◌-◌, ◌≤◌, ◌<◌, ◌⊎◌, Bool, true, false, cond, ltb, eqb, List, [], ◌∷◌, ◌++◌, refl, arith, ap, inl, inr}
-use Rattle.std.specs.Prelude.{max, leb, Option, None, Some, IsSome, is_some}
+use Rattle.std.specs.Prelude.{max, leb, Option, None, Some, IfSome, IsSome, is_some}
 use Rattle.std.specs.FinMap.{get}
 use Rattle.std.specs.Ordering.{int_eq}
 use Rattle.std.proofs.lemmas.Grind.{common_steps}
@@ -82,6 +82,13 @@ state_after old new (Some m) d = d.state
 pub channel_after : (old new : View) (m : Option Move) → Moves m old new → IsSameChannel old new
 channel_after old new None d = rw d (record { room = refl; ids = refl })
 channel_after old new (Some m) d = d.channel
+
+-- a move raises the next number, which stays within its range
+pub raises_next : {A : Type 0} (old new : View) (m : Option Move) (r : Option (Step A)) → Answers m r → Moves m old new → IfSome r (λ (s : Step A). (old.next < new.next) × (new.next ≤ 4294967296))
+raises_next old new None None a d = tt
+raises_next old new None (Some s) a d = elim a [ ]
+raises_next old new (Some m) None a d = tt
+raises_next old new (Some m) (Some s) a d = (d.on, omega (arith, d.top, d.most))
 
 -- what a step does, as the machine has it
 pub steps_as : {A : Type 0} (es : List Event) (old new : View) (r : Option (Step A)) → StandsAt es old → Answers (seen_move old) r → Moves (seen_move old) old new → StepsAs es old new r

@@ -144,7 +144,7 @@ seen_move v =
 
 -- what a move leaves
 pub record MovedBy (m : Move) (old new : View) : Type 0 where
-  pub on : old.next ≤ new.next
+  pub on : old.next < new.next
   pub most : new.top ≤ 4294967295
   pub state : state new ≡ after (state old) m
   pub top : new.top ≡ max old.top (new.next - 1)

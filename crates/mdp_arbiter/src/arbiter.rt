@@ -1,6 +1,6 @@
 //! The arbiter of a channel's feeds.
 
-ghost use Rattle.std.specs.Prelude.{◌≡◌, ◌≤◌, ◌<◌, ◌↔◌, ◌+◌, ◌-◌, ℕ, List, [], ◌∷◌, ◌++◌, length, true, IsTrue, IfOk, Some, None, slice_get, option_copied};
+ghost use Rattle.std.specs.Prelude.{◌≡◌, ◌≤◌, ◌<◌, ◌↔◌, ◌+◌, ◌-◌, ℕ, List, [], ◌∷◌, ◌++◌, length, true, IsTrue, IfOk, IfSome, Some, None, slice_get, option_copied};
 ghost use Rattle.std.specs.FinMap as map;
 ghost use Rattle.mdp_templates.specs.Instrument.{AreFit};
 ghost use Rattle.mdp_arbiter.specs.Slots.{ids_of};
@@ -114,6 +114,13 @@ impl<A: Allocator + Copy, W: Window<Packet<A>> + Drop> Arbiter<A, W> {
         self.bases[slot].as_ref()
     }
 
+    /// The snapshot of each listed security, in listed order, that the latest jump took, if there was a jump.
+    pub fn bases(&self) -> &[Option<Snapshot>]
+        ensures { result.now ≡ self.now.bases }
+    {
+        &self.bases
+    }
+
     /// Takes in that the channel was closed: from now on no step is possible, and all that is handed in comes back.
     pub fn close(&mut self)
         ensures keeps { state self.new ≡ state self.old }
@@ -148,9 +155,10 @@ impl<A: Allocator + Copy, W: Window<Packet<A>> + Drop> Arbiter<A, W> {
         self.renew(snapshot)
     }
 
-    /// The one step that is possible, none exactly where none is.
+    /// The one step that is possible, none exactly where none is. Each step raises `next`.
     pub fn step(&mut self) -> Option<Step<A>>
         ensures channel { IsSameChannel self.old self.new }
+        ensures raises { IfSome result (λ _. (self.old.next < self.new.next) × (self.new.next ≤ 4294967296)) }
         ensures steps { (es : List Event) → StandsAt es self.old → StepsAs es self.old self.new result }
     {
         self.take_step()

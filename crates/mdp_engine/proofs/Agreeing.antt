@@ -77,7 +77,7 @@ front_more feed p at =
 
 -- ---- securities that hear the same of two lists of messages print the same
 
-abbrev SameHeard : List Sent → List Sent → Start → Type 0
+abbrev pub SameHeard : List Sent → List Sent → Start → Type 0
 SameHeard a b i = behind i.base a ≡ behind i.base b
 
 abbrev seen_as : Instrument → Bool → Book → Option Seen
@@ -113,7 +113,7 @@ same_from (m ∷ ms) a b starts is =
 
 -- ---- what the moves show, and the front of the feed below `next`
 
-record Agrees (feed : List PacketContent) (next : ℕ) (fs : List Footing) (sh : Shown) : Type 0 where
+pub record Agrees (feed : List PacketContent) (next : ℕ) (fs : List Footing) (sh : Shown) : Type 0 where
   pub starts : sh.starts ≡ map (start_of feed) fs
   pub same : AllByRecursion (SameHeard sh.since (sent (take (next - 1) feed))) sh.starts
 
@@ -138,15 +138,15 @@ jump_same feed to [] (s ∷ snapshots) fed is = elim is [ ]
 jump_same feed to (i ∷ listed) [] fed is = elim is [ ]
 jump_same feed to (i ∷ listed) (s ∷ snapshots) fed is = (sym (behind-front feed s.last (to - 1) fed (omega (arith, is.0.covers))), jump_same feed to listed snapshots fed is.1)
 
-start_starts : (feed : List PacketContent) (listed : List Instrument) → opening listed ≡ map (start_of feed) (at_start listed)
+pub start_starts : (feed : List PacketContent) (listed : List Instrument) → opening listed ≡ map (start_of feed) (at_start listed)
 start_starts feed [] = refl
 start_starts feed (i ∷ listed) = let others = start_starts feed listed in cc others
 
-start_same : (starts : List Start) → AllByRecursion (SameHeard [] []) starts
+pub start_same : (starts : List Start) → AllByRecursion (SameHeard [] []) starts
 start_same [] = tt
 start_same (i ∷ starts) = (refl, start_same starts)
 
-steps_of-push : (moves : List Move) (move : Move) → steps_of (moves ++ move ∷ []) ≡ steps_of moves ++ step_of move ∷ []
+pub steps_of-push : (moves : List Move) (move : Move) → steps_of (moves ++ move ∷ []) ≡ steps_of moves ++ step_of move ∷ []
 steps_of-push moves move = map-append step_of moves (move ∷ [])
 
 footings-push : (listed : List Instrument) (moves : List Move) (move : Move) → footings listed (steps_of (moves ++ move ∷ [])) ≡ footings_through listed (footings listed (steps_of moves)) (step_of move)
@@ -163,7 +163,7 @@ pass_owed listed feed before p fed at agrees =
     ∙ sym (lines_shown feed fs k 1 front p.messages (all_heard feed k fs at.first fed (all_opening listed (steps_of before))))
     ∙ ap (lines_from fs front) (sym here)
 
-pass_agrees : (listed : List Instrument) (feed : List PacketContent) (before : List Move) (p : PacketContent) → IsIn feed p → Agrees feed p.number (footings listed (steps_of before)) (shown listed before) → Agrees feed (p.number + 1) (footings listed (steps_of (before ++ passed p ∷ []))) (shown listed (before ++ passed p ∷ []))
+pub pass_agrees : (listed : List Instrument) (feed : List PacketContent) (before : List Move) (p : PacketContent) → IsIn feed p → Agrees feed p.number (footings listed (steps_of before)) (shown listed before) → Agrees feed (p.number + 1) (footings listed (steps_of (before ++ passed p ∷ []))) (shown listed (before ++ passed p ∷ []))
 pass_agrees listed feed before p at agrees =
     let sh = shown listed before in
     let fs = footings listed (steps_of before) in
@@ -173,7 +173,7 @@ pass_agrees listed feed before p at agrees =
     subst (λ (is : List Footing). Agrees feed (p.number + 1) is (shown listed (before ++ passed p ∷ []))) (sym (footings-push listed before (passed p)))
     (subst (λ (s : Shown). Agrees feed (p.number + 1) fs s) (sym (shown-push listed before (passed p))) there)
 
-jump_agrees : (listed : List Instrument) (feed : List PacketContent) (before : List Move) (from to : ℕ) (snapshots : List SnapshotContent) → IsFeed feed → AllJumped feed to listed snapshots → Agrees feed to (footings listed (steps_of (before ++ jumped from to snapshots ∷ []))) (shown listed (before ++ jumped from to snapshots ∷ []))
+pub jump_agrees : (listed : List Instrument) (feed : List PacketContent) (before : List Move) (from to : ℕ) (snapshots : List SnapshotContent) → IsFeed feed → AllJumped feed to listed snapshots → Agrees feed to (footings listed (steps_of (before ++ jumped from to snapshots ∷ []))) (shown listed (before ++ jumped from to snapshots ∷ []))
 jump_agrees listed feed before from to snapshots fed is =
     let move = jumped from to snapshots in
     let there : Agrees feed to (footed listed (lasts snapshots)) (record { starts = started listed snapshots; since = [] }) = record { starts = jump_starts feed to listed snapshots is; same = jump_same feed to listed snapshots fed is } in

@@ -3,3 +3,8 @@ pub mod Showing
 pub mod Fronts
 pub mod Hearing
 pub mod Agreeing
+pub mod Honesty
+pub mod Alike
+pub mod HonestFeeds
+pub mod Moving
+pub mod Under

@@ -5,3 +5,6 @@ pub mod Agreed
 pub mod Desks
 pub mod Standing
 pub mod Slots
+pub mod Honest
+pub mod Engine
+pub mod Steps

@@ -1,10 +1,14 @@
-//! The books of a channel's listed securities, and the lines that each event end owes.
+//! The engine: what comes on a channel in, and out the lines that each event end owes of the listed securities' books.
 #![tactic(auto)]
 
 mod desk;
 mod desks;
+mod engine;
+mod event;
 mod laws;
 mod lines;
 
 pub use desks::Desks;
-pub use laws::shows_what_is_owed;
+pub use engine::{Engine, replay};
+pub use event::Event;
+pub use laws::{honest_feeds_exist, honest_moves_agree, shows_what_is_owed, stands_alike};

@@ -1,0 +1,15 @@
+use Rattle.std.proofs.Common.{◌≡◌, ◌-◌}
+use Rattle.mdp_engine.proofs.Moving.{MovesTo}
+use Rattle.mdp_engine.proofs.engine.Engine.move_on.Given as goal
+
+-- the steps so far were the possible moves, and are shown
+abbrev pub invariant-loop-step : goal.invariant-loop-step
+invariant-loop-step g l = record {
+  moves : MovesTo l.initial.self l.self;
+  room : l.self.arbiter.room ≡ l.initial.self.arbiter.room;
+  sound : l.self.has_failed ≡ l.initial.self.has_failed;
+}
+
+-- each step raises the number of the packet that passes next
+abbrev pub decreases-loop-step : goal.decreases-loop-step
+decreases-loop-step g l = 4294967296 - l.self.arbiter.next

@@ -1,0 +1,31 @@
+use Rattle.std.proofs.Common.{◌≡◌, ◌++◌, ℕ, List, [], map, take, ap, subst, ◌∙◌, arith}
+use Rattle.std.proofs.lemmas.List.{take_all}
+use Rattle.mdp_arbiter.specs.Accepted.{Event as Accepted}
+use Rattle.mdp_arbiter.specs.Machine.{trace}
+use Rattle.mdp_arbiter.specs.Slots.{ids_of}
+use Rattle.mdp_engine.specs.Engine.{Stands}
+use Rattle.mdp_engine.specs.Lines.{lines}
+use Rattle.mdp_engine.specs.Shown.{steps_of}
+use Rattle.mdp_engine.specs.Steps.{event_of}
+use Rattle.mdp_engine.proofs.Under.{stands_owed, taken_more}
+use Rattle.mdp_engine.proofs.engine.replay.Goals as goal
+
+pub loop-event-preserved : goal.loop-event-preserved
+loop-event-preserved g c = record {
+  stands =
+      subst (λ (es : List Accepted). Stands c.args.instruments.now es [] c.on.new.self)
+      (taken_more c.args.events.now c.loop-event.event-index c.event-item.result (event_of c.in_ok-copy.field-0) c.loop-event-test.true c.event-item.is c.in_ok-copy.ensures)
+      (c.in_ok-on.ensures.stands c.args.instruments.now (map event_of (take c.loop-event.event-index c.args.events.now)) [] c.loop-event.invariant.stands);
+  room = c.in_ok-on.ensures.room ∙ c.loop-event.invariant.room;
+}
+
+pub returns : goal.returns
+returns g c = λ feed honest.
+    let listed = c.args.instruments.now in
+    let engine = c.loop-event.engine in
+    let es = map event_of c.args.events.now in
+    let all : take c.loop-event.event-index c.args.events.now ≡ c.args.events.now = take_all c.loop-event.event-index c.args.events.now (omega (arith, c.loop-event-test.false)) in
+    let stands = subst (λ events. Stands listed (map event_of events) [] engine) all c.loop-event.invariant.stands in
+    c.in_ok-drain_lines.ensures.text ∙ ap (λ (t : List ℕ). t ++ engine.held) c.new-text.ensures.items
+    ∙ (stands_owed listed feed es [] engine honest stands).text
+    ∙ ap (λ (r : ℕ). lines listed feed (steps_of (trace r (ids_of listed) es))) c.loop-event.invariant.room

@@ -1,0 +1,11 @@
+use Rattle.std.proofs.Common.{◌≡◌, [], map, take}
+use Rattle.mdp_engine.specs.Engine.{Stands}
+use Rattle.mdp_engine.specs.Steps.{event_of}
+use Rattle.mdp_engine.proofs.engine.replay.Given as goal
+
+-- the engine stands at the events so far
+abbrev pub invariant-loop-event : goal.invariant-loop-event
+invariant-loop-event g l = record {
+  stands : Stands l.instruments (map event_of (take l.event-index l.events)) [] l.engine;
+  room : l.engine.arbiter.room ≡ (g.W.Window.view l.fn.window).room;
+}

@@ -1,0 +1,86 @@
+-- What an engine holds, and what that says of the events that came and the text that was drained.
+use Rattle.std.specs.Prelude.{◌≡◌, ℕ, ◌-◌, ◌++◌, ◌||◌, ◌&&◌, Bool, not, max, take, List, refl}
+use Rattle.std.specs.List.{AllZip}
+use Rattle.std.specs.Coded.{Coded, code_by, coded×, coded_ℕ, coded_bool, coded_list}
+use Rattle.mdp_templates.specs.Packet.{PacketContent}
+use Rattle.mdp_templates.specs.declared.instrument.Instrument.{Instrument}
+use Rattle.mdp_books.specs.Feed.{Sent, sent, book_at, since_end, touches, has_end, behind}
+use Rattle.mdp_arbiter.specs.Accepted.{Event}
+use Rattle.mdp_arbiter.specs.Machine.{Move, Settles, after_all, trace, state_at}
+use Rattle.mdp_arbiter.specs.Slots.{ids_of}
+use Rattle.mdp_arbiter.specs.Standing.{View as ArbiterView, view_code as arbiter_code, StandsAt, state}
+use Rattle.mdp_engine.specs.declared.desk.Desk.{Desk}
+use Rattle.mdp_engine.specs.contracts.desk.Desk as desk
+use Rattle.mdp_engine.specs.Lines.{Footing, footings, lines}
+use Rattle.mdp_engine.specs.Shown.{steps_of}
+use Rattle.mdp_engine.specs.Standing.{Shows}
+use Rattle.mdp_engine.specs.Honest.{IsHonest}
+
+-- an engine as contracts see it: its arbiter, its desks, the lines that it holds, and whether memory ran out
+pub record View : Type 0 where
+  pub arbiter : ArbiterView
+  pub desks : List Desk
+  pub held : List ℕ
+  pub has_failed : Bool
+
+-- it is stored as the tuple of its fields
+abbrev pub view_code : Coded View
+view_code =
+    code_by (ArbiterView × (List Desk × (List ℕ × Bool)))
+    (coded× arbiter_code (coded× (coded_list desk.the_row.coded) (coded× (coded_list coded_ℕ) coded_bool)))
+    (λ v. (v.arbiter, (v.desks, (v.held, v.has_failed))))
+    (λ t. record { arbiter = t.0; desks = t.1.0; held = t.1.1.0; has_failed = t.1.1.1 })
+    (λ _. refl)
+
+-- its arbiter stands at the events and has made all their moves
+pub record IsSettled (listed : List Instrument) (es : List Event) (v : ArbiterView) : Type 0 where
+  pub stands : StandsAt es v
+  pub ids : v.ids ≡ ids_of listed
+  pub state : state v ≡ state_at v.room (ids_of listed) es
+
+-- An engine stands at these events, of which this text was drained: its desks and its text are what the moves show.
+pub record Stands (listed : List Instrument) (es : List Event) (drained : List ℕ) (v : View) : Type 0 where
+  pub settled : IsSettled listed es v.arbiter
+  pub shows : Shows listed (trace v.arbiter.room (ids_of listed) es) v.desks (drained ++ v.held)
+
+-- A security is to be printed at the next event end behind its base: an entry has named it since the last event end,
+-- or there was a jump and no event end behind the base yet.
+abbrev pub is_owed : Footing → List Sent → Bool
+is_owed i before = touches i.instrument.id (since_end before) || (i.jumped && not (has_end (behind i.base before)))
+
+-- a desk has its security's book of the complete feed, before packet `next` or at its base, whichever is later
+pub record DeskStands (feed : List PacketContent) (next : ℕ) (i : Footing) (desk : Desk) : Type 0 where
+  pub instrument : desk.instrument ≡ i.instrument
+  pub base : desk.base ≡ i.base
+  pub book : desk.book ≡ book_at i.instrument.id (sent (take (max (next - 1) i.base) feed))
+  pub marked : desk.marked ≡ is_owed i (sent (take (next - 1) feed))
+
+-- An engine stands at these events under a complete feed, of which this text was drained: its desks are the feed's,
+-- and its text is the lines that the feed owes for the moves so far.
+pub record StandsUnder (listed : List Instrument) (feed : List PacketContent) (es : List Event) (drained : List ℕ) (v : View) : Type 0 where
+  pub settled : IsSettled listed es v.arbiter
+  pub desks : AllZip (DeskStands feed v.arbiter.next) (footings listed (steps_of (trace v.arbiter.room (ids_of listed) es))) v.desks
+  pub text : drained ++ v.held ≡ lines listed feed (steps_of (trace v.arbiter.room (ids_of listed) es))
+
+-- Under a complete feed that the events agree with, what the moves show is what the feed has, and the other way round.
+abbrev pub StandsAlike : Type 0
+StandsAlike = (listed : List Instrument) (feed : List PacketContent) (es : List Event) (drained : List ℕ) (v : View) → IsHonest (ids_of listed) feed es
+    → (Stands listed es drained v → StandsUnder listed feed es drained v) × (StandsUnder listed feed es drained v → Stands listed es drained v)
+
+-- ---- moves one after another
+
+-- an engine has taken in these events and shown these moves, and may make more
+pub record IsUnderWay (listed : List Instrument) (es : List Event) (moves : List Move) (drained : List ℕ) (v : View) : Type 0 where
+  pub stands : StandsAt es v.arbiter
+  pub ids : v.arbiter.ids ≡ ids_of listed
+  pub shows : Shows listed moves v.desks (drained ++ v.held)
+
+-- from one view to another the moves that are possible were made, until none is, and shown
+pub record HasMoved (listed : List Instrument) (es : List Event) (moves : List Move) (drained : List ℕ) (old new : View) : Type 0 where
+  pub made : List Move
+  pub settles : Settles old.arbiter.room (ids_of listed) es (state old.arbiter) made
+  pub state : state new.arbiter ≡ after_all (state old.arbiter) made
+  pub under_way : IsUnderWay listed es (moves ++ made) drained new
+
+abbrev pub Advances : View → View → Type 0
+Advances old new = (listed : List Instrument) (es : List Event) (moves : List Move) (drained : List ℕ) → IsUnderWay listed es moves drained old → HasMoved listed es moves drained old new

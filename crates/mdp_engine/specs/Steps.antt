@@ -1,0 +1,29 @@
+-- What the code takes in, and what one step makes of the desks and of the text, as functions.
+use Rattle.std.specs.Prelude.{ℕ, List, Option}
+use Rattle.mdp_templates.specs.Snapshot.{SnapshotContent}
+use Rattle.mdp_books.specs.Feed.{sent_in}
+use Rattle.mdp_print.specs.Texts.{jump_line}
+use Rattle.mdp_arbiter.specs.Accepted.{Event as Accepted}
+use Rattle.mdp_arbiter.specs.Accepted.Event.{came, recovered, closed}
+use Rattle.mdp_arbiter.specs.declared.step.Step.{Step}
+use Rattle.mdp_arbiter.specs.declared.step.Step.TheVariants.{Pass, Jump}
+use Rattle.mdp_engine.specs.declared.desk.Desk.{Desk}
+use Rattle.mdp_engine.specs.declared.event.Event.{Event}
+use Rattle.mdp_engine.specs.declared.event.Event.TheVariants.{Packet, Snapshot, Close}
+use Rattle.mdp_engine.specs.Desks.{passed_desks, passed_text, rebased_desks}
+
+-- the event of the recovery machine that came
+abbrev pub event_of : {A : Type 0} → Event A → Accepted
+event_of (Packet packet) = came packet
+event_of (Snapshot snapshot) = recovered snapshot
+event_of Close = closed
+
+-- the desks after a step, where a jump took these snapshots
+abbrev pub stepped_desks : {A : Type 0} → Step A → List (Option SnapshotContent) → List Desk → List Desk
+stepped_desks (Pass packet) bases desks = passed_desks (sent_in packet) desks
+stepped_desks (Jump old new) bases desks = rebased_desks bases desks
+
+-- the lines that a step adds
+abbrev pub stepped_text : {A : Type 0} → Step A → List Desk → List ℕ
+stepped_text (Pass packet) desks = passed_text (sent_in packet) desks
+stepped_text (Jump old new) desks = jump_line old new

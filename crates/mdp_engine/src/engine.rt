@@ -1,0 +1,244 @@
+//! The engine: what comes on a channel in, the lines that its moves owe out.
+
+ghost use Rattle.std.specs.Prelude.{◌≡◌, ◌++◌, [], ◌∷◌, List, ℕ, true, false, map, IfOk, IfErr, IsErr, OnOk};
+ghost use Rattle.std.specs.FinMap as map;
+ghost use Rattle.mdp_templates.specs.Packet.{PacketContent};
+ghost use Rattle.mdp_templates.specs.Instrument.{AreFit};
+ghost use Rattle.mdp_templates.specs.declared.instrument.Instrument.{Instrument};
+ghost use Rattle.mdp_arbiter.specs.Accepted.{Event as Accepted};
+ghost use Rattle.mdp_arbiter.specs.Machine.{State, is_lost, state_at, trace};
+ghost use Rattle.mdp_arbiter.specs.Slots.{ids_of};
+ghost use Rattle.mdp_arbiter.specs.Standing.{IsSameChannel, StandsAt, state};
+ghost use Rattle.mdp_engine.specs.Engine.{Advances, Stands, StandsUnder};
+ghost use Rattle.mdp_engine.specs.Feed.{IsFeed};
+ghost use Rattle.mdp_engine.specs.Honest.{IsHonest};
+ghost use Rattle.mdp_engine.specs.Lines.{lines};
+ghost use Rattle.mdp_engine.specs.Shown.{steps_of};
+ghost use Rattle.mdp_engine.specs.Steps.{event_of, stepped_desks, stepped_text};
+
+use crate::desks::Desks;
+use crate::event::Event;
+use mdp_arbiter::{Arbiter, Step};
+use mdp_templates::{Instrument, Memory, Packet};
+use mdp_window::{Put, Window};
+use std::alloc::Allocator;
+use std::marker::Model;
+
+/// Arbitrates the feeds of a channel, keeps its books, and holds the lines that are owed until they are drained.
+///
+/// Once memory has run out the engine has failed: it takes in nothing more and drains nothing more, and what was
+/// drained is a beginning of the lines.
+#[derive(Drop)]
+pub struct Engine<A: Allocator, W: Window<Packet<A>> + Drop> {
+    arbiter: Arbiter<A, W>,
+    desks: Desks<A>,
+    held: Vec<u8, A>,
+    has_failed: bool,
+}
+
+impl<A: Allocator, W: Window<Packet<A>> + Drop> Model for Engine<A, W> {
+    ghost use Rattle.mdp_engine.specs.Engine.{View, view_code};
+
+    ghost Value = { View };
+
+    ghost coded = { view_code };
+
+    ghost view = { λ e. record {
+      arbiter = e.arbiter;
+      desks = e.desks;
+      held = e.held.items;
+      has_failed = e.has_failed;
+    } };
+}
+
+impl<A: Allocator + Copy, W: Window<Packet<A>> + Drop> Engine<A, W> {
+    /// An engine that has taken in nothing. The instruments are fit, and the window begins at 1 and holds nothing.
+    pub fn new(alloc: A, instruments: &[Instrument], window: W) -> Result<Engine<A, W>, Memory>
+        requires fit { AreFit instruments.now }
+        requires first { (W.view window).first ≡ 1 }
+        requires empty { (W.view window).held ≡ map.empty }
+        ensures stands { IfOk result (λ engine. Stands instruments.now [] [] engine) }
+        ensures under { IfOk result (λ engine. (feed : List PacketContent) → IsFeed feed → StandsUnder instruments.now feed [] [] engine) }
+        ensures room { IfOk result (λ engine. engine.arbiter.room ≡ (W.view window).room) }
+        ensures sound { IfOk result (λ engine. engine.has_failed ≡ false) }
+        ensures empty { IfOk result (λ engine. engine.held ≡ []) }
+    {
+        Ok(Engine {
+            arbiter: Arbiter::new(alloc, instruments, window)?,
+            desks: Desks::new(alloc, instruments)?,
+            held: Vec::new(alloc),
+            has_failed: false,
+        })
+    }
+
+    /// The number of the packet that passes next, from 1 to 4294967296.
+    pub fn next(&self) -> u64
+        ensures next { result ≡ self.now.arbiter.next }
+        ensures stands { (listed : List Instrument) (es : List Accepted) (drained : List ℕ) → Stands listed es drained self.now
+            → result ≡ (state_at self.now.arbiter.room (ids_of listed) es).next }
+    {
+        self.arbiter.next()
+    }
+
+    /// Whether the receiver is lost: a packet came that is so far ahead that the next one is given up.
+    pub fn lost(&self) -> bool
+        ensures { (listed : List Instrument) (es : List Accepted) (drained : List ℕ) → Stands listed es drained self.now
+            → result ≡ is_lost self.now.arbiter.room es (state_at self.now.arbiter.room (ids_of listed) es) }
+    {
+        self.arbiter.lost()
+    }
+
+    /// Takes in an event and makes all moves that are then possible; the lines that they owe are held.
+    ///
+    /// # Errors
+    ///
+    /// Memory ran out, now or in an earlier call.
+    pub fn on(&mut self, event: Event<A>) -> Result<(), Memory>
+        ensures stands { OnOk result ((listed : List Instrument) (es : List Accepted) (drained : List ℕ) → Stands listed es drained self.old
+            → Stands listed (es ++ event_of event ∷ []) drained self.new) }
+        ensures under { OnOk result ((listed : List Instrument) (feed : List PacketContent) (es : List Accepted) (drained : List ℕ)
+            → IsHonest (ids_of listed) feed (es ++ event_of event ∷ []) → StandsUnder listed feed es drained self.old
+            → StandsUnder listed feed (es ++ event_of event ∷ []) drained self.new) }
+        ensures room { OnOk result (self.new.arbiter.room ≡ self.old.arbiter.room) }
+        ensures sound { OnOk result (self.new.has_failed ≡ false) }
+        ensures fails { IfErr result (λ _. self.new.has_failed ≡ true) }
+        ensures stays { self.old.has_failed ≡ true → IsErr result }
+    {
+        self.still_sound()?;
+        let Ok(()) = self.advance(event) else {
+            self.has_failed = true;
+            return Err(Memory);
+        };
+        Ok(())
+    }
+
+    /// Appends the lines that are held, and holds none from then on.
+    ///
+    /// # Errors
+    ///
+    /// Memory ran out, now or in an earlier call. Then nothing is appended.
+    pub fn drain_lines(&mut self, out: &mut Vec<u8, A>) -> Result<(), Memory>
+        ensures text { OnOk result (out.new.items ≡ out.old.items ++ self.old.held) }
+        ensures drained { OnOk result (self.new ≡ record self.old { held = [] }) }
+        ensures stands { OnOk result ((listed : List Instrument) (es : List Accepted) (drained : List ℕ) → Stands listed es drained self.old
+            → Stands listed es (drained ++ self.old.held) self.new) }
+        ensures under { OnOk result ((listed : List Instrument) (feed : List PacketContent) (es : List Accepted) (drained : List ℕ)
+            → StandsUnder listed feed es drained self.old → StandsUnder listed feed es (drained ++ self.old.held) self.new) }
+        ensures kept { IfErr result (λ _. out.new.items ≡ out.old.items) }
+        ensures fails { IfErr result (λ _. self.new.has_failed ≡ true) }
+        ensures stays { self.old.has_failed ≡ true → IsErr result }
+    {
+        self.still_sound()?;
+        if out.extend_from_slice(&self.held).is_err() {
+            self.has_failed = true;
+            return Err(Memory);
+        }
+        self.held.clear();
+        Ok(())
+    }
+
+    /// Answers `Memory` once memory has run out.
+    fn still_sound(&self) -> Result<(), Memory>
+        ensures sound { OnOk result (self.now.has_failed ≡ false) }
+        ensures failed { IfErr result (λ _. self.now.has_failed ≡ true) }
+    {
+        if self.has_failed {
+            return Err(Memory);
+        }
+        Ok(())
+    }
+
+    /// Takes in an event, and makes moves until none is possible.
+    fn advance(&mut self, event: Event<A>) -> Result<(), Memory>
+        ensures stands { OnOk result ((listed : List Instrument) (es : List Accepted) (drained : List ℕ) → Stands listed es drained self.old
+            → Stands listed (es ++ event_of event ∷ []) drained self.new) }
+        ensures room { OnOk result (self.new.arbiter.room ≡ self.old.arbiter.room) }
+        ensures sound { OnOk result (self.new.has_failed ≡ self.old.has_failed) }
+    {
+        self.take_in(event)?;
+        self.move_on()?;
+        Ok(())
+    }
+
+    /// Takes in an event, and makes no move.
+    fn take_in(&mut self, event: Event<A>) -> Result<(), Memory>
+        ensures stands { OnOk result ((es : List Accepted) → StandsAt es self.old.arbiter → StandsAt (es ++ event_of event ∷ []) self.new.arbiter) }
+        ensures keeps { OnOk result (state self.new.arbiter ≡ state self.old.arbiter) }
+        ensures channel { OnOk result (IsSameChannel self.old.arbiter self.new.arbiter) }
+        ensures rest { OnOk result (self.new ≡ record self.old { arbiter = self.new.arbiter }) }
+    {
+        match event {
+            Event::Packet(packet) => match self.arbiter.packet(packet) {
+                Put::Kept => Ok(()),
+                Put::Back(_) => Ok(()),
+                Put::Memory(_) => Err(Memory),
+            },
+            Event::Snapshot(snapshot) => {
+                self.arbiter.snapshot(snapshot);
+                Ok(())
+            }
+            Event::Close => {
+                self.arbiter.close();
+                Ok(())
+            }
+        }
+    }
+
+    /// Makes moves until none is possible.
+    fn move_on(&mut self) -> Result<(), Memory>
+        ensures advances { OnOk result (Advances self.old self.new) }
+        ensures room { OnOk result (self.new.arbiter.room ≡ self.old.arbiter.room) }
+        ensures sound { OnOk result (self.new.has_failed ≡ self.old.has_failed) }
+    {
+        while let Some(step) = self.arbiter.step() {
+            self.take_step(step)?;
+        }
+        Ok(())
+    }
+
+    /// Shows a step: a packet that passes, or a jump to the snapshots that the arbiter took.
+    fn take_step(&mut self, step: Step<A>) -> Result<(), Memory>
+        ensures desks { OnOk result (self.new.desks ≡ stepped_desks step self.old.arbiter.bases self.old.desks) }
+        ensures text { OnOk result (self.new.held ≡ self.old.held ++ stepped_text step self.old.desks) }
+        ensures arbiter { OnOk result (self.new.arbiter ≡ self.old.arbiter) }
+        ensures sound { OnOk result (self.new.has_failed ≡ self.old.has_failed) }
+    {
+        match step {
+            Step::Pass(packet) => {
+                self.desks.pass(&mut self.held, &packet)?;
+                Ok(())
+            }
+            Step::Jump { old, new } => {
+                let bases = self.arbiter.bases();
+                self.desks.jump(&mut self.held, old, new, bases)?;
+                Ok(())
+            }
+        }
+    }
+}
+
+/// The lines that these events owe, from an engine of its own. The conditions are those of [`Engine::new`].
+///
+/// # Errors
+///
+/// Memory ran out.
+pub fn replay<A: Allocator + Copy, W: Window<Packet<A>> + Drop>(
+    alloc: A,
+    events: &[Event<A>],
+    instruments: &[Instrument],
+    window: W,
+) -> Result<Vec<u8, A>, Memory>
+    requires fit { AreFit instruments.now }
+    requires first { (W.view window).first ≡ 1 }
+    requires empty { (W.view window).held ≡ map.empty }
+    ensures { IfOk result (λ text. (feed : List PacketContent) → IsHonest (ids_of instruments.now) feed (map event_of events.now)
+        → text.items ≡ lines instruments.now feed (steps_of (trace (W.view window).room (ids_of instruments.now) (map event_of events.now)))) }
+{
+    let mut engine = Engine::new(alloc, instruments, window)?;
+    for event in events {
+        engine.on(event.copy(alloc)?)?;
+    }
+    let mut text = Vec::new(alloc);
+    engine.drain_lines(&mut text)?;
+    Ok(text)
+}
