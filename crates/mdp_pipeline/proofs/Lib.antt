@@ -1,1 +1,3 @@
-pub mod Turns
+pub mod Heads
+pub mod Taking
+pub mod Written

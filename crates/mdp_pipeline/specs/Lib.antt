@@ -1,5 +1,7 @@
+pub mod Merge
 pub mod Reading
 pub mod Output
+pub mod RefusalTexts
 pub mod Running
 pub mod Faults
 pub mod Counted

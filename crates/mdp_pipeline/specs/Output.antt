@@ -1,36 +1,41 @@
--- What a run over one feed prints, for every complete feed that agrees with the packets that it accepted.
-use Rattle.std.specs.Prelude.{◌≡◌, ℕ, ◌+◌, ◌==◌, List, [], ◌∷◌, ◌++◌, length, false, if◌then◌else◌}
-use Rattle.std.specs.List.{AllByRecursion}
+-- What a run over the records of a channel's feeds prints, for every complete feed that agrees with what was accepted.
+use Rattle.std.specs.Prelude.{◌≡◌, ℕ, List, ◌++◌, Bool}
 use Rattle.mdp_templates.specs.Packet.{PacketContent}
 use Rattle.mdp_templates.specs.declared.instrument.Instrument.{Instrument}
-use Rattle.mdp_capture.specs.Record.{RecordContent}
 use Rattle.mdp_print.specs.declared.feed.Feed.TheVariants as feeds
 use Rattle.mdp_print.specs.Texts.{last_line}
-use Rattle.mdp_engine.specs.Feed.{IsFeed, IsIn}
-use Rattle.mdp_engine.specs.Lines.{Step, lines}
-use Rattle.mdp_engine.specs.Lines.Step.{pass}
-use Rattle.mdp_pipeline.specs.Reading.{Reading, AreReadings, accepted_packets, refusal_lines}
+use Rattle.mdp_arbiter.specs.Accepted.{Event}
+use Rattle.mdp_arbiter.specs.Machine.{is_lost, state_at, trace}
+use Rattle.mdp_arbiter.specs.Slots.{ids_of}
+use Rattle.mdp_engine.specs.Honest.{IsHonest}
+use Rattle.mdp_engine.specs.Lines.{lines}
+use Rattle.mdp_engine.specs.Shown.{steps_of}
+use Rattle.mdp_pipeline.specs.Merge.{Arrival}
+use Rattle.mdp_pipeline.specs.Reading.{Reading, AreReadings, events_of, refusal_lines}
 
--- of these packets, those that come in number order from this number on
-abbrev pub in_turn : ℕ → List PacketContent → List PacketContent
-in_turn next [] = []
-in_turn next (p ∷ ps) = if p.number == next then p ∷ in_turn (next + 1) ps else in_turn next ps
+-- The number of the packet that comes next after these events, and whether the receiver is lost then.
+abbrev pub next_after : List Instrument → ℕ → List Event → ℕ
+next_after listed room events = (state_at room (ids_of listed) events).next
 
--- each of these packets stands in the feed, in the place that its number says
-abbrev pub AgreesWith : List PacketContent → List PacketContent → Type 0
-AgreesWith feed packets = AllByRecursion (IsIn feed) packets
+abbrev pub is_lost_after : List Instrument → ℕ → List Event → Bool
+is_lost_after listed room events = is_lost room events (state_at room (ids_of listed) events)
 
--- so many packets pass in order, the first of which has this number
-abbrev pub passes_from : ℕ → List PacketContent → List Step
-passes_from next [] = []
-passes_from next (p ∷ ps) = pass next ∷ passes_from (next + 1) ps
+-- a line for each refused datagram, feed A's, then B's, then S's
+abbrev pub all_refusal_lines : List Reading → List ℕ
+all_refusal_lines readings = refusal_lines feeds.A readings ++ (refusal_lines feeds.B readings ++ refusal_lines feeds.S readings)
 
--- What is printed, and the number that comes next: packets pass in turn from 1 on; for every complete feed that
--- agrees with all packets that were accepted the text is the lines that its first packets owe, then a line for each
--- refused datagram, and the last line.
-pub record Prints (listed : List Instrument) (records : List RecordContent) (text : List ℕ) (next : ℕ) : Type 0 where
+-- The text of a run under a complete feed: the lines that the feed owes for the moves of the events, the refused
+-- datagrams, and the last line.
+abbrev pub output : List Instrument → List PacketContent → ℕ → List Reading → List ℕ
+output listed feed room readings =
+    lines listed feed (steps_of (trace room (ids_of listed) (events_of readings)))
+    ++ (all_refusal_lines readings ++ last_line (next_after listed room (events_of readings)) (is_lost_after listed room (events_of readings)))
+
+-- What is printed, which number comes next, and whether the receiver is lost at the end: these records say what they
+-- say, and for every complete feed that agrees with the events the text is that feed's.
+pub record Prints (listed : List Instrument) (room : ℕ) (arrivals : List Arrival) (text : List ℕ) (next : ℕ) (lost : Bool) : Type 0 where
   pub readings : List Reading
-  pub are : AreReadings records readings
-  pub next_is : next ≡ length (in_turn 1 (accepted_packets readings)) + 1
-  pub owed : (feed : List PacketContent) → IsFeed feed → AgreesWith feed (accepted_packets readings) →
-      text ≡ lines listed feed (passes_from 1 (in_turn 1 (accepted_packets readings))) ++ (refusal_lines feeds.A readings ++ last_line next false)
+  pub are : AreReadings arrivals readings
+  pub next_is : next ≡ next_after listed room (events_of readings)
+  pub lost_is : lost ≡ is_lost_after listed room (events_of readings)
+  pub owed : (feed : List PacketContent) → IsHonest (ids_of listed) feed (events_of readings) → text ≡ output listed feed room readings

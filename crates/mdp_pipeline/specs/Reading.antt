@@ -1,57 +1,68 @@
--- What the records of an incremental feed say: a packet, or a refusal, for each datagram.
-use Rattle.std.specs.Prelude.{◌≡◌, ℕ, List, [], map, Option, Some, None}
-use Rattle.std.specs.List.{AllByRecursion, filter_map, flat_map}
+-- What the records of a channel's feeds say: the events that each brings, or why it is refused.
+use Rattle.std.specs.Prelude.{◌≡◌, ◌==◌, ℕ, Bool, List, [], ◌∷◌, map}
+use Rattle.std.specs.List.{AllByRecursion, filter, flat_map}
 use Rattle.mdp_sbe.specs.declared.refusal.Refusal.{Refusal}
 use Rattle.mdp_templates.specs.Packet.{PacketContent}
+use Rattle.mdp_templates.specs.Snapshot.{SnapshotContent}
 use Rattle.mdp_templates.specs.Incremental.{IsPacket}
-use Rattle.mdp_templates.specs.Refused.{IsRefusedAs}
-use Rattle.mdp_templates.specs.Refused.Feed.{incremental}
-use Rattle.mdp_capture.specs.Record.{RecordContent, Received, Datagram, Close}
+use Rattle.mdp_templates.specs.Recovery.{AreSnapshots}
+use Rattle.mdp_templates.specs.Refused.{Feed as Kind, IsRefusedAs}
+use Rattle.mdp_templates.specs.Refused.Feed.{incremental, recovery}
+use Rattle.mdp_capture.specs.Record.{Received, Datagram, Close}
 use Rattle.mdp_print.specs.declared.feed.Feed.{Feed}
+use Rattle.mdp_print.specs.declared.feed.Feed.TheVariants as feeds
+use Rattle.mdp_print.specs.Feed.{feed_letter}
 use Rattle.mdp_print.specs.Texts.{refusal_line}
+use Rattle.mdp_arbiter.specs.Accepted.{Event, came, recovered, closed}
+use Rattle.mdp_pipeline.specs.Merge.{Arrival}
 
--- what a record says
+-- a record brings events, in order, or is refused
 pub data Said : Type 0 where
-  accepted : PacketContent → Said
+  brings : List Event → Said
   refused : Refusal → Said
-  closed : Said
 
--- by the packet grammar, each datagram says exactly one thing
-abbrev pub Says : Received → Said → Type 0
-Says (Datagram bytes) (accepted packet) = IsPacket bytes packet
-Says (Datagram bytes) (refused refusal) = IsRefusedAs incremental bytes refusal
-Says (Datagram bytes) closed = ⊥
-Says Close (accepted packet) = ⊥
-Says Close (refused refusal) = ⊥
-Says Close closed = Unit {0}
+-- A datagram of feed A or B brings its packet, one of feed S its snapshots; and feed S can close the channel.
+abbrev pub Says : Kind → Received → Said → Type 0
+Says incremental (Datagram bytes) (brings events) = (packet : PacketContent) × IsPacket bytes packet × (events ≡ came packet ∷ [])
+Says recovery (Datagram bytes) (brings events) = (snapshots : List SnapshotContent) × AreSnapshots bytes snapshots × (events ≡ map recovered snapshots)
+Says kind (Datagram bytes) (refused refusal) = IsRefusedAs kind bytes refusal
+Says incremental Close said = said ≡ brings []
+Says recovery Close said = said ≡ brings (closed ∷ [])
 
--- a record, and what it says
+abbrev pub kind_of : Feed → Kind
+kind_of feeds.A = incremental
+kind_of feeds.B = incremental
+kind_of feeds.S = recovery
+
+-- a record of a feed, and what it says
 pub record Reading : Type 0 where
-  pub entry : RecordContent
+  pub arrival : Arrival
   pub said : Said
 
 abbrev pub IsReading : Reading → Type 0
-IsReading reading = Says reading.entry.received reading.said
+IsReading r = Says (kind_of r.arrival.feed) r.arrival.entry.received r.said
 
 -- the readings of these records, in their order
-pub record AreReadings (records : List RecordContent) (readings : List Reading) : Type 0 where
-  pub of : map (λ (r : Reading). r.entry) readings ≡ records
+pub record AreReadings (arrivals : List Arrival) (readings : List Reading) : Type 0 where
+  pub of : map (λ (r : Reading). r.arrival) readings ≡ arrivals
   pub each : AllByRecursion IsReading readings
 
-abbrev pub packet_of : Said → Option PacketContent
-packet_of (accepted packet) = Some packet
-packet_of (refused refusal) = None
-packet_of closed = None
+abbrev pub events_in : Said → List Event
+events_in (brings events) = events
+events_in (refused refusal) = []
 
--- the packets that were accepted, in order
-abbrev pub accepted_packets : List Reading → List PacketContent
-accepted_packets readings = filter_map (λ (r : Reading). packet_of r.said) readings
+-- the events that were brought, in order
+abbrev pub events_of : List Reading → List Event
+events_of readings = flat_map (λ (r : Reading). events_in r.said) readings
 
-abbrev pub refusal_text : Feed → ℕ → Said → List ℕ
-refusal_text feed line (accepted packet) = []
-refusal_text feed line (refused refusal) = refusal_line feed line refusal
-refusal_text feed line closed = []
+-- the line of a datagram that was refused
+abbrev pub refusal_text : Arrival → Said → List ℕ
+refusal_text arrival (brings events) = []
+refusal_text arrival (refused refusal) = refusal_line arrival.feed arrival.entry.line refusal
+
+abbrev pub is_on : Feed → Reading → Bool
+is_on feed r = feed_letter r.arrival.feed == feed_letter feed
 
 -- a line for each datagram of a feed that was refused, in order
 abbrev pub refusal_lines : Feed → List Reading → List ℕ
-refusal_lines feed readings = flat_map (λ (r : Reading). refusal_text feed r.entry.line r.said) readings
+refusal_lines feed readings = flat_map (λ (r : Reading). refusal_text r.arrival r.said) (filter (is_on feed) readings)

@@ -1,48 +1,60 @@
 -- What a run has come to after these readings.
-use Rattle.std.specs.Prelude.{◌≡◌, ◌≢◌, ℕ, ◌+◌, List, [], ◌∷◌, ◌++◌, length, map}
+use Rattle.std.specs.Prelude.{◌≡◌, ℕ, List, [], ◌∷◌, ◌++◌}
 use Rattle.mdp_templates.specs.declared.instrument.Instrument.{Instrument}
-use Rattle.mdp_capture.specs.Record.{RecordContent}
+use Rattle.mdp_print.specs.declared.feed.Feed.{Feed}
 use Rattle.mdp_print.specs.declared.feed.Feed.TheVariants as feeds
-use Rattle.mdp_engine.specs.declared.desk.Desk.{Desk}
-use Rattle.mdp_books.specs.Feed.{sent_in}
-use Rattle.mdp_engine.specs.Desks.{passed_desks, passed_text}
-use Rattle.mdp_arbiter.specs.Machine.{Move}
-use Rattle.mdp_arbiter.specs.Machine.Move.{passed}
-use Rattle.mdp_engine.specs.Standing.{Shows}
-use Rattle.mdp_templates.specs.Packet.{PacketContent}
-use Rattle.mdp_pipeline.specs.Reading.{Reading, AreReadings, Said, Says, accepted_packets, refusal_lines}
-use Rattle.mdp_pipeline.specs.Output.{in_turn}
+use Rattle.mdp_arbiter.specs.Accepted.{Event}
+use Rattle.mdp_engine.specs.Engine.{View, Stands}
+use Rattle.mdp_pipeline.specs.Merge.{Arrival}
+use Rattle.mdp_templates.specs.Refused.{Feed as Kind}
+use Rattle.mdp_capture.specs.Record.{Received}
+use Rattle.mdp_pipeline.specs.declared.run.Run.{Run}
+use Rattle.mdp_pipeline.specs.RefusalTexts.{RefusalTexts, with_refusal}
+use Rattle.mdp_pipeline.specs.Reading.{Reading, AreReadings, Said, Says, brings, refused, events_in, events_of, kind_of, refusal_lines}
 
--- the moves that these packets make
-abbrev pub moves_of : List PacketContent → List Move
-moves_of packets = map (λ (p : PacketContent). passed p) packets
+-- the lines of those that these readings refuse
+abbrev pub refusals_of : List Reading → RefusalTexts
+refusals_of readings = record { a = refusal_lines feeds.A readings; b = refusal_lines feeds.B readings; s = refusal_lines feeds.S readings }
 
--- the desks, the text so far, the text of the refusals, and the number that comes next
-pub record HasRun (listed : List Instrument) (readings : List Reading) (desks : List Desk) (text refusals : List ℕ) (next : ℕ) : Type 0 where
-  pub next_is : next ≡ length (in_turn 1 (accepted_packets readings)) + 1
-  pub shows : Shows listed (moves_of (in_turn 1 (accepted_packets readings))) desks text
-  pub refusals_are : refusals ≡ refusal_lines feeds.A readings
+abbrev pub after_said : Feed → ℕ → Said → RefusalTexts → RefusalTexts
+after_said feed line (brings events) texts = texts
+after_said feed line (refused refusal) texts = with_refusal feed line refusal texts
+
+-- Events were taken in, and the lines that they owe stand behind the text: wherever the engine stood, after whatever
+-- text was sent before, it stands at these events more.
+pub record GoesOn (events : List Event) (engine : View) (text : List ℕ) (engine' : View) (text' : List ℕ) : Type 0 where
+  pub stands : (listed : List Instrument) (before : List Event) (sent : List ℕ) → Stands listed before (sent ++ text) engine → Stands listed (before ++ events) (sent ++ text') engine'
+  pub drained : engine.held ≡ [] → engine'.held ≡ []
+  pub room : engine'.arbiter.room ≡ engine.arbiter.room
+
+-- a run has taken in what came on a feed of this kind, as it says
+pub record TakesAs {A : Type 0} (kind : Kind) (feed : Feed) (line : ℕ) (received : Received) (old new : Run A) : Type 0 where
+  pub said : Said
+  pub says : Says kind received said
+  pub goes : GoesOn (events_in said) old.engine old.text.items new.engine new.text.items
+  pub refusals : new.refusals ≡ after_said feed line said old.refusals
+
+-- the engine stands at the events of these readings after the text so far, and holds no line back
+pub record HasRun (listed : List Instrument) (room : ℕ) (readings : List Reading) (engine : View) (text : List ℕ) (refusals : RefusalTexts) : Type 0 where
+  pub stands : Stands listed (events_of readings) text engine
+  pub drained : engine.held ≡ []
+  pub covers : engine.arbiter.room ≡ room
+  pub refusals_are : refusals ≡ refusals_of readings
 
 -- a record more, and what it says
-pub record HasRead (listed : List Instrument) (readings : List Reading) (entry : RecordContent) (desks : List Desk) (text refusals : List ℕ) (next : ℕ) : Type 0 where
+pub record HasRead (listed : List Instrument) (room : ℕ) (readings : List Reading) (arrival : Arrival) (engine : View) (text : List ℕ) (refusals : RefusalTexts) : Type 0 where
   pub said : Said
-  pub says : Says entry.received said
-  pub run : HasRun listed (readings ++ (record { entry = entry; said = said }) ∷ []) desks text refusals next
+  pub says : Says (kind_of arrival.feed) arrival.entry.received said
+  pub run : HasRun listed room (readings ++ (record { arrival = arrival; said = said }) ∷ []) engine text refusals
 
 -- a run over these records
-pub record RunsOver (listed : List Instrument) (records : List RecordContent) (desks : List Desk) (text refusals : List ℕ) (next : ℕ) : Type 0 where
+pub record RunsOver (listed : List Instrument) (room : ℕ) (arrivals : List Arrival) (engine : View) (text : List ℕ) (refusals : RefusalTexts) : Type 0 where
   pub readings : List Reading
-  pub are : AreReadings records readings
-  pub run : HasRun listed readings desks text refusals next
-
--- what a packet that arrives makes of the desks, the text and the number that comes next: it passes where its number
--- comes next, and else it is passed over
-pub data Arrives (packet : PacketContent) (desks : List Desk) (text : List ℕ) (next : ℕ) (desks' : List Desk) (text' : List ℕ) (next' : ℕ) : Type 0 where
-  in_its_turn : packet.number ≡ next → desks' ≡ passed_desks (sent_in packet) desks → text' ≡ text ++ passed_text (sent_in packet) desks → next' ≡ next + 1 → Arrives packet desks text next desks' text' next'
-  out_of_turn : packet.number ≢ next → desks' ≡ desks → text' ≡ text → next' ≡ next → Arrives packet desks text next desks' text' next'
+  pub are : AreReadings arrivals readings
+  pub run : HasRun listed room readings engine text refusals
 
 -- a run over these records whose text went out as far as the writer took it; the rest is held
-pub record Writes (listed : List Instrument) (records : List RecordContent) (start taken : List ℕ) (desks : List Desk) (held refusals : List ℕ) (next : ℕ) : Type 0 where
+pub record Writes (listed : List Instrument) (room : ℕ) (arrivals : List Arrival) (start taken : List ℕ) (engine : View) (held : List ℕ) (refusals : RefusalTexts) : Type 0 where
   pub sent : List ℕ
   pub taken_is : taken ≡ start ++ sent
-  pub over : RunsOver listed records desks (sent ++ held) refusals next
+  pub over : RunsOver listed room arrivals engine (sent ++ held) refusals

@@ -1,20 +1,19 @@
 //! A run on one thread, in the order of the capture's lines.
 
-ghost use Rattle.std.specs.Prelude.{◌≡◌, ◌<◌, ◌^◌, ◌-◌, ◌++◌, [], ℕ, List, IfOk, IfErr, OnOk, MatchResult};
+ghost use Rattle.std.specs.Prelude.{◌≡◌, ◌≤◌, ◌<◌, ◌^◌, ◌-◌, ◌++◌, [], ℕ, List, IfOk, IfErr, OnOk};
 ghost use Rattle.mdp_templates.specs.Instrument.{AreFit};
 ghost use Rattle.mdp_pipeline.specs.Counted.{HasCounted, written_before};
 ghost use Rattle.mdp_pipeline.specs.Faults.{FailsBy};
 ghost use Rattle.mdp_pipeline.specs.Output.{Prints};
-ghost use Rattle.std.specs.Prelude.{false};
-ghost use Rattle.mdp_print.specs.Texts.{last_line};
 ghost use Rattle.mdp_pipeline.specs.Running.{Writes};
 ghost use Rattle.mdp_templates.specs.declared.instrument.Instrument.{Instrument};
-ghost use Rattle.mdp_capture.specs.Record.{RecordContent};
+ghost use Rattle.mdp_pipeline.specs.Merge.{Arrival, in_order};
 
+use crate::merge::InOrder;
 use crate::run::Run;
 use crate::summary::{RunFault, Summary};
 use mdp_capture::Record;
-use mdp_print::{CountedWrite, put_last, write_all_counted};
+use mdp_print::{CountedWrite, write_all_counted};
 use mdp_templates::Instrument;
 use std::alloc::Allocator;
 
@@ -47,15 +46,15 @@ fn hand_on<W: CountedWrite, A: Allocator>(
 }
 
 // Writes the text so far where it is large enough.
-fn hand_on_pieces<W: CountedWrite, A: Allocator>(
+fn hand_on_pieces<W: CountedWrite, A: Allocator + Copy>(
     writer: &mut W,
     run: &mut Run<A>,
     written: &mut u64,
 ) -> Result<(), RunFault>
     requires { W.failed writer.old < 2 ^ 64 - 1 }
-    ensures writes { OnOk result ((listed : List Instrument) (records : List RecordContent) (start : List ℕ) →
-        Writes listed records start (W.taken writer.old) run.old.desks run.old.text.items run.old.refusals.items run.old.next →
-        Writes listed records start (W.taken writer.new) run.new.desks run.new.text.items run.new.refusals.items run.new.next) }
+    ensures writes { OnOk result ((listed : List Instrument) (room : ℕ) (arrivals : List Arrival) (start : List ℕ) →
+        Writes listed room arrivals start (W.taken writer.old) run.old.engine run.old.text.items run.old.refusals →
+        Writes listed room arrivals start (W.taken writer.new) run.new.engine run.new.text.items run.new.refusals) }
     ensures counts { OnOk result ((start : List ℕ) → HasCounted start (W.taken writer.old) written.old → HasCounted start (W.taken writer.new) written.new) }
     ensures told { IfErr result (λ fault. (start : List ℕ) → HasCounted start (W.taken writer.old) written.old → HasCounted start (W.taken writer.new) (written_before fault)) }
     ensures failed { FailsBy result (W.failed writer.old) (W.failed writer.new) }
@@ -66,9 +65,12 @@ fn hand_on_pieces<W: CountedWrite, A: Allocator>(
     Ok(())
 }
 
-/// Runs over the records of the feeds on one thread, in the order of the capture's lines, and writes what is owed.
-/// Until two feeds are arbitrated, feed A is read alone, its packets pass in number order, and the window is not
-/// looked at. `Output` is answered exactly where a write failed.
+/// Runs over the records of the feeds on one thread, in the order of the capture's lines, and writes what is owed; of
+/// equal lines feed A's record goes before B's, and B's before S's. The window covers 1 to 65536 packet numbers.
+///
+/// # Errors
+///
+/// `Output` exactly where a write failed, else `Memory`.
 pub fn run_in_order<W: CountedWrite, A: Allocator + Copy>(
     alloc: A,
     instruments: &[Instrument],
@@ -80,18 +82,21 @@ pub fn run_in_order<W: CountedWrite, A: Allocator + Copy>(
 ) -> Result<Summary, RunFault>
     requires sound { W.failed writer.old < 2 ^ 64 - 1 }
     requires fit { AreFit instruments.now }
-    requires one_feed { (b.now ≡ []) × (s.now ≡ []) }
-    ensures text { IfOk result (λ summary. (text : List ℕ) × (W.taken writer.new ≡ W.taken writer.old ++ text) × Prints instruments.now a.now text summary.next) }
-    ensures summary { IfOk result (λ summary. (summary.lost ≡ false) × HasCounted (W.taken writer.old) (W.taken writer.new) summary.written) }
+    requires least { 1 ≤ window }
+    requires most { window ≤ 65536 }
+    ensures text { IfOk result (λ summary. (text : List ℕ) × (W.taken writer.new ≡ W.taken writer.old ++ text)
+        × Prints instruments.now window (in_order a.now b.now s.now) text summary.next summary.lost) }
+    ensures written { IfOk result (λ summary. HasCounted (W.taken writer.old) (W.taken writer.new) summary.written) }
     ensures told { IfErr result (λ fault. HasCounted (W.taken writer.old) (W.taken writer.new) (written_before fault)) }
     ensures failed { FailsBy result (W.failed writer.old) (W.failed writer.new) }
 {
     let mut written = 0;
-    let Ok(mut run) = Run::new(alloc, instruments) else {
+    let Ok(mut run) = Run::new(alloc, instruments, window) else {
         return Err(RunFault::Memory { written });
     };
-    for record in a {
-        let Ok(()) = run.take(alloc, record) else {
+    let mut records = InOrder { a, b, s };
+    while let Some((feed, record)) = records.next() {
+        let Ok(()) = run.take(alloc, feed, record) else {
             return Err(RunFault::Memory { written });
         };
         hand_on_pieces(writer, &mut run, &mut written)?;
@@ -106,27 +111,28 @@ fn finish<W: CountedWrite, A: Allocator + Copy>(
     mut written: u64,
 ) -> Result<Summary, RunFault>
     requires { W.failed writer.old < 2 ^ 64 - 1 }
-    ensures taken { OnOk result (W.taken writer.new ≡ W.taken writer.old ++ (run.text.items ++ (run.refusals.items ++ last_line run.next false))) }
-    ensures next { IfOk result (λ summary. summary.next ≡ run.next) }
-    ensures lost { IfOk result (λ summary. summary.lost ≡ false) }
+    ensures text { IfOk result (λ summary. (listed : List Instrument) (room : ℕ) (arrivals : List Arrival) (start : List ℕ) →
+        Writes listed room arrivals start (W.taken writer.old) run.engine run.text.items run.refusals →
+        (text : List ℕ) × (W.taken writer.new ≡ start ++ text) × Prints listed room arrivals text summary.next summary.lost) }
     ensures counts { IfOk result (λ summary. (start : List ℕ) → HasCounted start (W.taken writer.old) written → HasCounted start (W.taken writer.new) summary.written) }
     ensures told { IfErr result (λ fault. (start : List ℕ) → HasCounted start (W.taken writer.old) written → HasCounted start (W.taken writer.new) (written_before fault)) }
     ensures failed { FailsBy result (W.failed writer.old) (W.failed writer.new) }
 {
     let Run {
-        desks: _,
+        engine,
         mut text,
-        mut refusals,
-        next,
+        refusals,
     } = run;
-    let Ok(()) = put_last(&mut refusals, next, false) else {
+    let next = engine.next();
+    let lost = engine.lost();
+    let Ok(mut end) = refusals.into_end(next, lost) else {
         return Err(RunFault::Memory { written });
     };
     hand_on(writer, &mut text, &mut written)?;
-    hand_on(writer, &mut refusals, &mut written)?;
+    hand_on(writer, &mut end, &mut written)?;
     Ok(Summary {
         next,
-        lost: false,
+        lost,
         written,
     })
 }

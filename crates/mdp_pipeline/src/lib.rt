@@ -2,6 +2,8 @@
 #![tactic(auto)]
 
 mod in_order;
+mod merge;
+mod refusals;
 mod run;
 mod summary;
 

@@ -1,45 +1,57 @@
-use Rattle.std.proofs.Common.{◌≡◌, ◌∙◌, ℕ, List, take, subst, arith, [], refl}
-use Rattle.std.proofs.lemmas.List.{take_all}
+use Rattle.std.proofs.Common.{◌∙◌, refl}
 use Rattle.std.proofs.lemmas.Result.{err_from_is_err_and}
-use Rattle.mdp_capture.specs.Record.{RecordContent}
-use Rattle.mdp_pipeline.specs.Faults.{FailsBy}
-use Rattle.mdp_pipeline.specs.Running.{Writes}
-use Rattle.mdp_pipeline.proofs.Turns.{writes_none, writes_more, run_written, run_counted, fault_counted, counted_none}
+use Rattle.mdp_pipeline.specs.Merge.{in_order}
+use Rattle.mdp_pipeline.proofs.Written.{taken_none, taken_more, taken_all, run_printed, run_counted, fault_counted, counted_none}
 use Rattle.mdp_pipeline.proofs.in_order.run_in_order.Goals as goal
 
-pub loop-record-init : goal.loop-record-init
-loop-record-init g c =
+pub loop-feed-init : goal.loop-feed-init
+loop-feed-init g c =
     let run = c.in-Ok.run' in
+    let start = g.W.CountedWrite.taken c.args.writer.now in
     record {
-      writes = writes_none c.args.instruments.now [] (g.W.CountedWrite.taken c.args.writer.now) run.desks run.text.items run.refusals.items run.next c.in-Ok.ensures.run;
-      counts = counted_none (g.W.CountedWrite.taken c.args.writer.now);
+      taken = taken_none c.args.instruments.now c.args.window c.args.a.now c.args.b.now c.args.s.now start run.engine run.text.items run.refusals c.in-Ok.ensures.empty c.in-Ok.ensures.run;
+      counts = counted_none start;
       failed = refl;
     }
 
-pub loop-record-preserved : goal.loop-record-preserved
-loop-record-preserved g c = record {
-  writes = c.in_ok-hand_on_pieces.ensures.writes _ _ _
-      (writes_more c.args.instruments.now c.args.a.now c.loop-record.record-index c.record-item.result _ _ _ _ _ _ _ _ _ _ c.loop-record-test.true c.record-item.is (c.in-Ok-take.ensures c.args.instruments.now) c.loop-record.invariant.writes);
-  counts = c.in_ok-hand_on_pieces.ensures.counts _ c.loop-record.invariant.counts;
-  failed = c.in_ok-hand_on_pieces.ensures.failed ∙ c.loop-record.invariant.failed;
-}
-
-pub returns : goal.returns
-returns g c =
-    let all : take c.loop-record.record-index c.args.a.now ≡ c.args.a.now = take_all c.loop-record.record-index c.args.a.now (omega arith) in
+pub loop-feed-preserved : goal.loop-feed-preserved
+loop-feed-preserved g c =
+    let listed = c.args.instruments.now in
     let start = g.W.CountedWrite.taken c.args.writer.now in
-    let taken = g.W.CountedWrite.taken c.loop-record.writer in
-    let run = c.loop-record.run in
-    let writes = subst (λ (rs : List RecordContent). Writes c.args.instruments.now rs start taken run.desks run.text.items run.refusals.items run.next) all c.loop-record.invariant.writes in
-    let failed = subst (λ (n : ℕ). FailsBy c.finish.result n (g.W.CountedWrite.failed c.finish.new.writer)) c.loop-record.invariant.failed c.finish.ensures.failed in
+    let here = c.loop-feed.records in
+    let there = c.next.new.self in
     record {
-      failed = failed;
-      summary = run_counted start taken (g.W.CountedWrite.taken c.finish.new.writer) c.loop-record.written c.finish.result c.finish.ensures.lost c.finish.ensures.counts c.loop-record.invariant.counts;
-      told = fault_counted start taken (g.W.CountedWrite.taken c.finish.new.writer) c.loop-record.written c.finish.result c.finish.ensures.told c.loop-record.invariant.counts;
-      text = run_written c.args.instruments.now c.args.a.now start taken (g.W.CountedWrite.taken c.finish.new.writer) run.desks run.text.items run.refusals.items run.next c.finish.result c.finish.ensures.taken c.finish.ensures.next writes;
+      taken = taken_more listed c.args.window c.args.a.now c.args.b.now c.args.s.now start (g.W.CountedWrite.taken c.loop-feed.writer) (g.W.CountedWrite.taken c.hand_on_pieces.new.writer)
+          c.loop-feed.run c.take.new.self c.hand_on_pieces.new.run here.a.now here.b.now here.s.now there.a.now there.b.now there.s.now c.in-Some.feed c.in-Some.record.now
+          c.in-Some.ensures c.in-Ok-take.ensures (λ arrivals. c.in_ok-hand_on_pieces.ensures.writes listed c.args.window arrivals start) c.loop-feed.invariant.taken;
+      counts = c.in_ok-hand_on_pieces.ensures.counts start c.loop-feed.invariant.counts;
+      failed = c.in_ok-hand_on_pieces.ensures.failed ∙ c.loop-feed.invariant.failed;
     }
 
 pub returns-in_err-hand_on_pieces-clause-told : goal.returns-in_err-hand_on_pieces-clause-told
 returns-in_err-hand_on_pieces-clause-told g c =
     let fault = err_from_is_err_and c.from_residual.result c.from_residual.ensures.1 in
-    rw (fault.1, fault.2) (c.in_err-hand_on_pieces.ensures.told _ c.loop-record.invariant.counts)
+    rw (fault.1, fault.2) (c.in_err-hand_on_pieces.ensures.told _ c.loop-feed.invariant.counts)
+
+pub returns-in_err-hand_on_pieces-clause-failed : goal.returns-in_err-hand_on_pieces-clause-failed
+returns-in_err-hand_on_pieces-clause-failed g c =
+    let fault = err_from_is_err_and c.from_residual.result c.from_residual.ensures.1 in
+    rw (fault.1, fault.2) (rw (← c.loop-feed.invariant.failed) c.in_err-hand_on_pieces.ensures.failed)
+
+pub returns-clause-text : goal.returns-clause-text
+returns-clause-text g c =
+    let listed = c.args.instruments.now in
+    let start = g.W.CountedWrite.taken c.args.writer.now in
+    let taken = g.W.CountedWrite.taken c.loop-feed.writer in
+    let run = c.loop-feed.run in
+    let here = c.loop-feed.records in
+    let writes = taken_all listed c.args.window c.args.a.now c.args.b.now c.args.s.now start taken run.engine run.text.items run.refusals here.a.now here.b.now here.s.now c.in_default-next.ensures c.loop-feed.invariant.taken in
+    run_printed listed c.args.window (in_order c.args.a.now c.args.b.now c.args.s.now) start taken (g.W.CountedWrite.taken c.finish.new.writer) run.engine run.text.items run.refusals c.finish.result c.finish.ensures.text writes
+
+pub returns-clause-written : goal.returns-clause-written
+returns-clause-written g c =
+    run_counted (g.W.CountedWrite.taken c.args.writer.now) (g.W.CountedWrite.taken c.loop-feed.writer) (g.W.CountedWrite.taken c.finish.new.writer) c.loop-feed.written c.finish.result c.finish.ensures.counts c.loop-feed.invariant.counts
+
+pub returns-clause-told : goal.returns-clause-told
+returns-clause-told g c =
+    fault_counted (g.W.CountedWrite.taken c.args.writer.now) (g.W.CountedWrite.taken c.loop-feed.writer) (g.W.CountedWrite.taken c.finish.new.writer) c.loop-feed.written c.finish.result c.finish.ensures.told c.loop-feed.invariant.counts

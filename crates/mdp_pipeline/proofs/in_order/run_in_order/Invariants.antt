@@ -1,12 +1,16 @@
-use Rattle.std.proofs.Common.{◌≡◌, take}
+use Rattle.std.proofs.Common.{◌≡◌, length}
 use Rattle.mdp_pipeline.specs.Counted.{HasCounted}
-use Rattle.mdp_pipeline.specs.Running.{Writes}
+use Rattle.mdp_pipeline.specs.Merge.{in_order}
+use Rattle.mdp_pipeline.proofs.Written.{HasTaken}
 use Rattle.mdp_pipeline.proofs.in_order.run_in_order.Given as goal
 
--- the run is over the first records, and no write has failed
-abbrev pub invariant-loop-record : goal.invariant-loop-record
-invariant-loop-record g l = record {
-  writes : Writes l.instruments (take l.record-index l.a) (g.W.CountedWrite.taken l.fn.writer) (g.W.CountedWrite.taken l.writer) l.run.desks l.run.text.items l.run.refusals.items l.run.next;
+-- the run is over the records so far in the order of their lines, and no write has failed
+abbrev pub invariant-loop-feed : goal.invariant-loop-feed
+invariant-loop-feed g l = record {
+  taken : HasTaken l.instruments l.window l.fn.a l.fn.b l.fn.s (g.W.CountedWrite.taken l.fn.writer) (g.W.CountedWrite.taken l.writer) l.run.engine l.run.text.items l.run.refusals l.records.a.now l.records.b.now l.records.s.now;
   counts : HasCounted (g.W.CountedWrite.taken l.fn.writer) (g.W.CountedWrite.taken l.writer) l.written;
   failed : g.W.CountedWrite.failed l.writer ≡ g.W.CountedWrite.failed l.fn.writer;
 }
+
+abbrev pub decreases-loop-feed : goal.decreases-loop-feed
+decreases-loop-feed g l = length (in_order l.records.a.now l.records.b.now l.records.s.now)

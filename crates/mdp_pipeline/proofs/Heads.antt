@@ -1,0 +1,79 @@
+-- Which record comes next in the order of the lines.
+use Rattle.std.proofs.Common.{◌≡◌, ℕ, Bool, true, false, cond, List, [], ◌∷◌, Option, Some, None, refl, sym, ap, ◌∙◌}
+use Rattle.mdp_capture.specs.Record.{RecordContent}
+use Rattle.mdp_print.specs.declared.feed.Feed.{Feed}
+use Rattle.mdp_print.specs.declared.feed.Feed.TheVariants as feeds
+use Rattle.mdp_pipeline.specs.Merge.{Arrival, arrivals, merged, in_order, head_line, is_first, first_feed}
+
+-- ---- two lists
+
+abbrev line_of : List Arrival → Option ℕ
+line_of [] = None
+line_of (x ∷ xs) = Some x.entry.line
+
+merged-nil : (xs : List Arrival) → merged xs [] ≡ xs
+merged-nil [] = refl
+merged-nil (x ∷ xs) = refl
+
+merged_left : (x : Arrival) (xs ys : List Arrival) → is_first (Some x.entry.line) (line_of ys) ≡ true → merged (x ∷ xs) ys ≡ x ∷ merged xs ys
+merged_left x xs [] first = ap (λ (t : List Arrival). x ∷ t) (sym (merged-nil xs))
+merged_left x xs (y ∷ ys) first = ap (λ (b : Bool). cond b (x ∷ merged xs (y ∷ ys)) (y ∷ merged (x ∷ xs) ys)) first
+
+merged_right : (xs : List Arrival) (y : Arrival) (ys : List Arrival) → is_first (line_of xs) (Some y.entry.line) ≡ false → merged xs (y ∷ ys) ≡ y ∷ merged xs ys
+merged_right [] y ys later = refl
+merged_right (x ∷ xs) y ys later = ap (λ (b : Bool). cond b (x ∷ merged xs (y ∷ ys)) (y ∷ merged (x ∷ xs) ys)) later
+
+lesser_line : (xs ys : List Arrival) (b : Bool) → is_first (line_of xs) (line_of ys) ≡ b → line_of (merged xs ys) ≡ cond b (line_of xs) (line_of ys)
+lesser_line [] ys true is = absurd cc
+lesser_line [] ys false is = refl
+lesser_line (x ∷ xs) ys true is = ap line_of (merged_left x xs ys is)
+lesser_line (x ∷ xs) [] false is = absurd cc
+lesser_line (x ∷ xs) (y ∷ ys) false is = ap line_of (merged_right (x ∷ xs) y ys is)
+
+-- ---- records of a feed
+
+line-arrivals : (feed : Feed) (rs : List RecordContent) → line_of (arrivals feed rs) ≡ head_line rs
+line-arrivals feed [] = refl
+line-arrivals feed (r ∷ rs) = refl
+
+-- ---- three lists
+
+not_a : (bs : Bool) → cond bs feeds.B feeds.S ≡ feeds.A → ⊥
+not_a true e = absurd cc
+not_a false e = absurd cc
+
+not_b : (sa : Bool) → cond sa feeds.A feeds.S ≡ feeds.B → ⊥
+not_b true e = absurd cc
+not_b false e = absurd cc
+
+first_a : (x : RecordContent) (xs b s : List RecordContent) (ab sa bs : Bool) → is_first (Some x.line) (head_line b) ≡ ab → is_first (Some x.line) (head_line s) ≡ sa
+    → cond ab (cond sa feeds.A feeds.S) (cond bs feeds.B feeds.S) ≡ feeds.A → in_order (x ∷ xs) b s ≡ (record { feed = feeds.A; entry = x }) ∷ in_order xs b s
+first_a x xs b s true true bs before_b before_s found =
+    let r : Arrival = record { feed = feeds.A; entry = x } in
+    let rest = arrivals feeds.A xs in
+    let others = arrivals feeds.B b in
+    let snapshots = arrivals feeds.S s in
+    ap (λ (t : List Arrival). merged t snapshots) (merged_left r rest others (ap (is_first (Some x.line)) (line-arrivals feeds.B b) ∙ before_b))
+    ∙ merged_left r (merged rest others) snapshots (ap (is_first (Some x.line)) (line-arrivals feeds.S s) ∙ before_s)
+first_a x xs b s true false bs before_b before_s found = absurd cc
+first_a x xs b s false sa bs before_b before_s found = absurd (not_a bs found)
+
+pub next_is_a : (x : RecordContent) (xs b s : List RecordContent) → first_feed (Some x.line) (head_line b) (head_line s) ≡ feeds.A
+    → in_order (x ∷ xs) b s ≡ (record { feed = feeds.A; entry = x }) ∷ in_order xs b s
+next_is_a x xs b s found = first_a x xs b s (is_first (Some x.line) (head_line b)) (is_first (Some x.line) (head_line s)) (is_first (head_line b) (head_line s)) refl refl found
+
+first_b : (a : List RecordContent) (y : RecordContent) (ys s : List RecordContent) (ab sa bs : Bool) → is_first (head_line a) (Some y.line) ≡ ab → is_first (Some y.line) (head_line s) ≡ bs
+    → cond ab (cond sa feeds.A feeds.S) (cond bs feeds.B feeds.S) ≡ feeds.B → in_order a (y ∷ ys) s ≡ (record { feed = feeds.B; entry = y }) ∷ in_order a ys s
+first_b a y ys s true sa bs before_b before_s found = absurd (not_b sa found)
+first_b a y ys s false sa true before_b before_s found =
+    let r : Arrival = record { feed = feeds.B; entry = y } in
+    let others = arrivals feeds.A a in
+    let rest = arrivals feeds.B ys in
+    let snapshots = arrivals feeds.S s in
+    ap (λ (t : List Arrival). merged t snapshots) (merged_right others r rest (ap (λ (l : Option ℕ). is_first l (Some y.line)) (line-arrivals feeds.A a) ∙ before_b))
+    ∙ merged_left r (merged others rest) snapshots (ap (is_first (Some y.line)) (line-arrivals feeds.S s) ∙ before_s)
+first_b a y ys s false sa false before_b before_s found = absurd cc
+
+pub next_is_b : (a : List RecordContent) (y : RecordContent) (ys s : List RecordContent) → first_feed (head_line a) (Some y.line) (head_line s) ≡ feeds.B
+    → in_order a (y ∷ ys) s ≡ (record { feed = feeds.B; entry = y }) ∷ in_order a ys s
+next_is_b a y ys s found = first_b a y ys s (is_first (head_line a) (Some y.line)) (is_first (head_line a) (head_line s)) (is_first (Some y.line) (head_line s)) refl refl found

@@ -1,0 +1,244 @@
+-- What a run has written, record by record.
+use Rattle.std.proofs.Common.{◌≡◌, ℕ, ◌+◌, ◌<◌, Bool, true, false, cond, List, [], ◌∷◌, ◌++◌, map, take, length, get_or, refl, sym, ap, subst, ◌∙◌, append_assoc, arith}
+use Rattle.std.specs.Prelude.{Result, Ok, Err, IfOk, IfErr, ◌^◌, ◌-◌}
+use Rattle.std.specs.List.{AllByRecursion, filter, flat_map}
+use Rattle.std.proofs.Math.Nat.{zero-min}
+use Rattle.std.proofs.lemmas.List.{append-nil, map-append, take_more}
+use Rattle.std.proofs.lemmas.List.Elements.{filter-append}
+use Rattle.std.proofs.lemmas.List.Concat.{flat_map-append}
+use Rattle.mdp_templates.specs.Snapshot.{SnapshotContent}
+use Rattle.mdp_templates.specs.declared.instrument.Instrument.{Instrument}
+use Rattle.mdp_print.specs.Texts.{last_line}
+use Rattle.mdp_print.specs.declared.feed.Feed.{Feed}
+use Rattle.mdp_print.specs.declared.feed.Feed.TheVariants as feeds
+use Rattle.mdp_capture.specs.Record.{RecordContent}
+use Rattle.mdp_arbiter.specs.Accepted.{Event, recovered}
+use Rattle.mdp_arbiter.specs.Machine.{state_at, trace, is_lost}
+use Rattle.mdp_arbiter.specs.Slots.{ids_of}
+use Rattle.mdp_engine.specs.Engine.{View, Stands}
+use Rattle.mdp_engine.specs.Lines.{lines}
+use Rattle.mdp_engine.specs.Shown.{steps_of}
+use Rattle.mdp_engine.proofs.Under.{stands_owed}
+use Rattle.mdp_pipeline.specs.declared.run.Run.{Run}
+use Rattle.mdp_pipeline.specs.declared.summary.Summary.{Summary}
+use Rattle.mdp_pipeline.specs.declared.summary.RunFault.{RunFault}
+use Rattle.mdp_pipeline.specs.Counted.{HasCounted, counted, written_before}
+use Rattle.mdp_pipeline.specs.Merge.{Arrival, in_order}
+use Rattle.mdp_pipeline.specs.Reading.{Reading, Said, brings, refused, IsReading, AreReadings, events_in, events_of, is_on, kind_of, refusal_lines, refusal_text}
+use Rattle.mdp_pipeline.specs.Output.{Prints, all_refusal_lines, is_lost_after, next_after}
+use Rattle.mdp_pipeline.specs.RefusalTexts.{RefusalTexts}
+use Rattle.mdp_pipeline.specs.Running.{GoesOn, HasRun, RunsOver, TakesAs, Writes, after_said, refusals_of}
+use Rattle.mdp_pipeline.proofs.Taking.{goes_more}
+
+-- ---- a reading more
+
+abbrev reading_of : Arrival → Said → Reading
+reading_of arrival said = record { arrival = arrival; said = said }
+
+each-push : (readings : List Reading) (reading : Reading) → AllByRecursion IsReading readings → IsReading reading → AllByRecursion IsReading (readings ++ reading ∷ [])
+each-push [] reading each is = (is, tt)
+each-push (r ∷ readings) reading each is = (each.0, each-push readings reading each.1 is)
+
+readings-push : (arrivals : List Arrival) (readings : List Reading) (reading : Reading) → AreReadings arrivals readings → IsReading reading → AreReadings (arrivals ++ reading.arrival ∷ []) (readings ++ reading ∷ [])
+readings-push arrivals readings reading are is = record {
+  of = map-append (λ (r : Reading). r.arrival) readings (reading ∷ []) ∙ ap (λ (t : List Arrival). t ++ reading.arrival ∷ []) are.of;
+  each = each-push readings reading are.each is;
+}
+
+events-push : (readings : List Reading) (reading : Reading) → events_of (readings ++ reading ∷ []) ≡ events_of readings ++ events_in reading.said
+events-push readings reading =
+    flat_map-append (λ (r : Reading). events_in r.said) readings (reading ∷ [])
+    ∙ ap (λ (t : List Event). events_of readings ++ t) (append-nil (events_in reading.said))
+
+-- the lines of one feed
+abbrev flat_text : List Reading → List ℕ
+flat_text readings = flat_map (λ (r : Reading). refusal_text r.arrival r.said) readings
+
+line_if : (reading : Reading) (b : Bool) → flat_text (cond b (reading ∷ []) []) ≡ cond b (refusal_text reading.arrival reading.said) []
+line_if reading true = append-nil (refusal_text reading.arrival reading.said)
+line_if reading false = refl
+
+lines-push : (feed : Feed) (readings : List Reading) (reading : Reading) → refusal_lines feed (readings ++ reading ∷ []) ≡ refusal_lines feed readings ++ cond (is_on feed reading) (refusal_text reading.arrival reading.said) []
+lines-push feed readings reading =
+    ap flat_text (filter-append (is_on feed) readings (reading ∷ []))
+    ∙ flat_map-append (λ (r : Reading). refusal_text r.arrival r.said) (filter (is_on feed) readings) (filter (is_on feed) (reading ∷ []))
+    ∙ ap (λ (t : List ℕ). refusal_lines feed readings ++ t) (line_if reading (is_on feed reading))
+
+nothing_if : (text : List ℕ) (b : Bool) → text ++ cond b [] [] ≡ text
+nothing_if text true = append-nil text
+nothing_if text false = append-nil text
+
+same_texts : (a b s a' b' s' : List ℕ) → a ≡ a' → b ≡ b' → s ≡ s' → (let t : RefusalTexts = record { a = a; b = b; s = s } in t) ≡ record { a = a'; b = b'; s = s' }
+same_texts a b s a' b' s' p q r = rw (p, q, r) refl
+
+refusals-push : (readings : List Reading) (feed : Feed) (entry : RecordContent) (said : Said) → refusals_of (readings ++ reading_of (record { feed = feed; entry = entry }) said ∷ []) ≡ after_said feed entry.line said (refusals_of readings)
+refusals-push readings feed entry (brings events) =
+    let r = reading_of (record { feed = feed; entry = entry }) (brings events) in
+    same_texts _ _ _ _ _ _
+    (lines-push feeds.A readings r ∙ nothing_if (refusal_lines feeds.A readings) (is_on feeds.A r))
+    (lines-push feeds.B readings r ∙ nothing_if (refusal_lines feeds.B readings) (is_on feeds.B r))
+    (lines-push feeds.S readings r ∙ nothing_if (refusal_lines feeds.S readings) (is_on feeds.S r))
+refusals-push readings feeds.A entry (refused refusal) =
+    let r = reading_of (record { feed = feeds.A; entry = entry }) (refused refusal) in
+    same_texts _ _ _ _ _ _ (lines-push feeds.A readings r) (lines-push feeds.B readings r ∙ append-nil (refusal_lines feeds.B readings)) (lines-push feeds.S readings r ∙ append-nil (refusal_lines feeds.S readings))
+refusals-push readings feeds.B entry (refused refusal) =
+    let r = reading_of (record { feed = feeds.B; entry = entry }) (refused refusal) in
+    same_texts _ _ _ _ _ _ (lines-push feeds.A readings r ∙ append-nil (refusal_lines feeds.A readings)) (lines-push feeds.B readings r) (lines-push feeds.S readings r ∙ append-nil (refusal_lines feeds.S readings))
+refusals-push readings feeds.S entry (refused refusal) =
+    let r = reading_of (record { feed = feeds.S; entry = entry }) (refused refusal) in
+    same_texts _ _ _ _ _ _ (lines-push feeds.A readings r ∙ append-nil (refusal_lines feeds.A readings)) (lines-push feeds.B readings r ∙ append-nil (refusal_lines feeds.B readings)) (lines-push feeds.S readings r)
+
+-- a record more
+read_more : {A : Type 0} (listed : List Instrument) (room : ℕ) (readings : List Reading) (feed : Feed) (entry : RecordContent) (sent : List ℕ) (old new : Run A)
+    → (takes : TakesAs (kind_of feed) feed entry.line entry.received old new) → HasRun listed room readings old.engine (sent ++ old.text.items) old.refusals
+    → HasRun listed room (readings ++ reading_of (record { feed = feed; entry = entry }) takes.said ∷ []) new.engine (sent ++ new.text.items) new.refusals
+read_more listed room readings feed entry sent old new takes run =
+    let reading = reading_of (record { feed = feed; entry = entry }) takes.said in
+    record {
+      stands = subst (λ (es : List Event). Stands listed es (sent ++ new.text.items) new.engine) (sym (events-push readings reading)) (takes.goes.stands listed (events_of readings) sent run.stands);
+      drained = takes.goes.drained run.drained;
+      covers = takes.goes.room ∙ run.covers;
+      refusals_are = takes.refusals ∙ ap (after_said feed entry.line takes.said) run.refusals_are ∙ sym (refusals-push readings feed entry takes.said);
+    }
+
+-- ---- what went out
+
+pub writes_none : (listed : List Instrument) (room : ℕ) (taken : List ℕ) (engine : View) (text : List ℕ) (refusals : RefusalTexts) → text ≡ [] → HasRun listed room [] engine [] refusals → Writes listed room [] taken taken engine text refusals
+writes_none listed room taken engine text refusals empty run = record {
+  sent = [];
+  taken_is = sym (append-nil taken);
+  over = record { readings = []; are = record { of = refl; each = tt }; run = subst (λ (t : List ℕ). HasRun listed room [] engine t refusals) (sym empty) run };
+}
+
+pub writes_more : {A : Type 0} (listed : List Instrument) (room : ℕ) (arrivals : List Arrival) (feed : Feed) (entry : RecordContent) (start taken : List ℕ) (old new : Run A)
+    → TakesAs (kind_of feed) feed entry.line entry.received old new → Writes listed room arrivals start taken old.engine old.text.items old.refusals
+    → Writes listed room (arrivals ++ (record { feed = feed; entry = entry }) ∷ []) start taken new.engine new.text.items new.refusals
+writes_more listed room arrivals feed entry start taken old new takes so_far = record {
+  sent = so_far.sent;
+  taken_is = so_far.taken_is;
+  over = record {
+    readings = so_far.over.readings ++ reading_of (record { feed = feed; entry = entry }) takes.said ∷ [];
+    are = readings-push arrivals so_far.over.readings (reading_of (record { feed = feed; entry = entry }) takes.said) so_far.over.are takes.says;
+    run = read_more listed room so_far.over.readings feed entry so_far.sent old new takes so_far.over.run;
+  };
+}
+
+-- the text goes out
+pub writes_on : (listed : List Instrument) (room : ℕ) (arrivals : List Arrival) (start taken taken' : List ℕ) (engine : View) (held held' : List ℕ) (refusals : RefusalTexts) → taken' ≡ taken ++ held → held' ≡ []
+    → Writes listed room arrivals start taken engine held refusals → Writes listed room arrivals start taken' engine held' refusals
+writes_on listed room arrivals start taken taken' engine held held' refusals went emptied so_far =
+    let same : (so_far.sent ++ held) ++ held' ≡ so_far.sent ++ held = ap (λ (t : List ℕ). (so_far.sent ++ held) ++ t) emptied ∙ append-nil (so_far.sent ++ held) in
+    record {
+      sent = so_far.sent ++ held;
+      taken_is = went ∙ ap (λ (t : List ℕ). t ++ held) so_far.taken_is ∙ append_assoc start so_far.sent held;
+      over = subst (λ (t : List ℕ). RunsOver listed room arrivals engine t refusals) (sym same) so_far.over;
+    }
+
+-- ---- the records that are left
+
+-- the records so far, in the order of their lines, and what was written of them
+pub record HasTaken (listed : List Instrument) (room : ℕ) (a b s : List RecordContent) (start taken : List ℕ) (engine : View) (held : List ℕ) (refusals : RefusalTexts) (a' b' s' : List RecordContent) : Type 0 where
+  pub done : List Arrival
+  pub left : in_order a b s ≡ done ++ in_order a' b' s'
+  pub writes : Writes listed room done start taken engine held refusals
+
+pub taken_none : (listed : List Instrument) (room : ℕ) (a b s : List RecordContent) (taken : List ℕ) (engine : View) (text : List ℕ) (refusals : RefusalTexts) → text ≡ [] → HasRun listed room [] engine [] refusals
+    → HasTaken listed room a b s taken taken engine text refusals a b s
+taken_none listed room a b s taken engine text refusals empty run = record { done = []; left = refl; writes = writes_none listed room taken engine text refusals empty run }
+
+pub taken_more : {A : Type 0} (listed : List Instrument) (room : ℕ) (a b s : List RecordContent) (start taken taken' : List ℕ) (old new sent : Run A) (a' b' s' a'' b'' s'' : List RecordContent) (feed : Feed) (entry : RecordContent)
+    → in_order a' b' s' ≡ (record { feed = feed; entry = entry }) ∷ in_order a'' b'' s''
+    → TakesAs (kind_of feed) feed entry.line entry.received old new
+    → ((arrivals : List Arrival) → Writes listed room arrivals start taken new.engine new.text.items new.refusals → Writes listed room arrivals start taken' sent.engine sent.text.items sent.refusals)
+    → HasTaken listed room a b s start taken old.engine old.text.items old.refusals a' b' s'
+    → HasTaken listed room a b s start taken' sent.engine sent.text.items sent.refusals a'' b'' s''
+taken_more listed room a b s start taken taken' old new sent a' b' s' a'' b'' s'' feed entry next takes goes_out so_far =
+    let arrival : Arrival = record { feed = feed; entry = entry } in
+    record {
+      done = so_far.done ++ arrival ∷ [];
+      left = so_far.left ∙ ap (λ (t : List Arrival). so_far.done ++ t) next ∙ sym (append_assoc so_far.done (arrival ∷ []) (in_order a'' b'' s''));
+      writes = goes_out (so_far.done ++ arrival ∷ []) (writes_more listed room so_far.done feed entry start taken old new takes so_far.writes);
+    }
+
+pub taken_all : (listed : List Instrument) (room : ℕ) (a b s : List RecordContent) (start taken : List ℕ) (engine : View) (held : List ℕ) (refusals : RefusalTexts) (a' b' s' : List RecordContent) → in_order a' b' s' ≡ []
+    → HasTaken listed room a b s start taken engine held refusals a' b' s' → Writes listed room (in_order a b s) start taken engine held refusals
+taken_all listed room a b s start taken engine held refusals a' b' s' none so_far =
+    let all : in_order a b s ≡ so_far.done = so_far.left ∙ ap (λ (t : List Arrival). so_far.done ++ t) none ∙ append-nil so_far.done in
+    subst (λ (arrivals : List Arrival). Writes listed room arrivals start taken engine held refusals) (sym all) so_far.writes
+
+-- ---- the end
+
+pub all_written : (listed : List Instrument) (room : ℕ) (arrivals : List Arrival) (start taken taken' : List ℕ) (engine : View) (held end : List ℕ) (refusals : RefusalTexts) (next : ℕ) (lost : Bool)
+    → taken' ≡ (taken ++ held) ++ end → end ≡ (refusals.a ++ (refusals.b ++ refusals.s)) ++ last_line next lost
+    → ((listed : List Instrument) (es : List Event) (drained : List ℕ) → Stands listed es drained engine → next ≡ (state_at engine.arbiter.room (ids_of listed) es).next)
+    → ((listed : List Instrument) (es : List Event) (drained : List ℕ) → Stands listed es drained engine → lost ≡ is_lost engine.arbiter.room es (state_at engine.arbiter.room (ids_of listed) es))
+    → Writes listed room arrivals start taken engine held refusals
+    → (text : List ℕ) × (taken' ≡ start ++ text) × Prints listed room arrivals text next lost
+all_written listed room arrivals start taken taken' engine held end refusals next lost went end_is next_is lost_is so_far =
+    let readings = so_far.over.readings in
+    let es = events_of readings in
+    let run = so_far.over.run in
+    let front = so_far.sent ++ held in
+    let next_after_all : next ≡ next_after listed room es = next_is listed es front run.stands ∙ ap (λ (r : ℕ). next_after listed r es) run.covers in
+    let lost_after_all : lost ≡ is_lost_after listed room es = lost_is listed es front run.stands ∙ ap (λ (r : ℕ). is_lost_after listed r es) run.covers in
+    let ending : end ≡ all_refusal_lines readings ++ last_line (next_after listed room es) (is_lost_after listed room es) =
+    end_is
+    ∙ ap (λ (t : RefusalTexts). (t.a ++ (t.b ++ t.s)) ++ last_line next lost) run.refusals_are
+    ∙ ap (λ (n : ℕ). all_refusal_lines readings ++ last_line n lost) next_after_all
+    ∙ ap (λ (l : Bool). all_refusal_lines readings ++ last_line (next_after listed room es) l) lost_after_all in
+    let sent_all : taken' ≡ start ++ (front ++ end) =
+    went ∙ ap (λ (t : List ℕ). (t ++ held) ++ end) so_far.taken_is ∙ ap (λ (t : List ℕ). t ++ end) (append_assoc start so_far.sent held) ∙ append_assoc start front end in (
+      front ++ end,
+      sent_all,
+      record {
+        readings = readings;
+        are = so_far.over.are;
+        next_is = next_after_all;
+        lost_is = lost_after_all;
+        owed = λ feed honest.
+            let front_is : front ≡ lines listed feed (steps_of (trace room (ids_of listed) es)) =
+            sym (append-nil front) ∙ ap (λ (t : List ℕ). front ++ t) (sym run.drained) ∙ (stands_owed listed feed es front engine honest run.stands).text
+            ∙ ap (λ (r : ℕ). lines listed feed (steps_of (trace r (ids_of listed) es))) run.covers in
+            ap (λ (t : List ℕ). t ++ end) front_is ∙ ap (λ (t : List ℕ). lines listed feed (steps_of (trace room (ids_of listed) es)) ++ t) ending;
+      },
+    )
+
+-- ---- how much went out
+
+pub counted_none : (taken : List ℕ) → HasCounted taken taken 0
+counted_none taken =
+    let none : length taken - length taken ≡ 0 = omega arith in
+    record { grown = omega arith; count = sym (ap counted none ∙ zero-min (2 ^ 64 - 1)) }
+
+pub run_counted : (start taken after : List ℕ) (written : ℕ) (result : Result Summary RunFault)
+    → IfOk result (λ (summary : Summary). (start : List ℕ) → HasCounted start taken written → HasCounted start after summary.written)
+    → HasCounted start taken written → IfOk result (λ (summary : Summary). HasCounted start after summary.written)
+run_counted start taken after written (Ok summary) counts so_far = counts start so_far
+run_counted start taken after written (Err fault) counts so_far = tt
+
+pub fault_counted : (start taken after : List ℕ) (written : ℕ) (result : Result Summary RunFault)
+    → IfErr result (λ (fault : RunFault). (start : List ℕ) → HasCounted start taken written → HasCounted start after (written_before fault))
+    → HasCounted start taken written → IfErr result (λ (fault : RunFault). HasCounted start after (written_before fault))
+fault_counted start taken after written (Ok summary) told so_far = tt
+fault_counted start taken after written (Err fault) told so_far = told start so_far
+
+pub run_printed : (listed : List Instrument) (room : ℕ) (arrivals : List Arrival) (start taken after : List ℕ) (engine : View) (held : List ℕ) (refusals : RefusalTexts) (result : Result Summary RunFault)
+    → IfOk result (λ (summary : Summary). (listed : List Instrument) (room : ℕ) (arrivals : List Arrival) (start : List ℕ) → Writes listed room arrivals start taken engine held refusals
+    → (text : List ℕ) × (after ≡ start ++ text) × Prints listed room arrivals text summary.next summary.lost)
+    → Writes listed room arrivals start taken engine held refusals
+    → IfOk result (λ (summary : Summary). (text : List ℕ) × (after ≡ start ++ text) × Prints listed room arrivals text summary.next summary.lost)
+run_printed listed room arrivals start taken after engine held refusals (Ok summary) prints so_far = prints listed room arrivals start so_far
+run_printed listed room arrivals start taken after engine held refusals (Err fault) prints so_far = tt
+
+-- ---- snapshots
+
+pub recovered_more : {A : Type 0} (snapshots : List SnapshotContent) (i : ℕ) (snapshot copied : SnapshotContent) (first now new : Run A) → i < length snapshots → snapshot ≡ get_or snapshots i snapshot → copied ≡ snapshot
+    → GoesOn (map recovered (take i snapshots)) first.engine first.text.items now.engine now.text.items → GoesOn (recovered copied ∷ []) now.engine now.text.items new.engine new.text.items
+    → GoesOn (map recovered (take (i + 1) snapshots)) first.engine first.text.items new.engine new.text.items
+recovered_more snapshots i snapshot copied first now new within at is so_far one =
+    let same : map recovered (take i snapshots) ++ recovered copied ∷ [] ≡ map recovered (take (i + 1) snapshots) =
+    ap (λ (s : SnapshotContent). map recovered (take i snapshots) ++ recovered s ∷ []) (is ∙ at)
+    ∙ sym (map-append recovered (take i snapshots) (get_or snapshots i snapshot ∷ []))
+    ∙ ap (map recovered) (sym (take_more snapshots i snapshot within)) in
+    subst (λ (es : List Event). GoesOn es first.engine first.text.items new.engine new.text.items) same
+    (goes_more (map recovered (take i snapshots)) (recovered copied ∷ []) first.engine now.engine new.engine first.text.items now.text.items new.text.items so_far one)

@@ -1,0 +1,38 @@
+-- The records of the three feeds in the order of the capture's lines.
+use Rattle.std.specs.Prelude.{ℕ, Bool, true, false, nat_le, if◌then◌else◌, List, [], ◌∷◌, map, Option, Some, None}
+use Rattle.mdp_capture.specs.Record.{RecordContent}
+use Rattle.mdp_print.specs.declared.feed.Feed.{Feed}
+use Rattle.mdp_print.specs.declared.feed.Feed.TheVariants as feeds
+
+-- a record, and the feed that it came on
+pub record Arrival : Type 0 where
+  pub feed : Feed
+  pub entry : RecordContent
+
+abbrev pub arrivals : Feed → List RecordContent → List Arrival
+arrivals feed records = map (λ (entry : RecordContent). record { feed = feed; entry = entry }) records
+
+-- turn by turn the first record of that list whose first record has the lesser line; of equal lines the first list's
+abbrev pub merged : List Arrival → List Arrival → List Arrival
+merged [] ys = ys
+merged (x ∷ xs) [] = x ∷ xs
+merged (x ∷ xs) (y ∷ ys) = if nat_le x.entry.line y.entry.line then x ∷ merged xs (y ∷ ys) else y ∷ merged (x ∷ xs) ys
+
+-- of equal lines feed A's record, then B's, then S's
+abbrev pub in_order : List RecordContent → List RecordContent → List RecordContent → List Arrival
+in_order a b s = merged (merged (arrivals feeds.A a) (arrivals feeds.B b)) (arrivals feeds.S s)
+
+-- ---- which list goes first
+
+abbrev pub head_line : List RecordContent → Option ℕ
+head_line [] = None
+head_line (entry ∷ rest) = Some entry.line
+
+abbrev pub is_first : Option ℕ → Option ℕ → Bool
+is_first None other = false
+is_first (Some line) None = true
+is_first (Some line) (Some other) = nat_le line other
+
+-- the feed whose first record is the next, S where there is none
+abbrev pub first_feed : Option ℕ → Option ℕ → Option ℕ → Feed
+first_feed a b s = if is_first a b then (if is_first a s then feeds.A else feeds.S) else (if is_first b s then feeds.B else feeds.S)

@@ -1,0 +1,26 @@
+-- The lines of refused datagrams, feed by feed.
+use Rattle.std.specs.Prelude.{ℕ, List, [], ◌++◌, refl}
+use Rattle.std.specs.Coded.{Coded, code_by, coded×, coded_ℕ, coded_list}
+use Rattle.mdp_sbe.specs.declared.refusal.Refusal.{Refusal}
+use Rattle.mdp_print.specs.declared.feed.Feed.{Feed}
+use Rattle.mdp_print.specs.declared.feed.Feed.TheVariants as feeds
+use Rattle.mdp_print.specs.Texts.{refusal_line}
+
+pub record RefusalTexts : Type 0 where
+  pub a : List ℕ
+  pub b : List ℕ
+  pub s : List ℕ
+
+abbrev pub refusal_texts_code : Coded RefusalTexts
+refusal_texts_code =
+    code_by (List ℕ × (List ℕ × List ℕ)) (coded× (coded_list coded_ℕ) (coded× (coded_list coded_ℕ) (coded_list coded_ℕ)))
+    (λ t. (t.a, (t.b, t.s))) (λ t. record { a = t.0; b = t.1.0; s = t.1.1 }) (λ _. refl)
+
+abbrev pub no_refusals : RefusalTexts
+no_refusals = record { a = []; b = []; s = [] }
+
+-- one more
+abbrev pub with_refusal : Feed → ℕ → Refusal → RefusalTexts → RefusalTexts
+with_refusal feeds.A line refusal texts = record { a = texts.a ++ refusal_line feeds.A line refusal; b = texts.b; s = texts.s }
+with_refusal feeds.B line refusal texts = record { a = texts.a; b = texts.b ++ refusal_line feeds.B line refusal; s = texts.s }
+with_refusal feeds.S line refusal texts = record { a = texts.a; b = texts.b; s = texts.s ++ refusal_line feeds.S line refusal }
