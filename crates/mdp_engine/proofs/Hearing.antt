@@ -1,11 +1,12 @@
 -- An entry is for one desk at most, and a message is heard, shown and settled as one step.
-use Rattle.std.proofs.Common.{◌≡◌, ◌≢◌, ℕ, ℤ, zero, suc, ◌+◌, ◌<◌, Bool, true, false, cond, List, [], ◌∷◌, length, map, get_or, set, Some, None, refl, sym, ap, subst, ◌∙◌, arith, inl, inr}
+use Rattle.std.proofs.Common.{◌≡◌, ◌≢◌, ℕ, ℤ, zero, suc, ◌+◌, ◌<◌, Bool, true, false, cond, List, [], ◌∷◌, ◌++◌, length, take, drop, min, map, get_or, set, Option, Some, None, refl, sym, ap, subst, ◌∙◌, arith, inl, inr}
 use Rattle.std.specs.Prelude.{◌||◌, nat_lt, slice_get}
 use Rattle.std.specs.List.{list_any, AllPairs}
 use Rattle.std.proofs.Math.Seq.{map-set_same}
 use Rattle.std.proofs.lemmas.Bool.{cases_Bool}
 use Rattle.std.proofs.lemmas.Bool.Decides.{Decides-int_eq}
 use Rattle.std.proofs.lemmas.List.{get_or-map, length-map}
+use Rattle.mdp_templates.specs.Snapshot.{SnapshotContent}
 use Rattle.mdp_templates.specs.declared.entry.Entry.{Entry}
 use Rattle.mdp_templates.specs.declared.instrument.Instrument.{Instrument}
 use Rattle.mdp_books.specs.declared.book.Place.{Place}
@@ -13,7 +14,7 @@ use Rattle.mdp_books.specs.Book.{after_entry}
 use Rattle.mdp_books.specs.Feed.{Sent, names, place_at, entered_from}
 use Rattle.mdp_engine.specs.declared.desk.Desk.{Desk}
 use Rattle.mdp_engine.specs.Lines.{lines_as}
-use Rattle.mdp_engine.specs.Desks.{desk_at_start, desk_entered, desk_heard, desks_through, desk_settled, desk_standing, desk_seen, desks_after, desks_text}
+use Rattle.mdp_engine.specs.Desks.{desk_at_start, desk_entered, desk_heard, desks_through, desk_settled, desk_standing, desk_seen, desks_after, desks_text, desk_jumped, rebased_desks}
 use Rattle.mdp_engine.specs.Slots.{AreSlotsOf}
 
 -- ---- one entry
@@ -81,6 +82,34 @@ settled_ids packet (d ∷ ds) = let first = settled_id packet d in let others = 
 
 pub slots_settled : (packet : ℕ) (ds after : List Desk) (ids : List ℤ) → AreSlotsOf ds ids → after ≡ map (desk_settled packet) ds → AreSlotsOf after ids
 slots_settled packet ds after ids are is = record { same = are.same ∙ sym (settled_ids packet ds) ∙ ap ids_of (sym is); differ = are.differ }
+
+-- ---- jumps
+
+jumped_id : (base : Option SnapshotContent) (d : Desk) → (desk_jumped base d).instrument.id ≡ d.instrument.id
+jumped_id None d = refl
+jumped_id (Some s) d = refl
+
+rebased_ids : (bases : List (Option SnapshotContent)) (ds : List Desk) → ids_of (rebased_desks bases ds) ≡ ids_of ds
+rebased_ids bases [] = refl
+rebased_ids [] (d ∷ ds) = refl
+rebased_ids (base ∷ bases) (d ∷ ds) = let first = jumped_id base d in let others = rebased_ids bases ds in cc (first, others)
+
+pub length_rebased : (bases : List (Option SnapshotContent)) (ds : List Desk) → length (rebased_desks bases ds) ≡ length ds
+length_rebased bases [] = refl
+length_rebased [] (d ∷ ds) = refl
+length_rebased (base ∷ bases) (d ∷ ds) = ap (λ (n : ℕ). suc n) (length_rebased bases ds)
+
+-- past the shorter of the two lists no desk is left that has a snapshot
+pub rebased_past : (n : ℕ) (bases : List (Option SnapshotContent)) (ds : List Desk) → n ≡ min (length ds) (length bases) → take n ds ++ rebased_desks (drop n bases) (drop n ds) ≡ ds
+rebased_past zero bases [] past = refl
+rebased_past zero [] (d ∷ ds) past = refl
+rebased_past zero (base ∷ bases) (d ∷ ds) past = absurd (omega (arith, past))
+rebased_past (suc n) bases [] past = absurd (omega (arith, past))
+rebased_past (suc n) [] (d ∷ ds) past = absurd (omega (arith, past))
+rebased_past (suc n) (base ∷ bases) (d ∷ ds) past = ap (λ (t : List Desk). d ∷ t) (rebased_past n bases ds (omega (arith, past)))
+
+pub slots_rebased : (bases : List (Option SnapshotContent)) (ds after : List Desk) (ids : List ℤ) → AreSlotsOf ds ids → after ≡ rebased_desks bases ds → AreSlotsOf after ids
+slots_rebased bases ds after ids are is = record { same = are.same ∙ sym (rebased_ids bases ds) ∙ ap ids_of (sym is); differ = are.differ }
 
 -- ---- the start
 

@@ -2,7 +2,7 @@
 use Rattle.std.proofs.Common.{◌≡◌, ℕ, Bool, true, false, cond, List, [], ◌∷◌, ◌++◌, map, length, refl, sym, ap, subst, ◌∙◌, append_assoc, arith}
 use Rattle.std.specs.Prelude.{Option, Some, None, ◌||◌, ◌&&◌, not, nat_lt}
 use Rattle.std.specs.List.{AllZip}
-use Rattle.std.proofs.lemmas.List.{append-nil}
+use Rattle.std.proofs.lemmas.List.{append-nil, length-map}
 use Rattle.std.proofs.lemmas.List.Sums.{fold_push}
 use Rattle.mdp_templates.specs.Packet.{PacketContent}
 use Rattle.mdp_templates.specs.Snapshot.{SnapshotContent}
@@ -16,7 +16,7 @@ use Rattle.mdp_engine.specs.Lines.{Seen, lines_of}
 use Rattle.mdp_arbiter.specs.Machine.{Move}
 use Rattle.mdp_engine.specs.Shown.{Start, Shown, opening, shown, shown_through, started, book_since, is_due, is_shown, shown_seen, shown_at, shown_from, showed, shown_after, shown_lines}
 use Rattle.mdp_arbiter.specs.Machine.Move.{passed, jumped}
-use Rattle.mdp_engine.specs.Desks.{desk_at_start, heard, desk_after, desk_seen, desks_after, desks_text, passed_desks, passed_text, jumped_desks}
+use Rattle.mdp_engine.specs.Desks.{desk_at_start, heard, desk_after, desk_seen, desks_after, desks_text, passed_desks, passed_text, rebased_desks}
 use Rattle.mdp_engine.specs.Standing.{DeskShows, Shows}
 use Rattle.mdp_engine.proofs.Marks.{is_due-push, is_shown-due}
 
@@ -125,12 +125,16 @@ listed_passed : (ms : List Sent) (ds : List Desk) → listed_in (passed_desks ms
 listed_passed [] ds = refl
 listed_passed (m ∷ ms) ds = listed_passed ms (desks_after m ds) ∙ listed_after m ds
 
-listed_jumped : (snapshots : List SnapshotContent) (ds : List Desk) → length snapshots ≡ length ds → listed_in (jumped_desks snapshots ds) ≡ listed_in ds
-listed_jumped snapshots [] long = refl
-listed_jumped [] (d ∷ ds) long = absurd cc
-listed_jumped (s ∷ snapshots) (d ∷ ds) long = ap (λ (t : List Instrument). d.instrument ∷ t) (listed_jumped snapshots ds (omega arith))
+-- each desk has its snapshot
+abbrev all_based : List SnapshotContent → List (Option SnapshotContent)
+all_based snapshots = map (λ (s : SnapshotContent). Some s) snapshots
 
-jump_shows : (snapshots : List SnapshotContent) (ds : List Desk) → length snapshots ≡ length ds → AllZip (DeskShows []) (started (listed_in ds) snapshots) (jumped_desks snapshots ds)
+listed_jumped : (snapshots : List SnapshotContent) (ds : List Desk) → listed_in (rebased_desks (all_based snapshots) ds) ≡ listed_in ds
+listed_jumped snapshots [] = refl
+listed_jumped [] (d ∷ ds) = refl
+listed_jumped (s ∷ snapshots) (d ∷ ds) = ap (λ (t : List Instrument). d.instrument ∷ t) (listed_jumped snapshots ds)
+
+jump_shows : (snapshots : List SnapshotContent) (ds : List Desk) → length snapshots ≡ length ds → AllZip (DeskShows []) (started (listed_in ds) snapshots) (rebased_desks (all_based snapshots) ds)
 jump_shows [] [] long = tt
 jump_shows (s ∷ snapshots) [] long = absurd cc
 jump_shows [] (d ∷ ds) long = absurd cc
@@ -170,11 +174,13 @@ shows_passed listed moves packet old new text after desks grown so_far =
     }
 
 -- a jump
-pub shows_jumped : (listed : List Instrument) (moves : List Move) (from to : ℕ) (snapshots : List SnapshotContent) (old new : List Desk) (text after : List ℕ) → length snapshots ≡ length old → new ≡ jumped_desks snapshots old → after ≡ text ++ jump_line from to → Shows listed moves old text → Shows listed (moves ++ jumped from to snapshots ∷ []) new after
+pub shows_jumped : (listed : List Instrument) (moves : List Move) (from to : ℕ) (snapshots : List SnapshotContent) (old new : List Desk) (text after : List ℕ) → length snapshots ≡ length listed → new ≡ rebased_desks (map (λ (s : SnapshotContent). Some s) snapshots) old → after ≡ text ++ jump_line from to → Shows listed moves old text → Shows listed (moves ++ jumped from to snapshots ∷ []) new after
 shows_jumped listed moves from to snapshots old new text after long desks grown so_far =
-    let stands : AllZip (DeskShows []) (started listed snapshots) (jumped_desks snapshots old) = subst (λ (is : List Instrument). AllZip (DeskShows []) (started is snapshots) (jumped_desks snapshots old)) so_far.listed_are (jump_shows snapshots old long) in
+    let based = rebased_desks (all_based snapshots) old in
+    let each_has : length snapshots ≡ length old = long ∙ ap length (sym so_far.listed_are) ∙ length-map old (λ (d : Desk). d.instrument) in
+    let stands : AllZip (DeskShows []) (started listed snapshots) based = subst (λ (is : List Instrument). AllZip (DeskShows []) (started is snapshots) based) so_far.listed_are (jump_shows snapshots old each_has) in
     record {
-      listed_are = ap listed_in desks ∙ listed_jumped snapshots old long ∙ so_far.listed_are;
+      listed_are = ap listed_in desks ∙ listed_jumped snapshots old ∙ so_far.listed_are;
       each =
           subst (λ (s : Shown). AllZip (DeskShows s.since) s.starts new) (sym (shown-push listed moves (jumped from to snapshots)))
           (subst (λ (ds : List Desk). AllZip (DeskShows []) (started listed snapshots) ds) (sym desks) stands);

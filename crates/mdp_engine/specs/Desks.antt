@@ -59,8 +59,16 @@ abbrev pub passed_text : List Sent → List Desk → List ℕ
 passed_text [] ds = []
 passed_text (m ∷ ms) ds = desks_text m ds ++ passed_text ms (desks_after m ds)
 
--- each desk takes its security's snapshot
-abbrev pub jumped_desks : List SnapshotContent → List Desk → List Desk
-jumped_desks snapshots [] = []
-jumped_desks [] (d ∷ ds) = []
-jumped_desks (s ∷ snapshots) (d ∷ ds) = record { instrument = d.instrument; base = s.last; book = book_of_snapshot s; marked = true } ∷ jumped_desks snapshots ds
+-- a jump: the snapshot is the base and the book, and the security is due at the first event end behind it
+abbrev pub desk_rebased : SnapshotContent → Desk → Desk
+desk_rebased s d = record { instrument = d.instrument; base = s.last; book = book_of_snapshot s; marked = true }
+
+abbrev pub desk_jumped : Option SnapshotContent → Desk → Desk
+desk_jumped None d = d
+desk_jumped (Some s) d = desk_rebased s d
+
+-- desk by desk, each with its snapshot where there is one
+abbrev pub rebased_desks : List (Option SnapshotContent) → List Desk → List Desk
+rebased_desks bases [] = []
+rebased_desks [] (d ∷ ds) = d ∷ ds
+rebased_desks (base ∷ bases) (d ∷ ds) = desk_jumped base d ∷ rebased_desks bases ds

@@ -1,13 +1,13 @@
 //! A listed security: its book, moved forward in place, and its mark.
 
 ghost use Rattle.std.specs.Prelude.{◌≡◌, ◌++◌, OnOk};
-ghost use Rattle.mdp_engine.specs.Desks.{desk_at_start, desk_entered, desk_settled, desk_standing};
+ghost use Rattle.mdp_engine.specs.Desks.{desk_at_start, desk_entered, desk_jumped, desk_rebased, desk_settled, desk_standing};
 ghost use Rattle.mdp_engine.specs.Lines.{text_of};
 
 use crate::lines::put_book;
 use mdp_books::Place;
 use mdp_quotes::Live;
-use mdp_templates::{Entry, Instrument, Memory};
+use mdp_templates::{Entry, Instrument, Memory, Snapshot};
 use std::alloc::Allocator;
 
 /// A security's book, and the number of the last packet that its snapshot included, 0 with none. It is
@@ -40,6 +40,24 @@ impl Desk {
         if place.packet > self.base {
             self.book.apply(place, entry);
             self.marked = true;
+        }
+    }
+
+    /// Takes a snapshot of the security as its base, and waits for the first event end behind it.
+    pub fn rebase(&mut self, snapshot: &Snapshot)
+        ensures { self.new ≡ desk_rebased snapshot.now self.old }
+    {
+        self.marked = true;
+        self.base = snapshot.last();
+        self.book = Live::of_snapshot(snapshot);
+    }
+
+    /// Jumps to a snapshot of the security, if there is one.
+    pub fn jump(&mut self, base: &Option<Snapshot>)
+        ensures { self.new ≡ desk_jumped base.now self.old }
+    {
+        if let Some(snapshot) = base {
+            self.rebase(snapshot);
         }
     }
 

@@ -4,13 +4,15 @@ ghost use Rattle.std.specs.Prelude.{◌≡◌, ◌++◌, ◌≤◌, ℕ, IfOk, O
 ghost use Rattle.std.specs.List.{flat_map};
 ghost use Rattle.mdp_templates.specs.Instrument.{AreFit};
 ghost use Rattle.mdp_books.specs.Feed.{sent_as, sent_in};
-ghost use Rattle.mdp_engine.specs.Desks.{desk_at_start, desk_heard, desk_settled, desk_standing, desks_after, desks_text, desks_through, passed_desks, passed_text};
+ghost use Rattle.mdp_print.specs.Texts.{jump_line};
+ghost use Rattle.mdp_engine.specs.Desks.{desk_at_start, desk_heard, desk_settled, desk_standing, desks_after, desks_text, desks_through, passed_desks, passed_text, rebased_desks};
 ghost use Rattle.mdp_engine.specs.Lines.{lines_as};
 
 use crate::desk::Desk;
 use mdp_arbiter::Slots;
 use mdp_books::Place;
-use mdp_templates::{Entry, Instrument, Memory, Message, Packet};
+use mdp_print::put_jump;
+use mdp_templates::{Entry, Instrument, Memory, Message, Packet, Snapshot};
 use std::alloc::Allocator;
 use std::marker::Model;
 
@@ -47,6 +49,15 @@ fn settle_all(desks: &mut [Desk], packet: u32)
 {
     for n in 0..desks.len() {
         desks[n].settle(packet);
+    }
+}
+
+fn rebase_all(desks: &mut [Desk], bases: &[Option<Snapshot>])
+    ensures { desks.new ≡ rebased_desks bases.now desks.old }
+{
+    let both = desks.len().min(bases.len());
+    for n in 0..both {
+        desks[n].jump(&bases[n]);
     }
 }
 
@@ -135,6 +146,31 @@ impl<A: Allocator + Copy> Desks<A> {
         for n in 0..messages.len() {
             self.take(out, number, n as u64 + 1, &messages[n])?;
         }
+        Ok(())
+    }
+
+    // Takes the snapshots of those securities that have one.
+    fn rebase(&mut self, bases: &[Option<Snapshot>])
+        ensures { self.new ≡ rebased_desks bases.now self.old }
+    {
+        rebase_all(&mut self.desks, bases);
+    }
+
+    /// Jumps from packet number `old` to `new`: appends the line of the jump, and takes each security's
+    /// snapshot, listed side by side, where it has one. After want of memory the text and the desks are of
+    /// no more use.
+    pub fn jump(
+        &mut self,
+        out: &mut Vec<u8, A>,
+        old: u64,
+        new: u64,
+        bases: &[Option<Snapshot>],
+    ) -> Result<(), Memory>
+        ensures desks { OnOk result (self.new ≡ rebased_desks bases.now self.old) }
+        ensures text { OnOk result (out.new.items ≡ out.old.items ++ jump_line old new) }
+    {
+        put_jump(out, old, new)?;
+        self.rebase(bases);
         Ok(())
     }
 }
