@@ -3,3 +3,4 @@ pub mod Showing
 pub mod Fronts
 pub mod Hearing
 pub mod Agreeing
+pub mod Auditing
