@@ -1,7 +1,7 @@
 -- An entry is for one desk at most, and a message is heard, shown and settled as one step.
 use Rattle.std.proofs.Common.{◌≡◌, ◌≢◌, ℕ, ℤ, zero, suc, ◌+◌, ◌<◌, Bool, true, false, cond, List, [], ◌∷◌, ◌++◌, length, take, drop, min, map, get_or, set, Option, Some, None, refl, sym, ap, subst, ◌∙◌, arith, inl, inr}
 use Rattle.std.specs.Prelude.{◌||◌, nat_lt, slice_get}
-use Rattle.std.specs.List.{list_any, AllPairs}
+use Rattle.std.specs.List.{list_any, AllPairs, flat_map}
 use Rattle.std.proofs.Math.Seq.{map-set_same}
 use Rattle.std.proofs.lemmas.Bool.{cases_Bool}
 use Rattle.std.proofs.lemmas.Bool.Decides.{Decides-int_eq}
@@ -13,9 +13,11 @@ use Rattle.mdp_books.specs.declared.book.Place.{Place}
 use Rattle.mdp_books.specs.Book.{after_entry}
 use Rattle.mdp_books.specs.Feed.{Sent, names, place_at, entered_from}
 use Rattle.mdp_engine.specs.declared.desk.Desk.{Desk}
-use Rattle.mdp_engine.specs.Lines.{lines_as}
-use Rattle.mdp_engine.specs.Desks.{desk_at_start, desk_entered, desk_heard, desks_through, desk_settled, desk_standing, desk_seen, desks_after, desks_text, desk_jumped, rebased_desks}
-use Rattle.mdp_engine.specs.Slots.{AreSlotsOf}
+use Rattle.mdp_engine.specs.Lines.{Seen, text_of, audit_text, lines_as}
+use Rattle.mdp_engine.specs.Desks.{desk_at_start, desk_entered, desk_heard, desks_through, desk_settled, desk_standing, desk_seen, desks_after, desks_text, rebased_desks}
+use Rattle.mdp_arbiter.specs.Slots.{ids_of}
+use Rattle.mdp_engine.specs.declared.legs.Legs.{Legs}
+use Rattle.mdp_engine.specs.Slots.{listed_in, legs_in, AreSlotsOf}
 
 -- ---- one entry
 
@@ -32,20 +34,20 @@ not_heard place entry d other = ap (λ (b : Bool). cond b (desk_entered place en
 is_heard : (place : Place) (entry : Entry) (d : Desk) → entry.security ≡ d.instrument.id → desk_heard place entry d ≡ desk_entered place entry d
 is_heard place entry d same = ap (λ (b : Bool). cond b (desk_entered place entry d) d) ((Decides-int_eq entry.security d.instrument.id).1 same)
 
-abbrev pub ids_of : List Desk → List ℤ
-ids_of ds = map (λ (d : Desk). d.instrument.id) ds
+abbrev pub ids_in : List Desk → List ℤ
+ids_in ds = ids_of (listed_in ds)
 
-pub none_heard : (place : Place) (entry : Entry) (ds : List Desk) → ((slot : ℕ) → slice_get (ids_of ds) slot ≡ Some entry.security → ⊥) → map (desk_heard place entry) ds ≡ ds
+pub none_heard : (place : Place) (entry : Entry) (ds : List Desk) → ((slot : ℕ) → slice_get (ids_in ds) slot ≡ Some entry.security → ⊥) → map (desk_heard place entry) ds ≡ ds
 none_heard place entry [] none = refl
 none_heard place entry (d ∷ ds) none =
     let first : desk_heard place entry d ≡ d = not_heard place entry d (λ same. none 0 (ap (λ (id : ℤ). Some id) (sym same))) in
     let others : map (desk_heard place entry) ds ≡ ds = none_heard place entry ds (λ slot. none (suc slot)) in
     cc (first, others)
 
-differ_tail : (x : ℤ) (xs : List ℤ) → AllPairs (λ a b. a ≢ b) (x ∷ xs) → AllPairs (λ a b. a ≢ b) xs
+pub differ_tail : (x : ℤ) (xs : List ℤ) → AllPairs (λ a b. a ≢ b) (x ∷ xs) → AllPairs (λ a b. a ≢ b) xs
 differ_tail x xs differ = λ i j d less below. differ (suc i) (suc j) d (omega arith) (omega arith)
 
-other_than : (x : ℤ) (xs : List ℤ) → AllPairs (λ a b. a ≢ b) (x ∷ xs) → (slot : ℕ) → slice_get xs slot ≡ Some x → ⊥
+pub other_than : (x : ℤ) (xs : List ℤ) → AllPairs (λ a b. a ≢ b) (x ∷ xs) → (slot : ℕ) → slice_get xs slot ≡ Some x → ⊥
 other_than x xs differ slot here = first slot xs here (λ k below. differ 0 (suc k) x (omega arith) (omega arith))
   where
     first : (slot : ℕ) (ys : List ℤ) → slice_get ys slot ≡ Some x → ((k : ℕ) → k < length ys → x ≢ get_or ys k x) → ⊥
@@ -54,45 +56,33 @@ other_than x xs differ slot here = first slot xs here (λ k below. differ 0 (suc
     first (suc slot) (y ∷ ys) here apart = first slot ys here (λ k below. apart (suc k) (omega arith))
 
 -- the one desk of the security hears
-pub one_heard : (place : Place) (entry : Entry) (ds : List Desk) (slot : ℕ) (here : Desk) → AllPairs (λ a b. a ≢ b) (ids_of ds) → slice_get (ids_of ds) slot ≡ Some entry.security → here ≡ get_or ds slot here → set ds slot (desk_entered place entry here) ≡ map (desk_heard place entry) ds
+pub one_heard : (place : Place) (entry : Entry) (ds : List Desk) (slot : ℕ) (here : Desk) → AllPairs (λ a b. a ≢ b) (ids_in ds) → slice_get (ids_in ds) slot ≡ Some entry.security → here ≡ get_or ds slot here → set ds slot (desk_entered place entry here) ≡ map (desk_heard place entry) ds
 one_heard place entry [] slot here differ is at = absurd cc
 one_heard place entry (d ∷ ds) zero here differ is at =
     let same : d.instrument.id ≡ entry.security = cc in
     let first : desk_entered place entry here ≡ desk_heard place entry d = ap (desk_entered place entry) at ∙ sym (is_heard place entry d (sym same)) in
-    let others : map (desk_heard place entry) ds ≡ ds = none_heard place entry ds (λ slot there. other_than d.instrument.id (ids_of ds) differ slot (there ∙ ap (λ (id : ℤ). Some id) (sym same))) in
+    let others : map (desk_heard place entry) ds ≡ ds = none_heard place entry ds (λ slot there. other_than d.instrument.id (ids_in ds) differ slot (there ∙ ap (λ (id : ℤ). Some id) (sym same))) in
     cc (first, others)
 one_heard place entry (d ∷ ds) (suc slot) here differ is at =
-    let first : desk_heard place entry d ≡ d = not_heard place entry d (λ same. other_than d.instrument.id (ids_of ds) differ slot (is ∙ ap (λ (id : ℤ). Some id) same)) in
-    let others = one_heard place entry ds slot here (differ_tail d.instrument.id (ids_of ds) differ) is at in
+    let first : desk_heard place entry d ≡ d = not_heard place entry d (λ same. other_than d.instrument.id (ids_in ds) differ slot (is ∙ ap (λ (id : ℤ). Some id) same)) in
+    let others = one_heard place entry ds slot here (differ_tail d.instrument.id (ids_in ds) differ) is at in
     cc (first, others)
 
-pub slots_entered : (place : Place) (entry : Entry) (ds : List Desk) (slot : ℕ) (here : Desk) (ids : List ℤ) → AreSlotsOf ds ids → here ≡ get_or ds slot here → AreSlotsOf (set ds slot (desk_entered place entry here)) ids
-slots_entered place entry ds slot here ids are at =
-    let same : (desk_entered place entry here).instrument.id ≡ (get_or ds slot here).instrument.id = ap (λ (i : Instrument). i.id) (entered_instrument place entry here) ∙ ap (λ (d : Desk). d.instrument.id) at in
-    record { same = are.same ∙ sym (map-set_same (λ (d : Desk). d.instrument.id) ds slot (desk_entered place entry here) here same); differ = are.differ }
+-- ---- the listed securities stay, and so do their places
 
--- ---- marks
+pub same_slots : (ds after : List Desk) (ids : List ℤ) (legs : List (Option Legs)) → AreSlotsOf (listed_in ds) ids legs → listed_in after ≡ listed_in ds → AreSlotsOf (listed_in after) ids legs
+same_slots ds after ids legs are same = subst (λ (listed : List Instrument). AreSlotsOf listed ids legs) (sym same) are
 
-settled_id : (packet : ℕ) (d : Desk) → (desk_settled packet d).instrument.id ≡ d.instrument.id
-settled_id packet d = elim (cases_Bool (nat_lt d.base packet)) [ inl over ↦ rw over refl | inr under ↦ rw under refl ]
+pub listed_entered : (place : Place) (entry : Entry) (ds : List Desk) (slot : ℕ) (here : Desk) → here ≡ get_or ds slot here → listed_in (set ds slot (desk_entered place entry here)) ≡ listed_in ds
+listed_entered place entry ds slot here at =
+    map-set_same (λ (d : Desk). d.instrument) ds slot (desk_entered place entry here) here (entered_instrument place entry here ∙ ap (λ (d : Desk). d.instrument) at)
 
-settled_ids : (packet : ℕ) (ds : List Desk) → ids_of (map (desk_settled packet) ds) ≡ ids_of ds
-settled_ids packet [] = refl
-settled_ids packet (d ∷ ds) = let first = settled_id packet d in let others = settled_ids packet ds in cc (first, others)
+settled_instrument : (packet : ℕ) (d : Desk) → (desk_settled packet d).instrument ≡ d.instrument
+settled_instrument packet d = elim (cases_Bool (nat_lt d.base packet)) [ inl over ↦ rw over refl | inr under ↦ rw under refl ]
 
-pub slots_settled : (packet : ℕ) (ds after : List Desk) (ids : List ℤ) → AreSlotsOf ds ids → after ≡ map (desk_settled packet) ds → AreSlotsOf after ids
-slots_settled packet ds after ids are is = record { same = are.same ∙ sym (settled_ids packet ds) ∙ ap ids_of (sym is); differ = are.differ }
-
--- ---- jumps
-
-jumped_id : (base : Option SnapshotContent) (d : Desk) → (desk_jumped base d).instrument.id ≡ d.instrument.id
-jumped_id None d = refl
-jumped_id (Some s) d = refl
-
-rebased_ids : (bases : List (Option SnapshotContent)) (ds : List Desk) → ids_of (rebased_desks bases ds) ≡ ids_of ds
-rebased_ids bases [] = refl
-rebased_ids [] (d ∷ ds) = refl
-rebased_ids (base ∷ bases) (d ∷ ds) = let first = jumped_id base d in let others = rebased_ids bases ds in cc (first, others)
+pub listed_settled : (packet : ℕ) (ds : List Desk) → listed_in (map (desk_settled packet) ds) ≡ listed_in ds
+listed_settled packet [] = refl
+listed_settled packet (d ∷ ds) = let first = settled_instrument packet d in let others = listed_settled packet ds in cc (first, others)
 
 pub length_rebased : (bases : List (Option SnapshotContent)) (ds : List Desk) → length (rebased_desks bases ds) ≡ length ds
 length_rebased bases [] = refl
@@ -108,14 +98,11 @@ rebased_past (suc n) bases [] past = absurd (omega (arith, past))
 rebased_past (suc n) [] (d ∷ ds) past = absurd (omega (arith, past))
 rebased_past (suc n) (base ∷ bases) (d ∷ ds) past = ap (λ (t : List Desk). d ∷ t) (rebased_past n bases ds (omega (arith, past)))
 
-pub slots_rebased : (bases : List (Option SnapshotContent)) (ds after : List Desk) (ids : List ℤ) → AreSlotsOf ds ids → after ≡ rebased_desks bases ds → AreSlotsOf after ids
-slots_rebased bases ds after ids are is = record { same = are.same ∙ sym (rebased_ids bases ds) ∙ ap ids_of (sym is); differ = are.differ }
-
 -- ---- the start
 
-start_ids : (listed : List Instrument) → ids_of (map desk_at_start listed) ≡ map (λ (i : Instrument). i.id) listed
-start_ids [] = refl
-start_ids (i ∷ is) = ap (λ (t : List ℤ). i.id ∷ t) (start_ids is)
+start_listed : (listed : List Instrument) → listed_in (map desk_at_start listed) ≡ listed
+start_listed [] = refl
+start_listed (i ∷ is) = ap (λ (t : List Instrument). i ∷ t) (start_listed is)
 
 ids_differ : (listed : List Instrument) → AllPairs (λ (a b : Instrument). a.id ≢ b.id) listed → AllPairs (λ a b. a ≢ b) (map (λ (i : Instrument). i.id) listed)
 ids_differ [] differ = λ i j d less below. absurd (omega (arith, below))
@@ -126,9 +113,10 @@ ids_differ (x ∷ xs) differ = λ i j d less below.
     let right : get_or (map (λ (k : Instrument). k.id) listed) j d ≡ (get_or listed j x).id = get_or-map (λ (k : Instrument). k.id) listed j x d inside in
     λ same. differ i j x less inside (sym left ∙ same ∙ right)
 
-pub slots_start : (listed : List Instrument) (ds : List Desk) (ids : List ℤ) → AllPairs (λ (a b : Instrument). a.id ≢ b.id) listed → ds ≡ map desk_at_start listed → ids ≡ map (λ (i : Instrument). i.id) listed → AreSlotsOf ds ids
-slots_start listed ds ids differ desks slots =
-    record { same = slots ∙ sym (start_ids listed) ∙ ap ids_of (sym desks); differ = subst (λ (xs : List ℤ). AllPairs (λ a b. a ≢ b) xs) (sym slots) (ids_differ listed differ) }
+pub slots_start : (listed : List Instrument) (ds : List Desk) (ids : List ℤ) (legs : List (Option Legs)) → AllPairs (λ (a b : Instrument). a.id ≢ b.id) listed → ds ≡ map desk_at_start listed → ids ≡ ids_of listed → legs ≡ map (λ (i : Instrument). legs_in ids i.kind) listed → AreSlotsOf (listed_in ds) ids legs
+slots_start listed ds ids legs differ desks slots places =
+    let at_start : AreSlotsOf listed ids legs = record { same = slots; differ = subst (λ (xs : List ℤ). AllPairs (λ a b. a ≢ b) xs) (sym slots) (ids_differ listed differ); legs_are = places } in
+    subst (λ (is : List Instrument). AreSlotsOf is ids legs) (sym (ap listed_in desks ∙ start_listed listed)) at_start
 
 -- ---- a message
 
@@ -228,9 +216,19 @@ all_open packet message entries (d ∷ ds) = ap (λ (t : List Desk). through pac
 pub open_desks : (packet message : ℕ) (entries : List Entry) (ds : List Desk) (end : Bool) → end ≡ false → desks_through packet message 1 entries ds ≡ desks_after (sent_with packet message entries end) ds
 open_desks packet message entries ds end is = all_through packet message 1 entries ds ∙ all_open packet message entries ds ∙ ap (λ (b : Bool). desks_after (sent_with packet message entries b) ds) (sym is)
 
+no_books : (packet message : ℕ) (entries : List Entry) (ds : List Desk) → flat_map (text_of packet message) (map (desk_seen (sent_with packet message entries false)) ds) ≡ []
+no_books packet message entries [] = refl
+no_books packet message entries (d ∷ ds) = no_books packet message entries ds
+
+no_audits : (packet message : ℕ) (entries : List Entry) (seen : List (Option Seen)) (ds : List Desk) → flat_map (audit_text packet message seen) (map (desk_seen (sent_with packet message entries false)) ds) ≡ []
+no_audits packet message entries seen [] = refl
+no_audits packet message entries seen (d ∷ ds) = no_audits packet message entries seen ds
+
 no_text : (packet message : ℕ) (entries : List Entry) (ds : List Desk) → desks_text (sent_with packet message entries false) ds ≡ []
-no_text packet message entries [] = refl
-no_text packet message entries (d ∷ ds) = no_text packet message entries ds
+unfolding lines_as
+no_text packet message entries ds =
+    let seen = map (desk_seen (sent_with packet message entries false)) ds in
+    ap (λ (t : List ℕ). t ++ flat_map (audit_text packet message seen) seen) (no_books packet message entries ds) ∙ no_audits packet message entries seen ds
 
 pub open_text : (packet message : ℕ) (entries : List Entry) (ds : List Desk) (end : Bool) → end ≡ false → desks_text (sent_with packet message entries end) ds ≡ []
 open_text packet message entries ds end is = ap (λ (b : Bool). desks_text (sent_with packet message entries b) ds) is ∙ no_text packet message entries ds

@@ -8,3 +8,4 @@ pub mod Alike
 pub mod HonestFeeds
 pub mod Moving
 pub mod Under
+pub mod Auditing

@@ -16,8 +16,9 @@ use Rattle.mdp_engine.specs.Lines.{Seen, lines_of}
 use Rattle.mdp_arbiter.specs.Machine.{Move}
 use Rattle.mdp_engine.specs.Shown.{Start, Shown, opening, shown, shown_through, started, book_since, is_due, is_shown, shown_seen, shown_at, shown_from, showed, shown_after, shown_lines}
 use Rattle.mdp_arbiter.specs.Machine.Move.{passed, jumped}
-use Rattle.mdp_engine.specs.Desks.{desk_at_start, heard, desk_after, desk_seen, desks_after, desks_text, passed_desks, passed_text, rebased_desks}
+use Rattle.mdp_engine.specs.Desks.{desk_at_start, heard, desk_after, desk_seen, desks_after, desks_text, passed_desks, passed_text, desk_jumped, rebased_desks}
 use Rattle.mdp_engine.specs.Standing.{DeskShows, Shows}
+use Rattle.mdp_engine.specs.Slots.{listed_in}
 use Rattle.mdp_engine.proofs.Marks.{is_due-push, is_shown-due}
 
 -- ---- one desk and one message
@@ -108,9 +109,6 @@ pass_text (m ∷ ms) since starts ds is =
 
 -- ---- the listed securities stay
 
-abbrev listed_in : List Desk → List Instrument
-listed_in ds = map (λ (d : Desk). d.instrument) ds
-
 after_listed : (m : Sent) (d : Desk) (b : Bool) → (cond b (heard m d) d).instrument ≡ d.instrument
 after_listed m d true = refl
 after_listed m d false = refl
@@ -125,14 +123,20 @@ listed_passed : (ms : List Sent) (ds : List Desk) → listed_in (passed_desks ms
 listed_passed [] ds = refl
 listed_passed (m ∷ ms) ds = listed_passed ms (desks_after m ds) ∙ listed_after m ds
 
+jumped_listed : (base : Option SnapshotContent) (d : Desk) → (desk_jumped base d).instrument ≡ d.instrument
+jumped_listed None d = refl
+jumped_listed (Some s) d = refl
+
+pub listed_rebased : (bases : List (Option SnapshotContent)) (ds : List Desk) → listed_in (rebased_desks bases ds) ≡ listed_in ds
+listed_rebased bases [] = refl
+listed_rebased [] (d ∷ ds) = refl
+listed_rebased (base ∷ bases) (d ∷ ds) =
+    ap (λ (i : Instrument). i ∷ listed_in (rebased_desks bases ds)) (jumped_listed base d)
+    ∙ ap (λ (t : List Instrument). d.instrument ∷ t) (listed_rebased bases ds)
+
 -- each desk has its snapshot
 abbrev all_based : List SnapshotContent → List (Option SnapshotContent)
 all_based snapshots = map (λ (s : SnapshotContent). Some s) snapshots
-
-listed_jumped : (snapshots : List SnapshotContent) (ds : List Desk) → listed_in (rebased_desks (all_based snapshots) ds) ≡ listed_in ds
-listed_jumped snapshots [] = refl
-listed_jumped [] (d ∷ ds) = refl
-listed_jumped (s ∷ snapshots) (d ∷ ds) = ap (λ (t : List Instrument). d.instrument ∷ t) (listed_jumped snapshots ds)
 
 jump_shows : (snapshots : List SnapshotContent) (ds : List Desk) → length snapshots ≡ length ds → AllZip (DeskShows []) (started (listed_in ds) snapshots) (rebased_desks (all_based snapshots) ds)
 jump_shows [] [] long = tt
@@ -180,7 +184,7 @@ shows_jumped listed moves from to snapshots old new text after long desks grown 
     let each_has : length snapshots ≡ length old = long ∙ ap length (sym so_far.listed_are) ∙ length-map old (λ (d : Desk). d.instrument) in
     let stands : AllZip (DeskShows []) (started listed snapshots) based = subst (λ (is : List Instrument). AllZip (DeskShows []) (started is snapshots) based) so_far.listed_are (jump_shows snapshots old each_has) in
     record {
-      listed_are = ap listed_in desks ∙ listed_jumped snapshots old ∙ so_far.listed_are;
+      listed_are = ap listed_in desks ∙ listed_rebased (all_based snapshots) old ∙ so_far.listed_are;
       each =
           subst (λ (s : Shown). AllZip (DeskShows s.since) s.starts new) (sym (shown-push listed moves (jumped from to snapshots)))
           (subst (λ (ds : List Desk). AllZip (DeskShows []) (started listed snapshots) ds) (sym desks) stands);

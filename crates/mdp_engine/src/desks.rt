@@ -6,9 +6,11 @@ ghost use Rattle.mdp_templates.specs.Instrument.{AreFit};
 ghost use Rattle.mdp_books.specs.Feed.{sent_as, sent_in};
 ghost use Rattle.mdp_print.specs.Texts.{jump_line};
 ghost use Rattle.mdp_engine.specs.Desks.{desk_at_start, desk_heard, desk_settled, desk_standing, desks_after, desks_text, desks_through, passed_desks, passed_text, rebased_desks};
-ghost use Rattle.mdp_engine.specs.Lines.{lines_as};
+ghost use Rattle.mdp_engine.specs.Lines.{text_of, audit_text, lines_as};
 
+use crate::audits::put_audits;
 use crate::desk::Desk;
+use crate::legs::{Legs, legs_of_all};
 use mdp_arbiter::Slots;
 use mdp_books::Place;
 use mdp_print::put_jump;
@@ -21,19 +23,19 @@ use std::marker::Model;
 pub struct Desks<A: Allocator> {
     slots: Slots<A>,
     desks: Vec<Desk, A>,
+    legs: Vec<Option<Legs>, A>,
 }
 
 impl<A: Allocator> Model for Desks<A> {
-    ghost use Rattle.std.specs.Prelude.{List, ◌≡◌, ◌≢◌, map};
-    ghost use Rattle.std.specs.List.{AllPairs};
+    ghost use Rattle.std.specs.Prelude.{List};
     ghost use Rattle.mdp_engine.specs.declared.desk.Desk.{Desk};
-    ghost use Rattle.mdp_engine.specs.Slots.{AreSlotsOf};
+    ghost use Rattle.mdp_engine.specs.Slots.{listed_in, AreSlotsOf};
 
     ghost Value = { List Desk };
 
     ghost view = { λ d. d.desks.items };
 
-    ghost invariant = { λ d. AreSlotsOf d.desks.items d.slots };
+    ghost invariant = { λ d. AreSlotsOf (listed_in d.desks.items) d.slots d.legs.items };
 }
 
 // The place of the security that an entry names, if it is listed.
@@ -68,11 +70,12 @@ impl<A: Allocator + Copy> Desks<A> {
         ensures { IfOk result (λ d. d ≡ map desk_at_start instruments.now) }
     {
         let slots = Slots::of(alloc, instruments)?;
+        let legs = legs_of_all(alloc, &slots, instruments)?;
         let mut desks = Vec::with_capacity(alloc, instruments.len())?;
         for instrument in instruments {
             desks.push(Desk::new(instrument.copy()))?;
         }
-        Ok(Desks { slots, desks })
+        Ok(Desks { slots, desks, legs })
     }
 
     // Takes an entry, which is for one desk at most.
@@ -99,14 +102,30 @@ impl<A: Allocator + Copy> Desks<A> {
         }
     }
 
-    // Appends the lines that an event end owes.
-    fn put(&self, out: &mut Vec<u8, A>, packet: u32, message: u64) -> Result<(), Memory>
-        ensures { OnOk result (out.new.items ≡ out.old.items ++ lines_as packet message (map (desk_standing packet) self.now)) }
+    // Appends the lines of the books that an event end prints.
+    fn put_books(&self, out: &mut Vec<u8, A>, packet: u32, message: u64) -> Result<(), Memory>
+        ensures { OnOk result (out.new.items ≡ out.old.items ++ flat_map (text_of packet message) (map (desk_standing packet) self.now)) }
     {
         for desk in &self.desks {
             desk.put(out, packet, message)?;
         }
         Ok(())
+    }
+
+    // Appends the lines of the calendar spreads that an event end audits.
+    fn put_spreads(&self, out: &mut Vec<u8, A>, packet: u32, message: u64) -> Result<(), Memory>
+        ensures { OnOk result (out.new.items ≡ out.old.items ++ flat_map (audit_text packet message (map (desk_standing packet) self.now)) (map (desk_standing packet) self.now)) }
+    {
+        put_audits(out, packet, message, &self.desks, &self.legs)
+    }
+
+    // Appends the lines that an event end owes.
+    #[tactic(auto, unfolding(crate::specs::Lines::lines_as))]
+    fn put(&self, out: &mut Vec<u8, A>, packet: u32, message: u64) -> Result<(), Memory>
+        ensures { OnOk result (out.new.items ≡ out.old.items ++ lines_as packet message (map (desk_standing packet) self.now)) }
+    {
+        self.put_books(out, packet, message)?;
+        self.put_spreads(out, packet, message)
     }
 
     // Forgets the marks where an event ended.

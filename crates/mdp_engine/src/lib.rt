@@ -1,11 +1,13 @@
 //! The engine: what comes on a channel in, and out the lines that each event end owes of the listed securities' books.
 #![tactic(auto)]
 
+mod audits;
 mod desk;
 mod desks;
 mod engine;
 mod event;
 mod laws;
+mod legs;
 mod lines;
 
 pub use desks::Desks;

@@ -7,6 +7,8 @@ use Rattle.mdp_sbe.specs.Refusal.{refusal_number, refusal_name}
 use Rattle.mdp_templates.specs.declared.entry.Level.{Level}
 use Rattle.mdp_books.specs.declared.book.Place.{Place}
 use Rattle.mdp_quotes.specs.declared.total.Total.{Total}
+use Rattle.mdp_quotes.specs.declared.verdict.Verdict.{Verdict}
+use Rattle.mdp_quotes.specs.declared.verdict.Verdict.TheVariants.{Neither, Missing, Extra, Better, Worse, Equal, EqualLess, EqualMore}
 use Rattle.mdp_print.specs.declared.feed.Feed.{Feed}
 use Rattle.mdp_print.specs.Feed.{feed_letter}
 
@@ -49,6 +51,22 @@ place_text place = decimal place.packet ++ codes "." ++ decimal place.message ++
 unfoldable pub fault_line : ℕ → ℕ → List ℕ → Place → List ℕ
 fault_line packet message name place =
     codes "F " ++ event_text packet message name ++ codes " " ++ place_text place ++ codes "\n"
+
+-- the word for a verdict on a spread's published quote
+abbrev pub verdict_text : Verdict → List ℕ
+verdict_text Neither = codes "none"
+verdict_text Missing = codes "missing"
+verdict_text Extra = codes "extra"
+verdict_text Better = codes "better"
+verdict_text Worse = codes "worse"
+verdict_text Equal = codes "equal"
+verdict_text EqualLess = codes "equal-less"
+verdict_text EqualMore = codes "equal-more"
+
+-- A PACKET.MESSAGE NAME bid VERDICT offer VERDICT
+unfoldable pub audit_line : ℕ → ℕ → List ℕ → Verdict → Verdict → List ℕ
+audit_line packet message name bid offer =
+    codes "A " ++ event_text packet message name ++ codes " bid " ++ verdict_text bid ++ codes " offer " ++ verdict_text offer ++ codes "\n"
 
 -- J OLD NEW, the number of the next packet before and after a jump
 unfoldable pub jump_line : ℕ → ℕ → List ℕ

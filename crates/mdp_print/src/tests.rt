@@ -1,11 +1,11 @@
 //! The texts of the lines, writers that fail, and allocations that are refused.
 
 use crate::{
-    CountedWrite, Counting, Feed, put_consolidated, put_direct, put_fault, put_implied, put_jump,
-    put_last, put_refusal, write_all_counted,
+    CountedWrite, Counting, Feed, put_audit, put_consolidated, put_direct, put_fault, put_implied,
+    put_jump, put_last, put_refusal, write_all_counted,
 };
 use mdp_books::Place;
-use mdp_quotes::Total;
+use mdp_quotes::{Total, Verdict};
 use mdp_sbe::Refusal;
 use mdp_templates::{Level, Memory};
 use refusing::Refusing;
@@ -76,6 +76,34 @@ fn prints_faults_jumps_and_the_end(rt: HostRuntime) -> Result<(), Fail> {
     let lines =
         b"F 4.1 NEAR 3.18446744073709551615.255\nJ 5 18446744073709551615\nJ 0 1\nZ 9 lost\nZ 18446744073709551615 live\n";
     assert_eq!(rt; out.as_slice(), &lines[..]);
+    Ok(())
+}
+
+#[test]
+fn prints_verdicts(rt: HostRuntime) -> Result<(), Fail> {
+    let mut out = Vec::new(rt.alloc());
+    let verdicts = [
+        Verdict::Neither,
+        Verdict::Missing,
+        Verdict::Extra,
+        Verdict::Better,
+        Verdict::Worse,
+        Verdict::Equal,
+        Verdict::EqualLess,
+        Verdict::EqualMore,
+    ];
+    for n in 0..verdicts.len() {
+        let offer = verdicts[verdicts.len() - 1 - n];
+        assert!(rt; put_audit(&mut out, 5, n as u64 + 1, b"CAL", verdicts[n], offer).is_ok());
+    }
+    let all_words =
+        b"A 5.1 CAL bid none offer equal-more\nA 5.2 CAL bid missing offer equal-less\nA 5.3 CAL bid extra offer equal\nA 5.4 CAL bid better offer worse\nA 5.5 CAL bid worse offer better\nA 5.6 CAL bid equal offer extra\nA 5.7 CAL bid equal-less offer missing\nA 5.8 CAL bid equal-more offer none\n";
+    assert_eq!(rt; out.as_slice(), &all_words[..]);
+    out.clear();
+    let (worse, equal) = (Verdict::Worse, Verdict::Equal);
+    assert!(rt; put_audit(&mut out, u32::MAX, u64::MAX, b"", worse, equal).is_ok());
+    let largest = b"A 4294967295.18446744073709551615  bid worse offer equal\n";
+    assert_eq!(rt; out.as_slice(), &largest[..]);
     Ok(())
 }
 
@@ -211,8 +239,16 @@ fn put_line<A: Allocator>(out: &mut Vec<u8, A>, kind: usize) -> Result<(), Memor
         1 => put_implied(out, 1, 2, b"NEAR", &levels, &[]),
         2 => put_consolidated(out, 1, 2, b"NEAR", &totals, &totals),
         3 => put_fault(out, 1, 2, b"A NAME OF 20 LETTERS", &place),
-        4 => put_jump(out, u64::MAX, u64::MAX),
-        5 => put_refusal(out, Feed::S, u32::MAX, Refusal::SnapshotLevels),
+        4 => put_audit(
+            out,
+            u32::MAX,
+            u64::MAX,
+            b"A NAME OF 20 LETTERS",
+            Verdict::EqualLess,
+            Verdict::EqualMore,
+        ),
+        5 => put_jump(out, u64::MAX, u64::MAX),
+        6 => put_refusal(out, Feed::S, u32::MAX, Refusal::SnapshotLevels),
         _ => put_last(out, u64::MAX, true),
     }
 }
@@ -238,11 +274,11 @@ fn refuse_each(rt: &impl Abort, alloc: Global, kind: usize) -> Result<u64, Fail>
 
 #[test]
 fn keeps_the_vector_where_memory_runs_out(rt: HostRuntime) -> Result<(), Fail> {
-    // the lines of books go out in pieces, so that a later growth finds some of the line in place
-    for kind in 0..4usize {
+    // the lines of books and spreads go out in pieces, so that a later growth finds some of the line in place
+    for kind in 0..5usize {
         assert!(rt; refuse_each(&rt, rt.alloc(), kind)? > 1);
     }
-    for kind in 4..7usize {
+    for kind in 5..8usize {
         assert!(rt; refuse_each(&rt, rt.alloc(), kind)? > 0);
     }
     Ok(())

@@ -1,15 +1,18 @@
 use Rattle.std.proofs.Common.{◌≡◌, ◌≢◌, ℤ, List, Some, sym, ap, subst, ◌∙◌}
 use Rattle.std.specs.Prelude.{slice_get}
 use Rattle.std.specs.List.{AllPairs}
-use Rattle.mdp_engine.proofs.Hearing.{ids_of, one_heard, none_heard, slots_entered}
+use Rattle.mdp_engine.proofs.Hearing.{ids_in, one_heard, none_heard, same_slots, listed_entered}
 use Rattle.mdp_engine.proofs.desks.Desks.enter.Goals as goal
 
 pub invariant_of-self : goal.invariant_of-self
-invariant_of-self g c = rw c.enter.ensures (slots_entered c.args.place c.args.entry.now c.self.inside.desks.items c.in-Some.slot c.index_mut.result.now c.self.inside.slots c.self.invariant c.index_mut.ensures.value)
+invariant_of-self g c =
+    let inside = c.self.inside in
+    let listed = listed_entered c.args.place c.args.entry.now inside.desks.items c.in-Some.slot c.index_mut.result.now c.index_mut.ensures.value in
+    rw c.enter.ensures (same_slots inside.desks.items _ inside.slots inside.legs.items c.self.invariant listed)
 
 pub returns-in-Some : goal.returns-in-Some
 returns-in-Some g c =
-    let at : slice_get (ids_of c.self.inside.desks.items) c.in-Some.slot ≡ Some c.args.entry.now.security = ap (λ (ids : List ℤ). slice_get ids c.in-Some.slot) (sym c.self.invariant.same) ∙ c.in-Some.ensures.some in
+    let at : slice_get (ids_in c.self.inside.desks.items) c.in-Some.slot ≡ Some c.args.entry.now.security = ap (λ (ids : List ℤ). slice_get ids c.in-Some.slot) (sym c.self.invariant.same) ∙ c.in-Some.ensures.some in
     let differ = subst (λ (ids : List ℤ). AllPairs (λ a b. a ≢ b) ids) c.self.invariant.same c.self.invariant.differ in
     rw (← c.self.view_is, c.enter.ensures) (one_heard c.args.place c.args.entry.now c.self.inside.desks.items c.in-Some.slot c.index_mut.result.now differ at c.index_mut.ensures.value)
 

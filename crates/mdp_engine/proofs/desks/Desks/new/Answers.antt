@@ -7,6 +7,7 @@ use Rattle.mdp_engine.proofs.desks.Desks.new.Goals as goal
 pub invariant_of-result : goal.invariant_of-result
 invariant_of-result g c =
     let all : take c.loop-instrument.instrument-index c.args.instruments.now ≡ c.args.instruments.now = take_all c.loop-instrument.instrument-index c.args.instruments.now (omega arith) in
-    slots_start c.args.instruments.now c.loop-instrument.desks.items c.in_ok-slots.slots c.requires.ids_differ
+    slots_start c.args.instruments.now c.loop-instrument.desks.items c.in_ok-slots.slots c.in_ok-legs.legs.items c.requires.ids_differ
     (c.loop-instrument.invariant.desks ∙ ap (map desk_at_start) all)
     c.in_ok-slots.ensures
+    c.in_ok-legs.ensures

@@ -1,0 +1,124 @@
+//! The lines of calendar spreads where an event ends.
+
+ghost use Rattle.std.specs.Prelude.{◌≡◌, ◌≢◌, ◌++◌, ◌&&◌, ◌||◌, nat_lt, map, AllPairs, OnOk};
+ghost use Rattle.std.specs.List.{flat_map};
+ghost use Rattle.mdp_arbiter.specs.Slots.{ids_of};
+ghost use Rattle.mdp_quotes.specs.Best.{best_of};
+ghost use Rattle.mdp_engine.specs.Desks.{desk_standing};
+ghost use Rattle.mdp_engine.specs.Lines.{verdicts_text, spread_text, audit_text};
+ghost use Rattle.mdp_engine.specs.Slots.{listed_in, legs_in, AreSlotsOf};
+
+use crate::desk::Desk;
+use crate::legs::Legs;
+use mdp_books::Book;
+use mdp_print::put_audit;
+use mdp_quotes::{Best, audit};
+use mdp_templates::Memory;
+use std::alloc::Allocator;
+
+// Appends the verdicts of a spread's book against its legs', unless one of the three is a fault.
+fn put_verdicts<A: Allocator>(
+    out: &mut Vec<u8, A>,
+    packet: u32,
+    message: u64,
+    name: &[u8],
+    spread: &Book,
+    leg1: &Book,
+    leg2: &Book,
+) -> Result<(), Memory>
+    ensures { OnOk result (out.new.items ≡ out.old.items ++ verdicts_text packet message name.now (best_of spread.now) (best_of leg1.now) (best_of leg2.now)) }
+{
+    match (Best::of(spread), Best::of(leg1), Best::of(leg2)) {
+        (Some(spread), Some(leg1), Some(leg2)) => {
+            let [bid, offer] = audit(&spread, &leg1, &leg2);
+            put_audit(out, packet, message, name, bid, offer)
+        }
+        _ => Ok(()),
+    }
+}
+
+fn is_one_marked(spread: &Desk, leg1: &Desk, leg2: &Desk) -> bool
+    ensures { result ≡ (spread.now.marked || leg1.now.marked || leg2.now.marked) }
+{
+    spread.marked || leg1.marked || leg2.marked
+}
+
+// Whether the packet stands behind the bases of all three.
+fn are_current(packet: u32, spread: &Desk, leg1: &Desk, leg2: &Desk) -> bool
+    ensures { result ≡ (nat_lt spread.now.base packet && nat_lt leg1.now.base packet && nat_lt leg2.now.base packet) }
+{
+    packet > spread.base && packet > leg1.base && packet > leg2.base
+}
+
+// Appends the line of a spread where message `message` of packet `packet` ends an event that prints it
+// or one of its legs, and stands behind the bases of all three.
+fn put_spread<A: Allocator>(
+    out: &mut Vec<u8, A>,
+    packet: u32,
+    message: u64,
+    spread: &Desk,
+    leg1: &Desk,
+    leg2: &Desk,
+) -> Result<(), Memory>
+    ensures { OnOk result (out.new.items ≡ out.old.items ++ spread_text packet message (desk_standing packet spread.now) (desk_standing packet leg1.now) (desk_standing packet leg2.now)) }
+{
+    if !is_one_marked(spread, leg1, leg2) {
+        return Ok(());
+    }
+    if !are_current(packet, spread, leg1, leg2) {
+        return Ok(());
+    }
+    let name = spread.instrument.name.as_str().as_bytes();
+    put_verdicts(
+        out,
+        packet,
+        message,
+        name,
+        spread.book.book(),
+        leg1.book.book(),
+        leg2.book.book(),
+    )
+}
+
+// Appends the line of a security that may be a spread, whose legs stand at these places.
+fn put_audit_at<A: Allocator>(
+    out: &mut Vec<u8, A>,
+    packet: u32,
+    message: u64,
+    desks: &[Desk],
+    desk: &Desk,
+    legs: Option<Legs>,
+) -> Result<(), Memory>
+    requires differ { AllPairs (λ a b. a ≢ b) (ids_of (listed_in desks.now)) }
+    requires legs { legs ≡ legs_in (ids_of (listed_in desks.now)) desk.now.instrument.kind }
+    ensures { OnOk result (out.new.items ≡ out.old.items ++ audit_text packet message (map (desk_standing packet) desks.now) (desk_standing packet desk.now)) }
+{
+    match legs {
+        Some(legs) => put_spread(
+            out,
+            packet,
+            message,
+            desk,
+            &desks[legs.leg1],
+            &desks[legs.leg2],
+        ),
+        None => Ok(()),
+    }
+}
+
+/// Appends the lines of the calendar spreads among these securities that an event end owes.
+pub(crate) fn put_audits<A: Allocator>(
+    out: &mut Vec<u8, A>,
+    packet: u32,
+    message: u64,
+    desks: &[Desk],
+    legs: &[Option<Legs>],
+) -> Result<(), Memory>
+    requires { AreSlotsOf (listed_in desks.now) (ids_of (listed_in desks.now)) legs.now }
+    ensures { OnOk result (out.new.items ≡ out.old.items ++ flat_map (audit_text packet message (map (desk_standing packet) desks.now)) (map (desk_standing packet) desks.now)) }
+{
+    for n in 0..desks.len() {
+        put_audit_at(out, packet, message, desks, &desks[n], legs[n])?;
+    }
+    Ok(())
+}

@@ -1,0 +1,79 @@
+//! The lines of calendar spreads.
+
+ghost use Rattle.std.specs.Prelude.{◌≡◌, ◌+◌, ◌<◌, ◌≤◌, ◌++◌, length, codes, vec_len, vec_capacity, OnOk, OnErr};
+ghost use Rattle.mdp_print.specs.Texts.{verdict_text, audit_line};
+ghost use Rattle.mdp_print.specs.Pieces.{BeginsWith};
+
+use crate::pieces::{put, put_event, settle};
+use crate::short_text::ShortText;
+use mdp_quotes::Verdict;
+use mdp_templates::Memory;
+use std::alloc::Allocator;
+
+/// The word for a verdict, of ten bytes at most.
+fn word_of(verdict: Verdict) -> &'static [u8]
+    ensures text { result.now ≡ verdict_text verdict }
+    ensures short { length result.now ≤ 10 }
+{
+    match verdict {
+        Verdict::Neither => b"none",
+        Verdict::Missing => b"missing",
+        Verdict::Extra => b"extra",
+        Verdict::Better => b"better",
+        Verdict::Worse => b"worse",
+        Verdict::Equal => b"equal",
+        Verdict::EqualLess => b"equal-less",
+        Verdict::EqualMore => b"equal-more",
+    }
+}
+
+/// The end of an `A` line: the verdicts on the bid and the offer.
+fn end_with(bid: Verdict, offer: Verdict) -> ShortText
+    ensures { result ≡ codes " bid " ++ verdict_text bid ++ codes " offer " ++ verdict_text offer ++ codes "\n" }
+{
+    let mut text = ShortText::new();
+    text.put_byte(b'\n');
+    text.put_bytes(word_of(offer));
+    text.put_bytes(b" offer ");
+    text.put_bytes(word_of(bid));
+    text.put_bytes(b" bid ");
+    text
+}
+
+/// Appends the `A` line, or a front of it where memory runs out.
+#[tactic(auto, unfolding(crate::specs::Texts::audit_line))]
+fn put_verdicts<A: Allocator>(
+    out: &mut Vec<u8, A>,
+    packet: u32,
+    message: u64,
+    name: &[u8],
+    bid: Verdict,
+    offer: Verdict,
+) -> Result<(), Memory>
+    ensures ok { OnOk result (out.new.items ≡ out.old.items ++ audit_line packet message name.now bid offer) }
+    ensures err { OnErr result (BeginsWith out.new.items out.old.items) }
+    ensures full { OnErr result (vec_capacity out.old < vec_len out.old + length (audit_line packet message name.now bid offer)) }
+{
+    put_event(out, b'A', packet, message, name)?;
+    put(out, end_with(bid, offer).as_slice())
+}
+
+/// Appends the `A` line of a calendar spread: the verdicts on its implied bid and its implied offer,
+/// where message `message` of packet `packet` ends an event. Where memory runs out the vector is as
+/// before.
+pub fn put_audit<A: Allocator>(
+    out: &mut Vec<u8, A>,
+    packet: u32,
+    message: u64,
+    name: &[u8],
+    bid: Verdict,
+    offer: Verdict,
+) -> Result<(), Memory>
+    ensures ok { OnOk result (out.new.items ≡ out.old.items ++ audit_line packet message name.now bid offer) }
+    ensures err { OnErr result (out.new.items ≡ out.old.items) }
+    ensures full { OnErr result (vec_capacity out.old < vec_len out.old + length (audit_line packet message name.now bid offer)) }
+{
+    let start = out.len();
+    let outcome = put_verdicts(out, packet, message, name, bid, offer);
+    settle(out, start, outcome)
+}
