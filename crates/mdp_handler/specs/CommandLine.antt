@@ -1,10 +1,11 @@
 -- The command line: the options of the program, and what words of a command line ask for.
-use Rattle.std.specs.Prelude.{◌≡◌, ◌≤◌, ◌⊎◌, ℕ, Bool, true, false, List, [], ◌∷◌, Some, codes, pos}
+use Rattle.std.specs.Prelude.{◌≡◌, ◌≤◌, ℕ, Bool, true, false, List, [], ◌∷◌, Some, codes, pos}
 use Rattle.std.specs.Str.Parse.{IsNumeral, digits_value, without_leading_plus}
-use Rattle.clap.specs.Words.{App, Rule, Text, IsAmong, fault_of, matches_of, new_app, new_rule, one_of, with_rule}
+use Rattle.clap.specs.Words.{App, Rule, Text, IsAmong, Kinds, fault_of, matches_of, new_app, new_rule, one_of, with_rule}
 use Rattle.clap.specs.declared.builder.action.ArgAction.TheVariants.{SetTrue}
 use Rattle.clap.specs.declared.builder.value_parser.ValueParser.{ValueParser}
 use Rattle.clap.specs.declared.builder.value_parser.ValueParser.TheVariants.{Signed}
+use Rattle.clap.specs.declared.error.kind.ErrorKind.{ErrorKind}
 use Rattle.clap.specs.declared.error.kind.ErrorKind.TheVariants as kind
 use Rattle.mdp_handler.specs.declared.settings.Settings.{Settings}
 
@@ -41,9 +42,13 @@ options =
 abbrev pub AsksToRun : List Text → Type 0
 AsksToRun words = fault_of options words ≡ []
 
--- the first word that is no option with its value asks for the help or the version
+-- what is shown with no fault: the help and the version
+abbrev pub shown_kinds : Kinds
+shown_kinds = kind.DisplayHelp ∷ kind.DisplayVersion ∷ []
+
+-- the words ask for the help or the version
 abbrev pub AsksToShow : List Text → Type 0
-AsksToShow words = IsAmong kind.DisplayHelp (fault_of options words) ⊎ IsAmong kind.DisplayVersion (fault_of options words)
+AsksToShow words = (asked : ErrorKind) × IsAmong asked shown_kinds × IsAmong asked (fault_of options words)
 
 -- the number that is given for an option, or its default, where the text is a number from 1 to `most`
 abbrev pub IsSetting : Text → ℕ → List Text → ℕ → Type 0

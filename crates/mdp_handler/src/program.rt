@@ -1,6 +1,8 @@
 //! The program, over any input and outputs.
 
-ghost use Rattle.std.specs.Prelude.{◌≡◌, ◌≤◌, ◌<◌, ◌-◌, ◌^◌, ◌⊎◌};
+ghost use Rattle.std.specs.Prelude.{◌≡◌, ◌≤◌, ◌<◌, ◌-◌, ◌^◌, ◌++◌, ◌⊎◌, ℕ, List, map};
+ghost use Rattle.clap.specs.Words.{IsAmong, kind_of};
+ghost use Rattle.mdp_handler.specs.CommandLine.{AsksToRun, AsksToShow, shown_kinds};
 ghost use Rattle.mdp_handler.specs.Printed.{HasPrinted, HasRun};
 ghost use Rattle.mdp_templates.specs.Instrument.{AreFit};
 
@@ -37,8 +39,9 @@ pub fn program<I: CountedRead, O: CountedWrite, F: CountedWrite, A: Allocator + 
     requires output { O.failed output.old < 2 ^ 64 - 1 }
     ensures status { result ≤ 2 }
     ensures reads { result ≡ 0 → I.failed input.new ≡ I.failed input.old }
-    ensures text { result ≡ 0 → (I.rest input.new ≡ I.rest input.old) ⊎ HasRun (I.rest input.old) (O.taken output.old) (O.taken output.new) }
+    ensures text { result ≡ 0 → (AsksToRun (map (λ word. word.now) words.now) × HasRun (I.rest input.old) (O.taken output.old) (O.taken output.new)) ⊎ (AsksToShow (map (λ word. word.now) words.now) × (I.rest input.new ≡ I.rest input.old) × ((text : List ℕ) × (O.taken output.new ≡ O.taken output.old ++ text))) }
     ensures refused { result ≡ 2 → O.taken output.new ≡ O.taken output.old }
+    ensures unread { ¬ (AsksToRun (map (λ word. word.now) words.now)) → I.rest input.new ≡ I.rest input.old }
 {
     match read_settings(words_alloc, words) {
         Ok(settings) => run_over(alloc, settings.window, input, output, faults),
@@ -55,6 +58,7 @@ fn show<O: CountedWrite, F: CountedWrite, A: Allocator>(
 ) -> u8
     requires { O.failed output.old < 2 ^ 64 - 1 }
     ensures status { result ≤ 2 }
+    ensures shown { result ≡ 0 → IsAmong (kind_of error.now) shown_kinds × ((text : List ℕ) × (O.taken output.new ≡ O.taken output.old ++ text)) }
     ensures refused { result ≡ 2 → O.taken output.new ≡ O.taken output.old }
 {
     if error.kind() == ErrorKind::OutOfMemory {
