@@ -1,8 +1,9 @@
 -- The lines that are told on standard error, each ended by one line feed.
-use Rattle.std.specs.Prelude.{ℕ, List, [], ◌++◌, ◌==◌, codes, decimal, if◌then◌else◌}
+use Rattle.std.specs.Prelude.{◌≡◌, ℕ, List, [], ◌++◌, ◌==◌, Option, Err, IfSome, codes, decimal, if◌then◌else◌}
 use Rattle.std.specs.List.{flat_map}
 use Rattle.mdp_capture.specs.declared.fault.CaptureRefusal.{CaptureRefusal}
 use Rattle.mdp_capture.specs.declared.skip.SkippedLine.{SkippedLine}
+use Rattle.mdp_capture.specs.Capture.{capture_of}
 use Rattle.mdp_capture.specs.Faults.{refusal_number, refusal_name, skip_number, skip_name}
 
 -- a write of the output failed after so many bytes went out
@@ -26,3 +27,9 @@ skipped_line skipped =
 -- the lines of the capture that are skipped, in their order
 abbrev pub skipped_lines : List SkippedLine → List ℕ
 skipped_lines = flat_map skipped_line
+
+-- a writer of faults holds, behind what it held before, why the capture is refused; and where the reader tells the
+-- text of the capture, that is the text's first refusal
+abbrev pub HasRefused : Option (List ℕ) → List ℕ → List ℕ → Type 0
+HasRefused input before after =
+    (line : ℕ) × (refusal : CaptureRefusal) × (after ≡ before ++ refused_line line refusal) × IfSome input (λ text. capture_of text ≡ Err (record { line = line; refusal = refusal }))
