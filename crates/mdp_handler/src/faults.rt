@@ -1,18 +1,15 @@
-//! What is told on standard error. A write that fails there is passed over.
+//! What is told on standard error. A write that fails there is passed over, and no line takes memory.
 
-ghost use Rattle.std.specs.Prelude.{◌≡◌, ◌<◌, ◌-◌, ◌^◌, ◌++◌, codes};
+ghost use Rattle.std.specs.Prelude.{◌≡◌, ◌<◌, ◌≤◌, ◌-◌, ◌^◌, ◌++◌, length, codes, decimal};
+ghost use Rattle.mdp_handler.specs.Faults.{output_line, place_text, refused_line, skipped_line, skipped_lines};
 
-use arrayvec::ArrayString;
 use mdp_capture::{CaptureRefusal, SkippedLine};
-use mdp_print::{CountedWrite, write_all_counted};
-use std::fmt::Write;
-
-/// The room for one line; the longest has 43 bytes.
-const MOST: usize = 64;
+use mdp_print::{CountedWrite, ShortText, write_all_counted};
 
 /// Tells a text. Once as many writes failed as can be counted, nothing more is told.
 pub fn tell<F: CountedWrite>(faults: &mut F, text: &[u8])
-    ensures { F.failed faults.new ≡ F.failed faults.old → F.failed faults.old < 2 ^ 64 - 1 → F.taken faults.new ≡ F.taken faults.old ++ text.now }
+    ensures told { F.failed faults.new ≡ F.failed faults.old → F.failed faults.old < 2 ^ 64 - 1 → F.taken faults.new ≡ F.taken faults.old ++ text.now }
+    ensures failures { F.failed faults.old ≤ F.failed faults.new }
 {
     if faults.failures() < u64::MAX {
         let _ = write_all_counted(faults, text);
@@ -27,10 +24,15 @@ pub fn tell_memory<F: CountedWrite>(faults: &mut F)
 }
 
 /// Tells that a write failed after this many bytes went out.
-pub fn tell_output<F: CountedWrite>(faults: &mut F, written: u64) {
-    let mut line = ArrayString::<MOST>::new();
-    let _ = writeln!(line, "42 Output after {written} bytes");
-    tell(faults, line.as_bytes());
+#[tactic(auto, unfolding(crate::specs::Faults::output_line))]
+pub fn tell_output<F: CountedWrite>(faults: &mut F, written: u64)
+    ensures { F.failed faults.new ≡ F.failed faults.old → F.failed faults.old < 2 ^ 64 - 1 → F.taken faults.new ≡ F.taken faults.old ++ output_line written }
+{
+    let mut text = ShortText::new();
+    text.put_bytes(b" bytes\n");
+    text.put_number(written);
+    text.put_bytes(b"42 Output after ");
+    tell(faults, text.as_slice());
 }
 
 /// Tells that a read failed.
@@ -40,30 +42,57 @@ pub fn tell_input<F: CountedWrite>(faults: &mut F)
     tell(faults, b"43 Input\n");
 }
 
-/// Tells why a capture is refused, with the line where it is, unless that is line 0.
-pub fn tell_refused<F: CountedWrite>(faults: &mut F, line: u32, refusal: CaptureRefusal) {
-    let mut text = ArrayString::<MOST>::new();
-    let number = refusal.number();
-    let name = refusal.name();
-    let _ = if line == 0 {
-        writeln!(text, "{number} {name}")
-    } else {
-        writeln!(text, "line {line}: {number} {name}")
-    };
-    tell(faults, text.as_bytes());
+/// The number and the name of a fault, and the line feed after them.
+fn fault_text(number: u8, name: &str) -> ShortText
+    requires { length name.now ≤ 14 }
+    ensures text { result ≡ decimal number ++ codes " " ++ name.now ++ codes "\n" }
+    ensures size { length result ≤ 36 }
+{
+    let mut text = ShortText::new();
+    text.put_byte(b'\n');
+    text.put_bytes(name.as_bytes());
+    text.put_byte(b' ');
+    text.put_number(u64::from(number));
+    text
 }
 
-fn tell_skipped_line<F: CountedWrite>(faults: &mut F, skipped: &SkippedLine) {
-    let mut text = ArrayString::<MOST>::new();
-    let line = skipped.line;
-    let number = skipped.skip.number();
-    let name = skipped.skip.name();
-    let _ = writeln!(text, "line {line}: {number} {name}");
-    tell(faults, text.as_bytes());
+/// Puts a line of the capture in front of what is told of it.
+fn put_place(text: &mut ShortText, line: u32)
+    requires { length text.old ≤ 36 }
+    ensures { text.new ≡ place_text line ++ text.old }
+{
+    text.put_bytes(b": ");
+    text.put_number(u64::from(line));
+    text.put_bytes(b"line ");
+}
+
+/// Tells why a capture is refused, with the line where it is, unless that is line 0.
+#[tactic(auto, using(crate::proofs::Names::refusal_name_short), unfolding(crate::specs::Faults::refused_line))]
+pub fn tell_refused<F: CountedWrite>(faults: &mut F, line: u32, refusal: CaptureRefusal)
+    ensures { F.failed faults.new ≡ F.failed faults.old → F.failed faults.old < 2 ^ 64 - 1 → F.taken faults.new ≡ F.taken faults.old ++ refused_line line refusal }
+{
+    let mut text = fault_text(refusal.number(), refusal.name());
+    if line != 0 {
+        put_place(&mut text, line);
+    }
+    tell(faults, text.as_slice());
+}
+
+/// Tells a line that was skipped.
+#[tactic(auto, using(crate::proofs::Names::skip_name_short), unfolding(crate::specs::Faults::skipped_line))]
+fn tell_skipped_line<F: CountedWrite>(faults: &mut F, skipped: &SkippedLine)
+    ensures told { F.failed faults.new ≡ F.failed faults.old → F.failed faults.old < 2 ^ 64 - 1 → F.taken faults.new ≡ F.taken faults.old ++ skipped_line skipped.now }
+    ensures failures { F.failed faults.old ≤ F.failed faults.new }
+{
+    let mut text = fault_text(skipped.skip.number(), skipped.skip.name());
+    put_place(&mut text, skipped.line);
+    tell(faults, text.as_slice());
 }
 
 /// Tells each line that was skipped, on a line of its own.
-pub fn tell_skipped<F: CountedWrite>(faults: &mut F, lines: &[SkippedLine]) {
+pub fn tell_skipped<F: CountedWrite>(faults: &mut F, lines: &[SkippedLine])
+    ensures { F.failed faults.new ≡ F.failed faults.old → F.failed faults.old < 2 ^ 64 - 1 → F.taken faults.new ≡ F.taken faults.old ++ skipped_lines lines.now }
+{
     for line in lines {
         tell_skipped_line(faults, line);
     }

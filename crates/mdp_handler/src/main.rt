@@ -7,6 +7,8 @@ mod settings;
 #[cfg(test)]
 mod tests;
 
+ghost use Rattle.std.specs.Prelude.{◌≡◌, IfOk, map, string_bytes};
+
 use mdp_capture::CountingReader;
 use mdp_print::Counting;
 use std::alloc::{AllocError, Global};
@@ -47,7 +49,9 @@ fn main(rt: HostRuntime) -> ExitCode {
 }
 
 // The words as borrowed texts.
-fn words_of<'a>(alloc: Global, texts: &'a [String]) -> Result<Vec<&'a str>, AllocError> {
+fn words_of<'a>(alloc: Global, texts: &'a [String]) -> Result<Vec<&'a str>, AllocError>
+    ensures { IfOk result (λ words. map (λ word. word.now) words.items ≡ map string_bytes texts.now) }
+{
     let mut words = Vec::with_capacity(alloc, texts.len())?;
     for text in texts {
         words.push(text.as_str())?;

@@ -1,6 +1,9 @@
 //! The program, over any input and outputs.
 
-ghost use Rattle.std.specs.Prelude.{◌≡◌, ◌≤◌, ◌<◌, ◌-◌, ◌^◌, ◌⊎◌};
+ghost use Rattle.std.specs.Prelude.{◌≡◌, ◌≤◌, ◌<◌, ◌-◌, ◌^◌, ◌++◌, ◌⊎◌, ℕ, List, map};
+ghost use Rattle.clap.specs.Words.{IsAmong, kind_of};
+ghost use Rattle.mdp_handler.specs.CommandLine.{AsksToRun, AsksToShow, shown_kinds};
+ghost use Rattle.mdp_handler.specs.Faults.{HasRefused};
 ghost use Rattle.mdp_handler.specs.Printed.{HasPrinted, HasRun};
 ghost use Rattle.mdp_templates.specs.Instrument.{AreFit};
 
@@ -23,8 +26,8 @@ pub const REFUSED: u8 = 2;
 /// The program. It reads the command line `words`, of which the first is the program's name, then a capture from
 /// `input`, writes the text of the run to `output`, and tells what went wrong on `faults`. Answers the exit status:
 /// 0 for a run to the end and for help, 1 where memory ran out or a read or a write of the output failed, and 2 where
-/// the command line or the capture is refused; then nothing is written to `output`. A write to `faults` that fails is
-/// passed over.
+/// the command line or the capture is refused; then nothing is written to `output`. Only where the words ask for a run
+/// is anything read. A write to `faults` that fails is passed over.
 pub fn program<I: CountedRead, O: CountedWrite, F: CountedWrite, A: Allocator + Copy>(
     words_alloc: Global,
     alloc: A,
@@ -37,8 +40,10 @@ pub fn program<I: CountedRead, O: CountedWrite, F: CountedWrite, A: Allocator + 
     requires output { O.failed output.old < 2 ^ 64 - 1 }
     ensures status { result ≤ 2 }
     ensures reads { result ≡ 0 → I.failed input.new ≡ I.failed input.old }
-    ensures text { result ≡ 0 → (I.rest input.new ≡ I.rest input.old) ⊎ HasRun (I.rest input.old) (O.taken output.old) (O.taken output.new) }
+    ensures text { result ≡ 0 → (AsksToRun (map (λ word. word.now) words.now) × HasRun (I.rest input.old) (O.taken output.old) (O.taken output.new)) ⊎ (AsksToShow (map (λ word. word.now) words.now) × (I.rest input.new ≡ I.rest input.old) × ((text : List ℕ) × (O.taken output.new ≡ O.taken output.old ++ text))) }
     ensures refused { result ≡ 2 → O.taken output.new ≡ O.taken output.old }
+    ensures told { result ≡ 2 → AsksToRun (map (λ word. word.now) words.now) → F.failed faults.new ≡ F.failed faults.old → F.failed faults.old < 2 ^ 64 - 1 → HasRefused (I.rest input.old) (F.taken faults.old) (F.taken faults.new) }
+    ensures unread { ¬ (AsksToRun (map (λ word. word.now) words.now)) → I.rest input.new ≡ I.rest input.old }
 {
     match read_settings(words_alloc, words) {
         Ok(settings) => run_over(alloc, settings.window, input, output, faults),
@@ -55,7 +60,9 @@ fn show<O: CountedWrite, F: CountedWrite, A: Allocator>(
 ) -> u8
     requires { O.failed output.old < 2 ^ 64 - 1 }
     ensures status { result ≤ 2 }
+    ensures shown { result ≡ 0 → IsAmong (kind_of error.now) shown_kinds × ((text : List ℕ) × (O.taken output.new ≡ O.taken output.old ++ text)) }
     ensures refused { result ≡ 2 → O.taken output.new ≡ O.taken output.old }
+    ensures memory { kind_of error.now ≡ ErrorKind.OutOfMemory → result ≡ 1 }
 {
     if error.kind() == ErrorKind::OutOfMemory {
         tell_memory(faults);
@@ -92,6 +99,7 @@ fn run_over<I: CountedRead, O: CountedWrite, F: CountedWrite, A: Allocator + Cop
     ensures reads { result ≡ 0 → I.failed input.new ≡ I.failed input.old }
     ensures text { result ≡ 0 → HasRun (I.rest input.old) (O.taken output.old) (O.taken output.new) }
     ensures refused { result ≡ 2 → O.taken output.new ≡ O.taken output.old }
+    ensures told { result ≡ 2 → F.failed faults.new ≡ F.failed faults.old → F.failed faults.old < 2 ^ 64 - 1 → HasRefused (I.rest input.old) (F.taken faults.old) (F.taken faults.new) }
 {
     match read_capture(alloc, input) {
         Ok(capture) => run_capture(alloc, &capture, window, output, faults),

@@ -1,7 +1,10 @@
 //! What the command line asks for.
 
-ghost use Rattle.std.specs.Prelude.{◌≡◌, ◌≤◌, IfOk};
+ghost use Rattle.std.specs.Prelude.{◌≡◌, ◌≤◌, IfOk, codes, false, map};
+ghost use Rattle.clap.specs.Words.{FailsBy, app_of, fault_of, rule_of};
+ghost use Rattle.mdp_handler.specs.CommandLine.{AreSettings, flag, option, options, up_to};
 
+use clap::builder::ValueParser;
 use clap::{Arg, ArgAction, Command, Error, value_parser};
 use std::alloc::{AllocError, Global};
 
@@ -53,30 +56,64 @@ Exit status, with the text on standard error:
   2  a fault of the command line, or a capture that is refused, as
      'line 2: 31 DuplicateId'";
 
-fn command<'a>(alloc: Global) -> Result<Command<'a>, AllocError> {
-    let window = Arg::new(alloc, "window")
-        .long("window")
+// An option with a value.
+fn number_arg<'a>(
+    alloc: Global,
+    name: &'a str,
+    parser: ValueParser<'a>,
+    default: &'a str,
+    help: &'a str,
+) -> Arg<'a>
+    ensures rule { rule_of result ≡ option name.entry.now parser.entry default.entry.now }
+    ensures own { result.global ≡ false }
+{
+    Arg::new(alloc, name)
+        .long(name)
         .value_name("N")
-        .help("Packet numbers that can be ahead of the next, 1 to 65536")
-        .value_parser(value_parser!(u32).range(1..=65536))
-        .default_value("1024");
-    let workers = Arg::new(alloc, "workers")
-        .long("workers")
-        .value_name("N")
-        .help("Threads that keep books, 1 to 16")
-        .value_parser(value_parser!(u8).range(1..=16))
-        .default_value("2");
-    let in_order = Arg::new(alloc, "in-order")
+        .help(help)
+        .value_parser(parser)
+        .default_value(default)
+}
+
+fn window_arg<'a>(alloc: Global) -> Arg<'a>
+    ensures rule { rule_of result ≡ option (codes "window") (up_to 65536) (codes "1024") }
+    ensures own { result.global ≡ false }
+{
+    let range = value_parser!(u32).range(1..=65536);
+    let help = "Packet numbers that can be ahead of the next, 1 to 65536";
+    number_arg(alloc, "window", range, "1024", help)
+}
+
+fn workers_arg<'a>(alloc: Global) -> Arg<'a>
+    ensures rule { rule_of result ≡ option (codes "workers") (up_to 16) (codes "2") }
+    ensures own { result.global ≡ false }
+{
+    let range = value_parser!(u8).range(1..=16);
+    let help = "Threads that keep books, 1 to 16";
+    number_arg(alloc, "workers", range, "2", help)
+}
+
+fn in_order_arg<'a>(alloc: Global) -> Arg<'a>
+    ensures rule { rule_of result ≡ flag (codes "in-order") }
+    ensures own { result.global ≡ false }
+{
+    Arg::new(alloc, "in-order")
         .long("in-order")
         .help("Take all records in the order of their lines, on one thread")
-        .action(ArgAction::SetTrue);
+        .action(ArgAction::SetTrue)
+}
+
+// The command line that is understood.
+fn command<'a>(alloc: Global) -> Result<Command<'a>, AllocError>
+    ensures { IfOk result (λ command. app_of command ≡ options) }
+{
     Command::new(alloc, "mdp_handler")
         .version("0.1.0")
         .about(ABOUT)
         .after_help(MORE)
-        .arg(window)?
-        .arg(workers)?
-        .arg(in_order)
+        .arg(window_arg(alloc))?
+        .arg(workers_arg(alloc))?
+        .arg(in_order_arg(alloc))
 }
 
 /// Reads the command line, of which the first word is the program's name.
@@ -85,6 +122,8 @@ fn command<'a>(alloc: Global) -> Result<Command<'a>, AllocError> {
 ///
 /// What is shown in place of a run: a fault of the command line, the help, the version, or want of memory.
 pub fn read_settings(alloc: Global, words: &[&str]) -> Result<Settings, Error>
+    ensures fault { FailsBy (fault_of options (map (λ word. word.now) words.now)) result }
+    ensures settings { IfOk result (AreSettings (map (λ word. word.now) words.now)) }
     ensures window { IfOk result (λ settings. (1 ≤ settings.window) × (settings.window ≤ 65536)) }
     ensures workers { IfOk result (λ settings. (1 ≤ settings.workers) × (settings.workers ≤ 16)) }
 {

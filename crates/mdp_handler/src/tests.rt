@@ -3,6 +3,8 @@
 ghost use Rattle.std.specs.Prelude.{◌≡◌, ◌<◌, ◌-◌, ◌^◌};
 
 use crate::program::program;
+use crate::settings::{Settings, read_settings};
+use clap::error::ErrorKind as ClapKind;
 use mdp_capture::{CountedRead, CountingReader};
 use mdp_print::CountedWrite;
 use refusing::Refusing;
@@ -232,5 +234,174 @@ fn help_reads_no_capture(rt: HostRuntime) -> Result<(), Fail> {
         faults.bytes.as_slice(),
         b"42 Output after 7 bytes\n".as_slice()
     );
+    Ok(())
+}
+
+#[test]
+fn help_reads_nothing_and_shows_each_option(rt: HostRuntime) -> Result<(), Fail> {
+    let alloc = rt.alloc();
+    let words = ["mdp_handler", "--window", "3", "--help"];
+    let mut input = CountingReader::new(Halting {
+        rest: CAPTURE,
+        most: 1,
+        calls: 0,
+        fail_at: 1,
+    });
+    let mut output = Kept::new(alloc);
+    let mut faults = Kept::new(alloc);
+    let status = program(alloc, alloc, &words, &mut input, &mut output, &mut faults);
+    assert_eq!(rt; status, 0);
+    assert_eq!(rt; input.failures(), 0);
+    assert_eq!(rt; faults.calls, 0);
+    for option in ["--window <N>", "--workers <N>", "--in-order", "--version"] {
+        assert!(rt;
+            output
+                .bytes
+                .windows(option.len())
+                .any(|text| text == option.as_bytes())
+        );
+    }
+    Ok(())
+}
+
+// Runs over a capture, and answers the status with what was told.
+fn run_over(
+    alloc: Global,
+    words: &[&str],
+    capture: &[u8],
+    output: &mut Kept,
+    faults: &mut Kept,
+) -> u8
+    requires { output.old.failures < 2 ^ 64 - 1 }
+{
+    let mut input = CountingReader::new(capture);
+    program(alloc, alloc, words, &mut input, output, faults)
+}
+
+#[test]
+fn the_version_is_shown(rt: HostRuntime) -> Result<(), Fail> {
+    let alloc = rt.alloc();
+    let words = ["mdp_handler", "--version"];
+    let mut output = Kept::new(alloc);
+    let mut faults = Kept::new(alloc);
+    assert_eq!(rt;
+        run_over(alloc, &words, CAPTURE, &mut output, &mut faults),
+        0
+    );
+    assert_eq!(rt; output.bytes.as_slice(), b"mdp_handler 0.1.0\n".as_slice());
+    assert_eq!(rt; faults.calls, 0);
+    Ok(())
+}
+
+#[test]
+fn a_fault_of_the_command_line_is_told_alone(rt: HostRuntime) -> Result<(), Fail> {
+    let alloc = rt.alloc();
+    let words = ["mdp_handler", "--window", "0"];
+    let mut output = Kept::new(alloc);
+    let mut faults = Kept::new(alloc);
+    assert_eq!(rt;
+        run_over(alloc, &words, CAPTURE, &mut output, &mut faults),
+        2
+    );
+    assert_eq!(rt; output.calls, 0);
+    let said = b"error: invalid value '0' for '--window <N>'";
+    assert!(rt; faults.bytes.starts_with(said));
+    Ok(())
+}
+
+#[test]
+fn a_refused_capture_is_told_alone(rt: HostRuntime) -> Result<(), Fail> {
+    let alloc = rt.alloc();
+    let captures: [(&[u8], &[u8]); 4] = [
+        (b"I 1 NEAR O\nI 1 FAR O\n", b"line 2: 31 DuplicateId\n"),
+        (b"I 1 NEAR O\nI 2 PAIR C 1 9\n", b"line 2: 32 UnknownLeg\n"),
+        (b"", b"34 None\n"),
+        (
+            b"I 1 NEAR O\nX\nI 2 FAR O\n",
+            b"line 3: 35 InstrumentLate\n",
+        ),
+    ];
+    for (capture, told) in captures {
+        let mut output = Kept::new(alloc);
+        let mut faults = Kept::new(alloc);
+        assert_eq!(rt;
+            run_over(alloc, WORDS, capture, &mut output, &mut faults),
+            2
+        );
+        assert_eq!(rt; output.calls, 0);
+        assert_eq!(rt; faults.bytes.as_slice(), told);
+    }
+    Ok(())
+}
+
+#[test]
+fn skipped_lines_are_told_in_their_order(rt: HostRuntime) -> Result<(), Fail> {
+    let alloc = rt.alloc();
+    let mut output = Kept::new(alloc);
+    let mut faults = Kept::new(alloc);
+    let capture = b"I 1 NEAR O\nA 0\nQ\n";
+    assert_eq!(rt;
+        run_over(alloc, WORDS, capture, &mut output, &mut faults),
+        0
+    );
+    assert_eq!(rt; output.bytes.as_slice(), b"Z 1 live\n".as_slice());
+    assert_eq!(rt;
+        faults.bytes.as_slice(),
+        b"line 2: 22 Hex\nline 3: 21 LineForm\n".as_slice()
+    );
+    Ok(())
+}
+
+#[test]
+fn the_words_give_the_settings(rt: HostRuntime) -> Result<(), Fail> {
+    let alloc = rt.alloc();
+    let lines: [(&[&str], Settings); 4] = [
+        (&["mdp_handler"], settings(1024, 2, false)),
+        (&["mdp_handler", "--window", "3"], settings(3, 2, false)),
+        (
+            &["mdp_handler", "--in-order", "--workers=16"],
+            settings(1024, 16, true),
+        ),
+        (
+            &["mdp_handler", "--window=65536", "--workers", "1"],
+            settings(65536, 1, false),
+        ),
+    ];
+    for (words, wanted) in lines {
+        assert_eq!(rt; read_settings(alloc, words).expect(&rt, "settings"), wanted);
+    }
+    Ok(())
+}
+
+fn settings(window: u32, workers: u8, in_order: bool) -> Settings {
+    Settings {
+        window,
+        workers,
+        in_order,
+    }
+}
+
+#[test]
+fn words_that_are_no_settings(rt: HostRuntime) -> Result<(), Fail> {
+    let alloc = rt.alloc();
+    let lines: [(&[&str], ClapKind); 7] = [
+        (&["mdp_handler", "--window", "0"], ClapKind::ValueValidation),
+        (
+            &["mdp_handler", "--window=65537"],
+            ClapKind::ValueValidation,
+        ),
+        (
+            &["mdp_handler", "--workers", "17"],
+            ClapKind::ValueValidation,
+        ),
+        (&["mdp_handler", "--workers"], ClapKind::InvalidValue),
+        (&["mdp_handler", "capture"], ClapKind::UnknownArgument),
+        (&["mdp_handler", "--help"], ClapKind::DisplayHelp),
+        (&["mdp_handler", "-V"], ClapKind::DisplayVersion),
+    ];
+    for (words, kind) in lines {
+        let error = read_settings(alloc, words).expect_err(&rt, "a fault");
+        assert_eq!(rt; error.kind(), kind);
+    }
     Ok(())
 }

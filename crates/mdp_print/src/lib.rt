@@ -1,7 +1,7 @@
 //! The lines that the feed handler prints, and writing that tells how much of them went out.
 //!
 //! A function for each kind of line appends the line's bytes to a vector, or leaves the vector as it
-//! was where memory runs out. [`write_all_counted`] hands bytes to a [`CountedWrite`], a writer that
+//! was where memory runs out. A [`ShortText`] is put together with no memory. [`write_all_counted`] hands bytes to a [`CountedWrite`], a writer that
 //! counts its failed writes; [`Counting`] makes one of any writer.
 #![tactic(auto)]
 
@@ -20,6 +20,7 @@ mod writing;
 pub use book_lines::{put_consolidated, put_direct, put_implied};
 pub use counting::Counting;
 pub use feed::Feed;
+pub use short_text::ShortText;
 pub use status_lines::{put_fault, put_jump, put_last, put_refusal};
 pub use verdict_lines::put_audit;
 pub use writing::{CountedWrite, write_all_counted};

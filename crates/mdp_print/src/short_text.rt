@@ -7,12 +7,13 @@ ghost use Rattle.mdp_print.specs.Texts.{quote_text};
 use itoa::write_digits;
 use std::marker::Model;
 
-/// The most bytes of a short text.
-pub(crate) const MOST: usize = 64;
+// The most bytes of a short text.
+const MOST: usize = 64;
 
-/// A text of at most 64 bytes that grows at its front, since digits come from the last to the first.
+/// A text of at most 64 bytes that grows at its front, since digits come from the last to the first. It takes no
+/// memory.
 #[derive(Drop)]
-pub(crate) struct ShortText {
+pub struct ShortText {
     bytes: [u8; MOST],
     start: usize,
 }
@@ -30,7 +31,7 @@ impl Model for ShortText {
 impl ShortText {
     /// No text yet.
     #[inline]
-    pub(crate) fn new() -> ShortText
+    pub fn new() -> ShortText
         ensures { result ≡ [] }
     {
         ShortText {
@@ -41,7 +42,7 @@ impl ShortText {
 
     /// The text.
     #[inline]
-    pub(crate) fn as_slice(&self) -> &[u8]
+    pub fn as_slice(&self) -> &[u8]
         ensures { result.now ≡ self.now }
     {
         &self.bytes[self.start..]
@@ -49,7 +50,7 @@ impl ShortText {
 
     /// Puts a byte in front.
     #[inline]
-    pub(crate) fn put_byte(&mut self, byte: u8)
+    pub fn put_byte(&mut self, byte: u8)
         requires { 1 + length self.old ≤ 64 }
         ensures text { self.new ≡ byte ∷ self.old }
         ensures size { length self.new ≡ 1 + length self.old }
@@ -60,7 +61,7 @@ impl ShortText {
 
     /// Puts bytes in front.
     #[inline]
-    pub(crate) fn put_bytes(&mut self, bytes: &[u8])
+    pub fn put_bytes(&mut self, bytes: &[u8])
         requires { length bytes.now + length self.old ≤ 64 }
         ensures text { self.new ≡ bytes.now ++ self.old }
         ensures size { length self.new ≡ length bytes.now + length self.old }
@@ -72,7 +73,7 @@ impl ShortText {
 
     /// Puts a number in front, in decimal.
     #[inline]
-    pub(crate) fn put_number(&mut self, number: u64)
+    pub fn put_number(&mut self, number: u64)
         requires { 20 + length self.old ≤ 64 }
         ensures text { self.new ≡ decimal number ++ self.old }
         ensures size { length self.new ≤ 20 + length self.old }

@@ -1,0 +1,70 @@
+-- The command line: the options of the program, and what words of a command line ask for.
+use Rattle.std.specs.Prelude.{◌≡◌, ◌≤◌, ℕ, Bool, true, false, List, [], ◌∷◌, Some, codes, pos}
+use Rattle.std.specs.Str.Parse.{IsNumeral, digits_value, without_leading_plus}
+use Rattle.clap.specs.Words.{App, Rule, Text, IsAmong, Kinds, fault_of, matches_of, new_app, new_rule, one_of, with_rule}
+use Rattle.clap.specs.declared.builder.action.ArgAction.TheVariants.{SetTrue}
+use Rattle.clap.specs.declared.builder.value_parser.ValueParser.{ValueParser}
+use Rattle.clap.specs.declared.builder.value_parser.ValueParser.TheVariants.{Signed}
+use Rattle.clap.specs.declared.error.kind.ErrorKind.{ErrorKind}
+use Rattle.clap.specs.declared.error.kind.ErrorKind.TheVariants as kind
+use Rattle.mdp_handler.specs.declared.settings.Settings.{Settings}
+
+-- a number from 1 to `most`
+abbrev pub up_to : ℕ → ValueParser
+up_to most = Signed (pos 1) (pos most)
+
+-- an option `--NAME VALUE`, with the value that it has where it is left out
+abbrev pub option : Text → ValueParser → Text → Rule
+option name value default = record (new_rule name) {
+  long = Some name;
+  value_names = 1;
+  parser = Some value;
+  defaults = default ∷ [];
+}
+
+-- an option `--NAME` that stands alone
+abbrev pub flag : Text → Rule
+flag name = record (new_rule name) { long = Some name; action = Some SetTrue }
+
+-- the program with no option yet, but for `--help` and `--version`
+abbrev pub plain : App
+plain = let app = new_app (codes "mdp_handler") in record app { top = record app.top { has_version = true } }
+
+-- the program with its options
+abbrev pub options : App
+options =
+    with_rule (with_rule (with_rule plain
+    (option (codes "window") (up_to 65536) (codes "1024")))
+    (option (codes "workers") (up_to 16) (codes "2")))
+    (flag (codes "in-order"))
+
+-- the words have options of the program alone, each at most once and with a value in its range
+abbrev pub AsksToRun : List Text → Type 0
+AsksToRun words = fault_of options words ≡ []
+
+-- what is shown with no fault: the help and the version
+abbrev pub shown_kinds : Kinds
+shown_kinds = kind.DisplayHelp ∷ kind.DisplayVersion ∷ []
+
+-- the words ask for the help or the version
+abbrev pub AsksToShow : List Text → Type 0
+AsksToShow words = (asked : ErrorKind) × IsAmong asked shown_kinds × IsAmong asked (fault_of options words)
+
+-- the number that is given for an option, or its default, where the text is a number from 1 to `most`
+abbrev pub IsSetting : Text → ℕ → List Text → ℕ → Type 0
+IsSetting name most words n =
+    (text : Text) → one_of name (matches_of options words) ≡ Some text
+    → let digits = without_leading_plus text in
+    IsNumeral 10 digits → 1 ≤ digits_value 10 digits → digits_value 10 digits ≤ most → n ≡ digits_value 10 digits
+
+-- whether a flag is given
+abbrev pub IsFlag : Text → List Text → Bool → Type 0
+IsFlag name words given =
+    let read = one_of name (matches_of options words) in
+    (read ≡ Some (codes "true") → given ≡ true) × (read ≡ Some (codes "false") → given ≡ false)
+
+-- the settings are those that the words give
+pub record AreSettings (words : List Text) (settings : Settings) : Type 0 where
+  pub window : IsSetting (codes "window") 65536 words settings.window
+  pub workers : IsSetting (codes "workers") 16 words settings.workers
+  pub in_order : IsFlag (codes "in-order") words settings.in_order
