@@ -6,7 +6,7 @@ set -u
 
 # How far the program is. A row is run where its file `from` names one of these pieces of work, and, where it has a
 # file `stage`, that file names one of these stages.
-made="first_path capture_text all_templates consolidation"
+made="first_path capture_text all_templates consolidation two_feeds recovery audit"
 stages="base"
 
 if [ $# -ne 1 ] || [ ! -x "$1" ]; then

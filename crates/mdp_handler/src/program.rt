@@ -2,7 +2,8 @@
 
 ghost use Rattle.std.specs.Prelude.{◌≡◌, ◌≤◌, ◌<◌, ◌-◌, ◌^◌, ◌++◌, ◌⊎◌, ℕ, List, map};
 ghost use Rattle.clap.specs.Words.{IsAmong, kind_of};
-ghost use Rattle.mdp_handler.specs.CommandLine.{AsksToRun, AsksToShow, shown_kinds};
+ghost use Rattle.mdp_handler.specs.CommandLine.{AreSettings, AsksToRun, AsksToShow, shown_kinds};
+ghost use Rattle.mdp_handler.specs.declared.settings.Settings.{Settings};
 ghost use Rattle.mdp_handler.specs.Faults.{HasRefused};
 ghost use Rattle.mdp_handler.specs.Printed.{HasPrinted, HasRun};
 ghost use Rattle.mdp_templates.specs.Instrument.{AreFit};
@@ -40,7 +41,7 @@ pub fn program<I: CountedRead, O: CountedWrite, F: CountedWrite, A: Allocator + 
     requires output { O.failed output.old < 2 ^ 64 - 1 }
     ensures status { result ≤ 2 }
     ensures reads { result ≡ 0 → I.failed input.new ≡ I.failed input.old }
-    ensures text { result ≡ 0 → (AsksToRun (map (λ word. word.now) words.now) × HasRun (I.rest input.old) (O.taken output.old) (O.taken output.new)) ⊎ (AsksToShow (map (λ word. word.now) words.now) × (I.rest input.new ≡ I.rest input.old) × ((text : List ℕ) × (O.taken output.new ≡ O.taken output.old ++ text))) }
+    ensures text { result ≡ 0 → (AsksToRun (map (λ word. word.now) words.now) × ((settings : Settings) × AreSettings (map (λ word. word.now) words.now) settings × HasRun (I.rest input.old) settings.window (O.taken output.old) (O.taken output.new))) ⊎ (AsksToShow (map (λ word. word.now) words.now) × (I.rest input.new ≡ I.rest input.old) × ((text : List ℕ) × (O.taken output.new ≡ O.taken output.old ++ text))) }
     ensures refused { result ≡ 2 → O.taken output.new ≡ O.taken output.old }
     ensures told { result ≡ 2 → AsksToRun (map (λ word. word.now) words.now) → F.failed faults.new ≡ F.failed faults.old → F.failed faults.old < 2 ^ 64 - 1 → HasRefused (I.rest input.old) (F.taken faults.old) (F.taken faults.new) }
     ensures unread { ¬ (AsksToRun (map (λ word. word.now) words.now)) → I.rest input.new ≡ I.rest input.old }
@@ -95,9 +96,11 @@ fn run_over<I: CountedRead, O: CountedWrite, F: CountedWrite, A: Allocator + Cop
 ) -> u8
     requires input { I.failed input.old < 2 ^ 64 - 1 }
     requires output { O.failed output.old < 2 ^ 64 - 1 }
+    requires least { 1 ≤ window }
+    requires most { window ≤ 65536 }
     ensures status { result ≤ 2 }
     ensures reads { result ≡ 0 → I.failed input.new ≡ I.failed input.old }
-    ensures text { result ≡ 0 → HasRun (I.rest input.old) (O.taken output.old) (O.taken output.new) }
+    ensures text { result ≡ 0 → HasRun (I.rest input.old) window (O.taken output.old) (O.taken output.new) }
     ensures refused { result ≡ 2 → O.taken output.new ≡ O.taken output.old }
     ensures told { result ≡ 2 → F.failed faults.new ≡ F.failed faults.old → F.failed faults.old < 2 ^ 64 - 1 → HasRefused (I.rest input.old) (F.taken faults.old) (F.taken faults.new) }
 {
@@ -118,7 +121,7 @@ fn run_over<I: CountedRead, O: CountedWrite, F: CountedWrite, A: Allocator + Cop
     }
 }
 
-// Tells the skipped lines, and runs over feed A alone: the other feeds are not arbitrated yet.
+// Tells the skipped lines, and runs over the records of all feeds.
 fn run_capture<O: CountedWrite, F: CountedWrite, A: Allocator + Copy>(
     alloc: A,
     capture: &Capture<A>,
@@ -128,18 +131,18 @@ fn run_capture<O: CountedWrite, F: CountedWrite, A: Allocator + Copy>(
 ) -> u8
     requires output { O.failed output.old < 2 ^ 64 - 1 }
     requires fit { AreFit capture.now.instruments }
+    requires least { 1 ≤ window }
+    requires most { window ≤ 65536 }
     ensures status { result ≤ 1 }
-    ensures text { result ≡ 0 → HasPrinted capture.now.instruments capture.now.a (O.taken output.old) (O.taken output.new) }
+    ensures text { result ≡ 0 → HasPrinted capture.now window (O.taken output.old) (O.taken output.new) }
 {
     tell_skipped(faults, capture.skipped());
-    let none = Vec::new(alloc);
-    let instruments = capture.instruments();
     match run_in_order(
         alloc,
-        instruments,
+        capture.instruments(),
         capture.a(),
-        &none,
-        &none,
+        capture.b(),
+        capture.s(),
         window,
         output,
     ) {

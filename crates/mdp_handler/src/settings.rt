@@ -29,8 +29,9 @@ The capture is text, one record a line:
   A HEX, B HEX           a datagram of incremental feed A or B
   S HEX                  a datagram of the snapshot feed
   X                      the channel is closed
-Instruments come first. A datagram has at most 2,048 bytes. So far feed A alone
-is used, by one thread, whatever the options say.
+Instruments come first. A datagram has at most 2,048 bytes. Of the two copies of a
+packet the one that comes first is used. Records are taken in the order of their
+lines, by one thread so far, whatever the options say.
 
 At each event end these lines are printed for each security that it names, where
 K.J is the packet's number and the message's place in it:
@@ -38,8 +39,14 @@ K.J is the packet's number and the message's place in it:
   I K.J NAME B QUOTES O QUOTES  implied book
   C K.J NAME B QUOTES O QUOTES  both, added up by price
   F K.J NAME PLACE              no book: the first entry that had no place in it
+and then, for each calendar spread of which the spread or a leg was printed:
+  A K.J NAME bid VERDICT offer VERDICT
+                                its implied quotes against what its legs make
+Where packets are lost and snapshots of all securities make up for them, J OLD NEW
+is printed: packet OLD would have come next, and now it is packet NEW.
 After these comes X FEED LINE NUMBER NAME for each refused datagram, and at the
-end Z NEXT live, NEXT being the number of the packet that would come next.
+end Z NEXT live, or Z NEXT lost where packets are lost that nothing has made up
+for, NEXT being the number of the packet that would come next.
 Prices are in units of 10^-9.
 
 Example, which begins with a bid of 5 at a price of 100:
