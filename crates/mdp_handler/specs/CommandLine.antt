@@ -1,5 +1,5 @@
 -- The command line: the options of the program, and what words of a command line ask for.
-use Rattle.std.specs.Prelude.{◌≡◌, ◌≤◌, ℕ, Bool, true, false, List, [], ◌∷◌, Some, codes, pos}
+use Rattle.std.specs.Prelude.{◌≡◌, ◌≤◌, ℕ, Bool, true, false, List, [], ◌∷◌, Some, None, codes, pos}
 use Rattle.std.specs.Str.Parse.{IsNumeral, digits_value, without_leading_plus}
 use Rattle.clap.specs.Words.{App, Rule, Text, IsAmong, Kinds, fault_of, matches_of, new_app, new_rule, one_of, with_rule}
 use Rattle.clap.specs.declared.builder.action.ArgAction.TheVariants.{SetTrue}
@@ -50,21 +50,24 @@ shown_kinds = kind.DisplayHelp ∷ kind.DisplayVersion ∷ []
 abbrev pub AsksToShow : List Text → Type 0
 AsksToShow words = (asked : ErrorKind) × IsAmong asked shown_kinds × IsAmong asked (fault_of options words)
 
--- the number that is given for an option, or its default, where the text is a number from 1 to `most`
-abbrev pub IsSetting : Text → ℕ → List Text → ℕ → Type 0
-IsSetting name most words n =
-    (text : Text) → one_of name (matches_of options words) ≡ Some text
+-- the number that is read of an option: that of a text that writes a number from 1 to `most`, and the default where
+-- there is no text
+abbrev pub IsSetting : Text → ℕ → ℕ → List Text → ℕ → Type 0
+IsSetting name most default words n =
+    let read = one_of name (matches_of options words) in
+    (read ≡ None → n ≡ default)
+    × ((text : Text) → read ≡ Some text
     → let digits = without_leading_plus text in
-    IsNumeral 10 digits → 1 ≤ digits_value 10 digits → digits_value 10 digits ≤ most → n ≡ digits_value 10 digits
+    IsNumeral 10 digits → 1 ≤ digits_value 10 digits → digits_value 10 digits ≤ most → n ≡ digits_value 10 digits)
 
 -- whether a flag is given
 abbrev pub IsFlag : Text → List Text → Bool → Type 0
 IsFlag name words given =
     let read = one_of name (matches_of options words) in
-    (read ≡ Some (codes "true") → given ≡ true) × (read ≡ Some (codes "false") → given ≡ false)
+    (read ≡ Some (codes "true") → given ≡ true) × (read ≡ Some (codes "false") → given ≡ false) × (read ≡ None → given ≡ false)
 
 -- the settings are those that the words give
 pub record AreSettings (words : List Text) (settings : Settings) : Type 0 where
-  pub window : IsSetting (codes "window") 65536 words settings.window
-  pub workers : IsSetting (codes "workers") 16 words settings.workers
+  pub window : IsSetting (codes "window") 65536 1024 words settings.window
+  pub workers : IsSetting (codes "workers") 16 2 words settings.workers
   pub in_order : IsFlag (codes "in-order") words settings.in_order

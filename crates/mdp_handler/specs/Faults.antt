@@ -1,5 +1,5 @@
 -- The lines that are told on standard error, each ended by one line feed.
-use Rattle.std.specs.Prelude.{◌≡◌, ℕ, List, [], ◌++◌, ◌==◌, Option, Err, IfSome, codes, decimal, if◌then◌else◌}
+use Rattle.std.specs.Prelude.{◌≡◌, ℕ, List, [], ◌++◌, ◌==◌, ◌⊎◌, Option, Err, IfSome, length, codes, decimal, if◌then◌else◌}
 use Rattle.std.specs.List.{flat_map}
 use Rattle.mdp_capture.specs.declared.fault.CaptureRefusal.{CaptureRefusal}
 use Rattle.mdp_capture.specs.declared.skip.SkippedLine.{SkippedLine}
@@ -33,3 +33,11 @@ skipped_lines = flat_map skipped_line
 abbrev pub HasRefused : Option (List ℕ) → List ℕ → List ℕ → Type 0
 HasRefused input before after =
     (line : ℕ) × (refusal : CaptureRefusal) × (after ≡ before ++ refused_line line refusal) × IfSome input (λ text. capture_of text ≡ Err (record { line = line; refusal = refusal }))
+
+-- a writer of faults holds, behind what it held before, that memory ran out, that a read failed, or that a write of
+-- the output failed after the bytes that the output took
+abbrev pub HasFailed : List ℕ → List ℕ → List ℕ → List ℕ → Type 0
+HasFailed output_before output_after before after =
+    (after ≡ before ++ codes "41 Memory\n")
+    ⊎ ((after ≡ before ++ codes "43 Input\n")
+    ⊎ ((sent : List ℕ) × (output_after ≡ output_before ++ sent) × (after ≡ before ++ output_line (length sent))))

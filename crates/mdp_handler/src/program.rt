@@ -4,7 +4,7 @@ ghost use Rattle.std.specs.Prelude.{◌≡◌, ◌≤◌, ◌<◌, ◌-◌, ◌^
 ghost use Rattle.clap.specs.Words.{IsAmong, kind_of};
 ghost use Rattle.mdp_handler.specs.CommandLine.{AreSettings, AsksToRun, AsksToShow, shown_kinds};
 ghost use Rattle.mdp_handler.specs.declared.settings.Settings.{Settings};
-ghost use Rattle.mdp_handler.specs.Faults.{HasRefused};
+ghost use Rattle.mdp_handler.specs.Faults.{HasFailed, HasRefused};
 ghost use Rattle.mdp_handler.specs.Printed.{HasPrinted, HasRun};
 ghost use Rattle.mdp_templates.specs.Instrument.{AreFit};
 
@@ -64,6 +64,7 @@ fn show<O: CountedWrite, F: CountedWrite, A: Allocator>(
     ensures shown { result ≡ 0 → IsAmong (kind_of error.now) shown_kinds × ((text : List ℕ) × (O.taken output.new ≡ O.taken output.old ++ text)) }
     ensures refused { result ≡ 2 → O.taken output.new ≡ O.taken output.old }
     ensures memory { kind_of error.now ≡ ErrorKind.OutOfMemory → result ≡ 1 }
+    ensures failed { result ≡ 1 → F.failed faults.new ≡ F.failed faults.old → F.failed faults.old < 2 ^ 64 - 1 → HasFailed (O.taken output.old) (O.taken output.new) (F.taken faults.old) (F.taken faults.new) }
 {
     if error.kind() == ErrorKind::OutOfMemory {
         tell_memory(faults);

@@ -21,17 +21,31 @@ returns-clause-settings c =
     let rows : rows_of found ≡ matches_of options words = (c.in_ok-matches.ensures.matches (ap is_simple known)).0 ∙ ap (λ app. matches_of app words) known in
     let read : (name : Text) → one_text found name ≡ one_of name (matches_of options words) = λ name. one_text-rows found name ∙ ap (one_of name) rows in
     record {
-      window = λ text is numeral low high.
-          let digits = digits_value 10 (without_leading_plus text) in
-          let fits : digits < 2 ^ 32 = omega (arith, high) in
-          let one = number_read _ (λ bs r. ParsesUnsigned 32 10 bs r × ExplainsUnsignedError 10 bs r × HasUnsignedDigitsIfOk bs r) 32 text c.get_one.result (λ x g. g.0) (c.get_one.ensures.value text (read (codes "window") ∙ is)) numeral fits in
-          let value : c.unwrap_or-window.result ≡ digits = c.unwrap_or-window.ensures ∙ ap (λ o. unwrap_or o 1024) one in
-          omega (arith, value, c.clamp.ensures, low, high);
-      workers = λ text is numeral low high.
-          let digits = digits_value 10 (without_leading_plus text) in
-          let fits : digits < 2 ^ 8 = omega (arith, high) in
-          let one = number_read _ (λ bs r. ParsesUnsigned 8 10 bs r × ExplainsUnsignedError 10 bs r × HasUnsignedDigitsIfOk bs r) 8 text c.get_one-2.result (λ x g. g.0) (c.get_one-2.ensures.value text (read (codes "workers") ∙ is)) numeral fits in
-          let value : c.unwrap_or-workers.result ≡ digits = c.unwrap_or-workers.ensures ∙ ap (λ o. unwrap_or o 2) one in
-          omega (arith, value, c.clamp-2.ensures, low, high);
-      in_order = (λ is. c.get_flag.ensures.value (read (codes "in-order") ∙ is), λ is. c.get_flag.ensures.other (read (codes "in-order") ∙ is));
+      window = (
+        λ is.
+            let value : c.unwrap_or-window.result ≡ 1024 = c.unwrap_or-window.ensures ∙ ap (λ o. unwrap_or o 1024) (c.get_one.ensures.none (read (codes "window") ∙ is)) in
+            omega (arith, value, c.clamp.ensures),
+        λ text is numeral low high.
+            let digits = digits_value 10 (without_leading_plus text) in
+            let fits : digits < 2 ^ 32 = omega (arith, high) in
+            let one = number_read _ (λ bs r. ParsesUnsigned 32 10 bs r × ExplainsUnsignedError 10 bs r × HasUnsignedDigitsIfOk bs r) 32 text c.get_one.result (λ x g. g.0) (c.get_one.ensures.value text (read (codes "window") ∙ is)) numeral fits in
+            let value : c.unwrap_or-window.result ≡ digits = c.unwrap_or-window.ensures ∙ ap (λ o. unwrap_or o 1024) one in
+            omega (arith, value, c.clamp.ensures, low, high),
+      );
+      workers = (
+        λ is.
+            let value : c.unwrap_or-workers.result ≡ 2 = c.unwrap_or-workers.ensures ∙ ap (λ o. unwrap_or o 2) (c.get_one-2.ensures.none (read (codes "workers") ∙ is)) in
+            omega (arith, value, c.clamp-2.ensures),
+        λ text is numeral low high.
+            let digits = digits_value 10 (without_leading_plus text) in
+            let fits : digits < 2 ^ 8 = omega (arith, high) in
+            let one = number_read _ (λ bs r. ParsesUnsigned 8 10 bs r × ExplainsUnsignedError 10 bs r × HasUnsignedDigitsIfOk bs r) 8 text c.get_one-2.result (λ x g. g.0) (c.get_one-2.ensures.value text (read (codes "workers") ∙ is)) numeral fits in
+            let value : c.unwrap_or-workers.result ≡ digits = c.unwrap_or-workers.ensures ∙ ap (λ o. unwrap_or o 2) one in
+            omega (arith, value, c.clamp-2.ensures, low, high),
+      );
+      in_order = (
+        λ is. c.get_flag.ensures.value (read (codes "in-order") ∙ is),
+        λ is. c.get_flag.ensures.other (read (codes "in-order") ∙ is),
+        λ is. c.get_flag.ensures.none (read (codes "in-order") ∙ is),
+      );
     }
