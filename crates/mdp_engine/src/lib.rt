@@ -7,6 +7,8 @@ mod engine;
 mod event;
 mod laws;
 mod lines;
+#[cfg(test)]
+mod tests;
 
 pub use desks::Desks;
 pub use engine::{Engine, replay};
