@@ -9,6 +9,8 @@ mod event;
 mod laws;
 mod legs;
 mod lines;
+#[cfg(test)]
+mod tests;
 
 pub use desks::Desks;
 pub use engine::{Engine, replay};

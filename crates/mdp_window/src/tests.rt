@@ -1,7 +1,8 @@
-//! One table of calls, over every window of this crate.
+//! One table of calls, over every window of this crate, and each allocation refused in turn.
 
 use crate::{MapWindow, Put, Window};
 use mdp_templates::Packet;
+use refusing::Refusing;
 use std::alloc::Global;
 use std::process::Abort;
 
@@ -130,5 +131,95 @@ fn a_map_window_follows_the_table(rt: HostRuntime) {
         assert_eq!(rt; window.capacity(), 2);
         let (first, held) = follow(&rt, rt.alloc(), &mut window, calls);
         look(&rt, rt.alloc(), &mut window, first, held);
+    }
+}
+
+const ROOM: u64 = 32;
+
+/// Puts packets 2, 3 and so on up to 100, and answers the number that came back for want of memory.
+fn fill_until_refused<W: Window<Packet<Global>>>(
+    rt: &impl Abort,
+    alloc: Global,
+    window: &mut W,
+) -> Option<u32> {
+    for number in 2..=100u32 {
+        let answer = answer_to(alloc, window, Call::Put(number));
+        if answer != Answer::Kept {
+            assert_eq!(rt; answer, Answer::Memory(number));
+            return Some(number);
+        }
+    }
+    None
+}
+
+/// Sees that a window holds as many of the packets 2, 3 and so on before this number as it has room for, and begins
+/// just where the last of them put it.
+fn holds_all_before<W: Window<Packet<Global>>>(
+    rt: &impl Abort,
+    alloc: Global,
+    window: &mut W,
+    number: u32,
+) {
+    assert_eq!(rt; window.capacity(), ROOM);
+    let first = number.saturating_sub(32).max(1);
+    let old = first.saturating_sub(1);
+    assert_eq!(rt; answer_to(alloc, window, Call::Put(old)), Answer::Back(old));
+    if first == 1 {
+        assert_eq!(rt; answer_to(alloc, window, Call::TakeFirst), Answer::Nothing);
+        assert_eq!(rt; answer_to(alloc, window, Call::Put(1)), Answer::Kept);
+        assert_eq!(rt; answer_to(alloc, window, Call::TakeFirst), Answer::Taken(1));
+    }
+    for held in first.max(2)..number {
+        assert_eq!(rt;
+            answer_to(alloc, window, Call::Put(held)),
+            Answer::Back(held)
+        );
+        assert_eq!(rt;
+            answer_to(alloc, window, Call::TakeFirst),
+            Answer::Taken(held)
+        );
+    }
+    assert_eq!(rt; answer_to(alloc, window, Call::TakeFirst), Answer::Nothing);
+}
+
+#[test]
+fn a_refused_allocation_hands_the_packet_back_and_changes_nothing(rt: HostRuntime) {
+    let alloc = rt.alloc();
+    let mut before_it_moves = 0u32;
+    let mut as_it_moves = 0u32;
+    for refused in 1..100u64 {
+        let heap = Refusing::new(alloc, refused);
+        let mut window = MapWindow::new(&heap, ROOM);
+        let Some(number) = fill_until_refused(&rt, alloc, &mut window) else {
+            assert!(rt; !heap.has_refused());
+            break;
+        };
+        assert!(rt; heap.has_refused());
+        if number <= 32 {
+            before_it_moves = before_it_moves.saturating_add(1);
+        } else {
+            as_it_moves = as_it_moves.saturating_add(1);
+        }
+        holds_all_before(&rt, alloc, &mut window, number);
+    }
+    assert!(rt; before_it_moves > 0);
+    assert!(rt; as_it_moves > 0);
+}
+
+#[test]
+fn a_packet_that_came_back_for_want_of_memory_is_kept_once_there_is_some(rt: HostRuntime) {
+    let alloc = rt.alloc();
+    for refused in 1..100u64 {
+        let heap = Refusing::new(alloc, refused);
+        let mut window = MapWindow::new(&heap, ROOM);
+        let Some(number) = fill_until_refused(&rt, alloc, &mut window) else {
+            assert!(rt; refused > 1);
+            break;
+        };
+        assert_eq!(rt;
+            answer_to(alloc, &mut window, Call::Put(number)),
+            Answer::Kept
+        );
+        holds_all_before(&rt, alloc, &mut window, number.saturating_add(1));
     }
 }

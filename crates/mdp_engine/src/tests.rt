@@ -1,0 +1,411 @@
+//! An engine over a map window of four places, with one listed security: the lines that it owes, and each allocation
+//! refused in turn.
+
+ghost use Rattle.std.specs.Prelude.{◌≡◌, ◌∷◌, [], IfOk};
+ghost use Rattle.mdp_templates.specs.Instrument.{AreFit};
+
+use crate::{Engine, Event, replay};
+use arrayvec::{ArrayString, ArrayVec};
+use mdp_templates::{
+    Action, Entry, Instrument, InstrumentKind, Kind, Level, Memory, Message, Name, Packet,
+    Snapshot, are_fit,
+};
+use mdp_window::MapWindow;
+use refusing::Refusing;
+use std::alloc::{Allocator, Global};
+use std::process::Abort;
+use std::test::Fail;
+
+type OverMap<A> = Engine<A, MapWindow<Packet<A>, A>>;
+
+/// What comes on the channel, all of it for the security of id 1.
+#[derive(Clone, Copy)]
+enum Came {
+    /// A packet of this number, with one message that ends its event and has one entry.
+    Entry(u32, Kind, Action, u8, Level),
+    /// A snapshot that includes this packet, with two bids and no offer.
+    Snapshot(u32, [Level; 2]),
+    Close,
+}
+
+const NO_LEVEL: Level = Level { price: 0, size: 0 };
+
+const FIRST: Came = Came::Entry(
+    1,
+    Kind::Bid,
+    Action::New,
+    1,
+    Level {
+        price: 100,
+        size: 5,
+    },
+);
+
+const SECOND: Came = Came::Entry(
+    2,
+    Kind::Bid,
+    Action::New,
+    1,
+    Level {
+        price: 101,
+        size: 2,
+    },
+);
+
+const THIRD: Came = Came::Entry(
+    3,
+    Kind::Offer,
+    Action::New,
+    1,
+    Level {
+        price: 103,
+        size: 4,
+    },
+);
+
+const FOURTH: Came = Came::Entry(
+    4,
+    Kind::Bid,
+    Action::Change,
+    1,
+    Level {
+        price: 101,
+        size: 9,
+    },
+);
+
+const FIFTH: Came = Came::Entry(5, Kind::Bid, Action::Delete, 2, NO_LEVEL);
+
+const BEHIND_SECOND: Came = Came::Snapshot(
+    2,
+    [
+        Level {
+            price: 101,
+            size: 2,
+        },
+        Level {
+            price: 100,
+            size: 5,
+        },
+    ],
+);
+
+/// An event, and behind it the number of the packet that passes next, whether the receiver is lost, and the lines
+/// that are owed since the event before.
+type Row = (Came, u64, bool, &'static [u8]);
+
+/// Packet 3 comes before packet 2.
+const REORDERED: [Row; 3] = [
+    (
+        FIRST,
+        2,
+        false,
+        b"D 1.1 NEAR B 100x5 O\nI 1.1 NEAR B O\nC 1.1 NEAR B 100x5 O\n",
+    ),
+    (THIRD, 2, false, b""),
+    (
+        SECOND,
+        4,
+        false,
+        b"D 2.1 NEAR B 101x2 100x5 O\nI 2.1 NEAR B O\nC 2.1 NEAR B 101x2 100x5 O\nD 3.1 NEAR B 101x2 100x5 O 103x4\nI 3.1 NEAR B O\nC 3.1 NEAR B 101x2 100x5 O 103x4\n",
+    ),
+];
+
+/// Packet 1 never comes, and a snapshot stands for it.
+const RECOVERED: [Row; 5] = [
+    (SECOND, 1, false, b""),
+    (THIRD, 1, false, b""),
+    (FOURTH, 1, false, b""),
+    (FIFTH, 1, true, b""),
+    (
+        BEHIND_SECOND,
+        6,
+        false,
+        b"J 1 3\nD 3.1 NEAR B 101x2 100x5 O 103x4\nI 3.1 NEAR B O\nC 3.1 NEAR B 101x2 100x5 O 103x4\nD 4.1 NEAR B 101x9 100x5 O 103x4\nI 4.1 NEAR B O\nC 4.1 NEAR B 101x9 100x5 O 103x4\nD 5.1 NEAR B 101x9 O 103x4\nI 5.1 NEAR B O\nC 5.1 NEAR B 101x9 O 103x4\n",
+    ),
+];
+
+/// Behind a close no packet passes.
+const CLOSED: [Row; 3] = [
+    (
+        FIRST,
+        2,
+        false,
+        b"D 1.1 NEAR B 100x5 O\nI 1.1 NEAR B O\nC 1.1 NEAR B 100x5 O\n",
+    ),
+    (Came::Close, 2, false, b""),
+    (SECOND, 2, false, b""),
+];
+
+/// The one listed security.
+fn near() -> Result<[Instrument; 1], Fail>
+    ensures { IfOk result AreFit }
+{
+    let mut text = ArrayString::new();
+    if text.try_push_str("NEAR").is_err() {
+        return Err("a long name".into());
+    }
+    let listed = [Instrument {
+        id: 1,
+        name: Name::new(text),
+        kind: InstrumentKind::Outright,
+    }];
+    if !are_fit(&listed) {
+        return Err("unfit".into());
+    }
+    Ok(listed)
+}
+
+/// A snapshot of the direct bids alone.
+fn snapshot(last: u32, levels: [Level; 2]) -> Snapshot {
+    let mut bids = ArrayVec::new();
+    for level in levels {
+        if bids.try_push(level).is_err() {
+            break;
+        }
+    }
+    Snapshot::new(
+        1,
+        last,
+        bids,
+        ArrayVec::new(),
+        ArrayVec::new(),
+        ArrayVec::new(),
+    )
+}
+
+/// A packet with one message, which ends its event and has this entry.
+fn packet<A: Allocator + Copy>(alloc: A, number: u32, entry: Entry) -> Result<Packet<A>, Memory> {
+    let entries = Vec::from_slice(alloc, &[entry])?;
+    let mut messages = Vec::new(alloc);
+    messages.push(Message::new(entries, true))?;
+    Ok(Packet::new(number, messages))
+}
+
+fn event<A: Allocator + Copy>(alloc: A, came: Came) -> Result<Event<A>, Memory> {
+    match came {
+        Came::Entry(number, kind, action, level, Level { price, size }) => {
+            let entry = Entry {
+                security: 1,
+                kind,
+                action,
+                level,
+                price,
+                size,
+            };
+            Ok(Event::Packet(packet(alloc, number, entry)?))
+        }
+        Came::Snapshot(last, levels) => Ok(Event::Snapshot(snapshot(last, levels))),
+        Came::Close => Ok(Event::Close),
+    }
+}
+
+/// The event, made a second time where an allocation of the first was refused.
+fn event_at_last<A: Allocator + Copy>(alloc: A, came: Came) -> Result<Event<A>, Memory> {
+    match event(alloc, came) {
+        Ok(event) => Ok(event),
+        Err(_) => event(alloc, came),
+    }
+}
+
+/// The events of a table.
+fn events_of<A: Allocator + Copy>(alloc: A, rows: &[Row]) -> Result<Vec<Event<A>, A>, Memory> {
+    let mut events = Vec::with_capacity(alloc, rows.len())?;
+    for row in rows {
+        events.push(event(alloc, row.0)?)?;
+    }
+    Ok(events)
+}
+
+/// The lines of a table.
+fn text_of(alloc: Global, rows: &[Row]) -> Result<Vec<u8>, Memory> {
+    let mut text = Vec::new(alloc);
+    for row in rows {
+        text.extend_from_slice(row.3)?;
+    }
+    Ok(text)
+}
+
+/// Replays a table.
+fn replays(rt: &impl Abort, alloc: Global, rows: &[Row]) -> Result<(), Fail> {
+    let events = events_of(alloc, rows)?;
+    let text = replay(alloc, &events, &near()?, MapWindow::new(alloc, 4))?;
+    assert_eq!(rt; text.as_slice(), text_of(alloc, rows)?.as_slice());
+    Ok(())
+}
+
+/// Hands an engine the events of a table one by one, and drains the lines behind each.
+fn follows(rt: &impl Abort, alloc: Global, rows: &[Row]) -> Result<(), Fail> {
+    let mut engine = Engine::new(alloc, &near()?, MapWindow::new(alloc, 4))?;
+    assert_eq!(rt; engine.next(), 1);
+    assert!(rt; !engine.lost());
+    for (came, next, lost, lines) in rows {
+        engine.on(event(alloc, *came)?)?;
+        assert_eq!(rt; engine.next(), *next);
+        assert_eq!(rt; engine.lost(), *lost);
+        let mut out = Vec::from_slice(alloc, b"held: ")?;
+        engine.drain_lines(&mut out)?;
+        assert_eq!(rt; &out[..6], b"held: ".as_slice());
+        assert_eq!(rt; &out[6..], *lines);
+    }
+    let mut out = Vec::new(alloc);
+    engine.drain_lines(&mut out)?;
+    assert!(rt; out.is_empty());
+    Ok(())
+}
+
+#[test]
+fn replays_each_table(rt: HostRuntime) -> Result<(), Fail> {
+    let alloc = rt.alloc();
+    replays(&rt, alloc, &[])?;
+    replays(&rt, alloc, &REORDERED)?;
+    replays(&rt, alloc, &RECOVERED)?;
+    replays(&rt, alloc, &CLOSED)?;
+    Ok(())
+}
+
+#[test]
+fn owes_the_lines_of_each_event_behind_it(rt: HostRuntime) -> Result<(), Fail> {
+    let alloc = rt.alloc();
+    follows(&rt, alloc, &REORDERED)?;
+    follows(&rt, alloc, &RECOVERED)?;
+    follows(&rt, alloc, &CLOSED)?;
+    Ok(())
+}
+
+/// Where the run met its refused allocation.
+#[derive(Clone, Copy, Debug, PartialEq, Eq)]
+enum Refused {
+    New,
+    On,
+    Drain,
+    /// In what the test itself made, or nowhere.
+    Elsewhere,
+}
+
+/// Hands an engine the events of a table, and drains behind each, until one of the calls answers want of memory.
+fn run_until_refused<A: Allocator + Copy>(
+    alloc: A,
+    engine: &mut OverMap<A>,
+    rows: &[Row],
+    out: &mut Vec<u8, A>,
+) -> Result<Refused, Fail> {
+    for row in rows {
+        let event = event_at_last(alloc, row.0)?;
+        if engine.on(event).is_err() {
+            return Ok(Refused::On);
+        }
+        if engine.drain_lines(out).is_err() {
+            return Ok(Refused::Drain);
+        }
+    }
+    Ok(Refused::Elsewhere)
+}
+
+/// Sees that an engine which answered want of memory goes on to do so, and drains nothing, though there is memory.
+fn stays_failed<A: Allocator + Copy>(
+    rt: &impl Abort,
+    alloc: A,
+    engine: &mut OverMap<A>,
+    out: &mut Vec<u8, A>,
+) -> Result<(), Fail> {
+    let drained = out.len();
+    for came in [Came::Close, FIRST, BEHIND_SECOND] {
+        assert!(rt; engine.drain_lines(out).is_err());
+        assert_eq!(rt; out.len(), drained);
+        assert!(rt; engine.on(event(alloc, came)?).is_err());
+    }
+    assert!(rt; engine.drain_lines(out).is_err());
+    assert_eq!(rt; out.len(), drained);
+    Ok(())
+}
+
+/// Runs over a table with the allocation of this number refused.
+fn refuse_one(
+    rt: &impl Abort,
+    heap: &Refusing<Global>,
+    whole: &[u8],
+    rows: &[Row],
+) -> Result<Refused, Fail> {
+    let Ok(mut engine) = Engine::new(heap, &near()?, MapWindow::new(heap, 4)) else {
+        assert!(rt; heap.has_refused());
+        return Ok(Refused::New);
+    };
+    let mut out = Vec::new(heap);
+    let refused = run_until_refused(heap, &mut engine, rows, &mut out)?;
+    match refused {
+        Refused::On | Refused::Drain => {
+            assert!(rt; heap.has_refused());
+            stays_failed(rt, heap, &mut engine, &mut out)?;
+            assert!(rt; whole.starts_with(&out));
+        }
+        Refused::New | Refused::Elsewhere => assert_eq!(rt; out.as_slice(), whole),
+    }
+    Ok(refused)
+}
+
+#[test]
+fn each_refused_allocation_ends_the_lines(rt: HostRuntime) -> Result<(), Fail> {
+    let whole = text_of(rt.alloc(), &RECOVERED)?;
+    let mut seen = [0u32; 3];
+    for number in 1..1000u64 {
+        let heap = Refusing::new(rt.alloc(), number);
+        match refuse_one(&rt, &heap, &whole, &RECOVERED)? {
+            Refused::New => seen[0] = seen[0].saturating_add(1),
+            Refused::On => seen[1] = seen[1].saturating_add(1),
+            Refused::Drain => seen[2] = seen[2].saturating_add(1),
+            Refused::Elsewhere => {}
+        }
+        if !heap.has_refused() {
+            break;
+        }
+    }
+    // rooms are made at the start, packets ahead and lines are held, and the lines go out
+    for count in seen {
+        assert!(rt; count > 0);
+    }
+    Ok(())
+}
+
+/// Replays a table with one allocation refused, and answers whether the replay ended for want of memory.
+fn replay_is_refused(
+    rt: &impl Abort,
+    heap: &Refusing<Global>,
+    whole: &[u8],
+    rows: &[Row],
+) -> Result<bool, Fail> {
+    let events = match events_of(heap, rows) {
+        Ok(events) => events,
+        Err(_) => events_of(heap, rows)?,
+    };
+    let was_refused = heap.has_refused();
+    match replay(heap, &events, &near()?, MapWindow::new(heap, 4)) {
+        Ok(text) => {
+            assert_eq!(rt; text.as_slice(), whole);
+            assert_eq!(rt; heap.has_refused(), was_refused);
+            Ok(false)
+        }
+        Err(_) => {
+            assert!(rt; heap.has_refused() && !was_refused);
+            Ok(true)
+        }
+    }
+}
+
+#[test]
+fn a_replay_answers_the_whole_text_or_want_of_memory(rt: HostRuntime) -> Result<(), Fail> {
+    let whole = text_of(rt.alloc(), &RECOVERED)?;
+    let mut ended = 0u64;
+    for number in 1..1000u64 {
+        let heap = Refusing::new(rt.alloc(), number);
+        if replay_is_refused(&rt, &heap, &whole, &RECOVERED)? {
+            ended = ended.saturating_add(1);
+        }
+        if !heap.has_refused() {
+            break;
+        }
+    }
+    // each of four packets is copied by two allocations, and there is the text
+    assert!(rt; ended > 8);
+    Ok(())
+}
