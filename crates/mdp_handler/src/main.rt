@@ -3,6 +3,8 @@
 
 mod faults;
 mod program;
+#[cfg(test)]
+mod refused_allocations;
 mod settings;
 #[cfg(test)]
 mod tests;

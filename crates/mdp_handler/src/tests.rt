@@ -23,8 +23,8 @@ const WORDS: &[&str] = &["mdp_handler", "--in-order"];
 
 // Keeps what it takes, at most so many bytes a call, and fails at one call.
 #[derive(Drop)]
-struct Kept {
-    bytes: Vec<u8>,
+pub(crate) struct Kept {
+    pub(crate) bytes: Vec<u8>,
     most: usize,
     calls: u64,
     fail_at: u64,
@@ -33,7 +33,7 @@ struct Kept {
 
 impl Kept {
     // Takes all bytes of a call, and never fails.
-    fn new(alloc: Global) -> Kept
+    pub(crate) fn new(alloc: Global) -> Kept
         ensures { result.failures ≡ 0 }
     {
         Kept::slow(alloc, usize::MAX, 0)
