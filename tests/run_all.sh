@@ -1,5 +1,5 @@
 #!/usr/bin/env bash
-# Proves everything from nothing and runs all tests: the merge gate, then the example and the rows on the program
+# Proves everything from nothing and runs all tests: the merge gate, then the examples and the rows on the program
 # that the gate has built. The last line is 'N passed, M failed', over all of them. The exit status is 1 if any failed.
 set -u
 
@@ -32,17 +32,22 @@ run_part() {
     failed=$((failed + missed))
 }
 
-# The example prints the text that lies beside it.
-run_example() {
-    if "$program" --in-order <examples/plain.capture | diff -u examples/plain.txt -; then
-        echo "1 passed, 0 failed"
-    else
-        echo "0 passed, 1 failed"
-    fi
+# Runs the program on each capture of examples/ with the words of its file `.args`; it prints the text that lies beside.
+run_examples() {
+    local capture words passed=0 failed=0
+    for capture in examples/*.capture; do
+        mapfile -t words <"${capture%.capture}.args"
+        if "$program" "${words[@]}" <"$capture" | diff -u "${capture%.capture}.txt" -; then
+            passed=$((passed + 1))
+        else
+            failed=$((failed + 1))
+        fi
+    done
+    echo "$passed passed, $failed failed"
 }
 
 run_part "rt ci" rt ci
-run_part "the example" run_example
+run_part "the examples" run_examples
 run_part "the rows" tests/run_rows.sh "$program"
 echo "$passed passed, $failed failed"
 [ "$failed" -eq 0 ]
