@@ -235,6 +235,25 @@ fn a_packet_that_came_back_for_want_of_memory_can_be_handed_in_again(
 }
 
 #[test]
+fn a_packet_that_came_back_for_want_of_memory_gives_no_packet_up(
+    rt: HostRuntime,
+) -> Result<(), Fail> {
+    let alloc = rt.alloc();
+    let heap = Refusing::new(alloc, 1);
+    let mut arbiter = Arbiter::new(alloc, &near()?, MapWindow::new(&heap, 32))?;
+    let Put::Memory(far) = arbiter.packet(packet(alloc, 40, 1)?) else {
+        return Err("there was memory".into());
+    };
+    assert!(rt; !arbiter.lost());
+    assert!(rt; is_kept(arbiter.packet(packet(alloc, 1, 1)?)));
+    assert!(rt; matches!(arbiter.step(), Some(Step::Pass(_))));
+    assert_eq!(rt; arbiter.next(), 2);
+    assert!(rt; is_kept(arbiter.packet(far)));
+    assert!(rt; arbiter.lost());
+    Ok(())
+}
+
+#[test]
 fn no_arbiter_is_made_without_its_room(rt: HostRuntime) -> Result<(), Fail> {
     let alloc = rt.alloc();
     let mut refused = 0u64;
