@@ -1,3 +1,4 @@
 pub mod Heads
 pub mod Taking
 pub mod Written
+pub mod Beginnings

@@ -39,3 +39,14 @@ pub record Prints (listed : List Instrument) (room : ℕ) (arrivals : List Arriv
   pub next_is : next ≡ next_after listed room (events_of readings)
   pub lost_is : lost ≡ is_lost_after listed room (events_of readings)
   pub owed : (feed : List PacketContent) → IsHonest (ids_of listed) feed (events_of readings) → text ≡ output listed feed room readings
+
+-- What went out of a run that ended early is a beginning of the text that the whole run prints.
+pub record Begins (listed : List Instrument) (room : ℕ) (arrivals : List Arrival) (start taken : List ℕ) : Type 0 where
+  pub text : List ℕ
+  pub next : ℕ
+  pub lost : Bool
+  pub prints : Prints listed room arrivals text next lost
+  pub sent : List ℕ
+  pub rest : List ℕ
+  pub taken_is : taken ≡ start ++ sent
+  pub whole : text ≡ sent ++ rest

@@ -1,10 +1,10 @@
 //! A run on one thread, in the order of the capture's lines.
 
-ghost use Rattle.std.specs.Prelude.{◌≡◌, ◌≤◌, ◌<◌, ◌^◌, ◌-◌, ◌++◌, [], ℕ, List, IfOk, IfErr, OnOk};
+ghost use Rattle.std.specs.Prelude.{◌≡◌, ◌≤◌, ◌<◌, ◌^◌, ◌-◌, ◌++◌, [], ℕ, List, take, IfOk, IfErr, OnOk};
 ghost use Rattle.mdp_templates.specs.Instrument.{AreFit};
 ghost use Rattle.mdp_pipeline.specs.Counted.{HasCounted, written_before};
 ghost use Rattle.mdp_pipeline.specs.Faults.{FailsBy};
-ghost use Rattle.mdp_pipeline.specs.Output.{Prints};
+ghost use Rattle.mdp_pipeline.specs.Output.{Begins, Prints};
 ghost use Rattle.mdp_pipeline.specs.Running.{Writes};
 ghost use Rattle.mdp_templates.specs.declared.instrument.Instrument.{Instrument};
 ghost use Rattle.mdp_pipeline.specs.Merge.{Arrival, in_order};
@@ -28,6 +28,7 @@ fn hand_on<W: CountedWrite, A: Allocator>(
 ) -> Result<(), RunFault>
     requires { W.failed writer.old < 2 ^ 64 - 1 }
     ensures taken { OnOk result (W.taken writer.new ≡ W.taken writer.old ++ text.old.items) }
+    ensures begins { IfErr result (λ _. (n : ℕ) × (W.taken writer.new ≡ W.taken writer.old ++ take n text.old.items)) }
     ensures failed { FailsBy result (W.failed writer.old) (W.failed writer.new) }
     ensures emptied { OnOk result (text.new.items ≡ []) }
     ensures counts { OnOk result ((start : List ℕ) → HasCounted start (W.taken writer.old) written.old → HasCounted start (W.taken writer.new) written.new) }
@@ -55,6 +56,7 @@ fn hand_on_pieces<W: CountedWrite, A: Allocator + Copy>(
     ensures writes { OnOk result ((listed : List Instrument) (room : ℕ) (arrivals : List Arrival) (start : List ℕ) →
         Writes listed room arrivals start (W.taken writer.old) run.old.engine run.old.text.items run.old.refusals →
         Writes listed room arrivals start (W.taken writer.new) run.new.engine run.new.text.items run.new.refusals) }
+    ensures begins { IfErr result (λ _. (n : ℕ) × (W.taken writer.new ≡ W.taken writer.old ++ take n run.old.text.items)) }
     ensures counts { OnOk result ((start : List ℕ) → HasCounted start (W.taken writer.old) written.old → HasCounted start (W.taken writer.new) written.new) }
     ensures told { IfErr result (λ fault. (start : List ℕ) → HasCounted start (W.taken writer.old) written.old → HasCounted start (W.taken writer.new) (written_before fault)) }
     ensures failed { FailsBy result (W.failed writer.old) (W.failed writer.new) }
@@ -70,7 +72,8 @@ fn hand_on_pieces<W: CountedWrite, A: Allocator + Copy>(
 ///
 /// # Errors
 ///
-/// `Output` exactly where a write failed, else `Memory`.
+/// `Output` exactly where a write failed, else `Memory`. The bytes that went out before are a beginning of what the
+/// whole run prints.
 pub fn run_in_order<W: CountedWrite, A: Allocator + Copy>(
     alloc: A,
     instruments: &[Instrument],
@@ -86,6 +89,7 @@ pub fn run_in_order<W: CountedWrite, A: Allocator + Copy>(
     requires most { window ≤ 65536 }
     ensures text { IfOk result (λ summary. (text : List ℕ) × (W.taken writer.new ≡ W.taken writer.old ++ text)
         × Prints instruments.now window (in_order a.now b.now s.now) text summary.next summary.lost) }
+    ensures begins { IfErr result (λ _. Begins instruments.now window (in_order a.now b.now s.now) (W.taken writer.old) (W.taken writer.new)) }
     ensures written { IfOk result (λ summary. HasCounted (W.taken writer.old) (W.taken writer.new) summary.written) }
     ensures told { IfErr result (λ fault. HasCounted (W.taken writer.old) (W.taken writer.new) (written_before fault)) }
     ensures failed { FailsBy result (W.failed writer.old) (W.failed writer.new) }
@@ -114,6 +118,8 @@ fn finish<W: CountedWrite, A: Allocator + Copy>(
     ensures text { IfOk result (λ summary. (listed : List Instrument) (room : ℕ) (arrivals : List Arrival) (start : List ℕ) →
         Writes listed room arrivals start (W.taken writer.old) run.engine run.text.items run.refusals →
         (text : List ℕ) × (W.taken writer.new ≡ start ++ text) × Prints listed room arrivals text summary.next summary.lost) }
+    ensures begins { IfErr result (λ _. (listed : List Instrument) (room : ℕ) (arrivals : List Arrival) (start : List ℕ) →
+        Writes listed room arrivals start (W.taken writer.old) run.engine run.text.items run.refusals → Begins listed room arrivals start (W.taken writer.new)) }
     ensures counts { IfOk result (λ summary. (start : List ℕ) → HasCounted start (W.taken writer.old) written → HasCounted start (W.taken writer.new) summary.written) }
     ensures told { IfErr result (λ fault. (start : List ℕ) → HasCounted start (W.taken writer.old) written → HasCounted start (W.taken writer.new) (written_before fault)) }
     ensures failed { FailsBy result (W.failed writer.old) (W.failed writer.new) }

@@ -2,6 +2,7 @@ use Rattle.std.proofs.Common.{◌∙◌, refl}
 use Rattle.std.proofs.lemmas.Result.{err_from_is_err_and}
 use Rattle.mdp_pipeline.specs.Merge.{in_order}
 use Rattle.mdp_pipeline.proofs.Written.{taken_none, taken_more, taken_all, run_printed, run_counted, fault_counted, counted_none}
+use Rattle.mdp_pipeline.proofs.Beginnings.{begins_none, run_begins, taken_begins, piece_begins}
 use Rattle.mdp_pipeline.proofs.in_order.run_in_order.Goals as goal
 
 pub loop-feed-init : goal.loop-feed-init
@@ -55,3 +56,38 @@ returns-clause-written g c =
 pub returns-clause-told : goal.returns-clause-told
 returns-clause-told g c =
     fault_counted (g.W.CountedWrite.taken c.args.writer.now) (g.W.CountedWrite.taken c.loop-feed.writer) (g.W.CountedWrite.taken c.finish.new.writer) c.loop-feed.written c.finish.result c.finish.ensures.told c.loop-feed.invariant.counts
+
+-- no run was made
+pub returns-in_default-clause-begins : goal.returns-in_default-clause-begins
+returns-in_default-clause-begins g c =
+    begins_none c.args.instruments.now c.args.window (in_order c.args.a.now c.args.b.now c.args.s.now) (g.W.CountedWrite.taken c.args.writer.now)
+
+-- a record was not taken
+pub returns-in_default-take-clause-begins : goal.returns-in_default-take-clause-begins
+returns-in_default-take-clause-begins g c =
+    let run = c.loop-feed.run in
+    let here = c.loop-feed.records in
+    taken_begins c.args.instruments.now c.args.window c.args.a.now c.args.b.now c.args.s.now (g.W.CountedWrite.taken c.args.writer.now) (g.W.CountedWrite.taken c.loop-feed.writer)
+    run.engine run.text.items run.refusals here.a.now here.b.now here.s.now c.loop-feed.invariant.taken
+
+-- a write of a piece failed
+pub returns-in_err-hand_on_pieces-clause-begins : goal.returns-in_err-hand_on_pieces-clause-begins
+returns-in_err-hand_on_pieces-clause-begins g c =
+    let fault = err_from_is_err_and c.from_residual.result c.from_residual.ensures.1 in
+    let here = c.loop-feed.records in
+    let there = c.next.new.self in
+    let front = c.in_err-hand_on_pieces.ensures.begins in
+    rw fault.1
+    (piece_begins c.args.instruments.now c.args.window c.args.a.now c.args.b.now c.args.s.now (g.W.CountedWrite.taken c.args.writer.now) (g.W.CountedWrite.taken c.loop-feed.writer) (g.W.CountedWrite.taken c.hand_on_pieces.new.writer)
+    c.loop-feed.run c.take.new.self here.a.now here.b.now here.s.now there.a.now there.b.now there.s.now c.in-Some.feed c.in-Some.record.now front.0
+    c.in-Some.ensures c.in-Ok-take.ensures front.1 c.loop-feed.invariant.taken)
+
+pub returns-clause-begins : goal.returns-clause-begins
+returns-clause-begins g c =
+    let listed = c.args.instruments.now in
+    let start = g.W.CountedWrite.taken c.args.writer.now in
+    let taken = g.W.CountedWrite.taken c.loop-feed.writer in
+    let run = c.loop-feed.run in
+    let here = c.loop-feed.records in
+    let writes = taken_all listed c.args.window c.args.a.now c.args.b.now c.args.s.now start taken run.engine run.text.items run.refusals here.a.now here.b.now here.s.now c.in_default-next.ensures c.loop-feed.invariant.taken in
+    run_begins listed c.args.window (in_order c.args.a.now c.args.b.now c.args.s.now) start taken (g.W.CountedWrite.taken c.finish.new.writer) run.engine run.text.items run.refusals c.finish.result c.finish.ensures.begins writes

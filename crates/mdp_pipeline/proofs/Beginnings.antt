@@ -1,0 +1,228 @@
+-- What went out before a run ended early.
+use Rattle.std.proofs.Common.{◌≡◌, ℕ, Bool, List, [], ◌∷◌, ◌++◌, map, take, drop, refl, sym, ap, subst, ◌∙◌, append_assoc}
+use Rattle.std.specs.Prelude.{Result, Ok, Err, IfErr}
+use Rattle.std.specs.List.{AllByRecursion}
+use Rattle.std.proofs.lemmas.List.{append-nil, append_cancel_left, map-append, take-append-drop}
+use Rattle.std.proofs.lemmas.List.Concat.{flat_map-append}
+use Rattle.mdp_sbe.specs.Answer.{HasOneAnswer}
+use Rattle.mdp_sbe.specs.Answer.HasOneAnswer.{is_good, is_refused}
+use Rattle.mdp_templates.specs.Incremental.{IsPacket, IsRefusedPacket}
+use Rattle.mdp_templates.specs.Recovery.{AreSnapshots, AreRefusedSnapshots}
+use Rattle.mdp_templates.specs.Refused.{Feed as Kind}
+use Rattle.mdp_templates.specs.Refused.Feed.{incremental, recovery}
+use Rattle.mdp_templates.specs.declared.instrument.Instrument.{Instrument}
+use Rattle.mdp_templates.proofs.OneAnswer.{one_packet, one_datagram}
+use Rattle.mdp_print.specs.Texts.{last_line}
+use Rattle.mdp_print.specs.declared.feed.Feed.{Feed}
+use Rattle.mdp_capture.specs.Record.{RecordContent, Received, Datagram, Close}
+use Rattle.mdp_arbiter.specs.Accepted.{Event, came, recovered, closed}
+use Rattle.mdp_arbiter.specs.Machine.{Move, state_at, trace, go_on, is_lost}
+use Rattle.mdp_arbiter.specs.Slots.{ids_of}
+use Rattle.mdp_arbiter.proofs.Runs.{law_of_fronts}
+use Rattle.mdp_engine.specs.Engine.{View, Stands}
+use Rattle.mdp_engine.specs.Shown.{showed, shown_after, shown_lines}
+use Rattle.mdp_engine.proofs.Agreeing.{shows_what_is_owed}
+use Rattle.mdp_engine.proofs.Honesty.{honest_moves_agree}
+use Rattle.mdp_pipeline.specs.declared.run.Run.{Run}
+use Rattle.mdp_pipeline.specs.declared.summary.Summary.{Summary}
+use Rattle.mdp_pipeline.specs.declared.summary.RunFault.{RunFault}
+use Rattle.mdp_pipeline.specs.Merge.{Arrival, in_order}
+use Rattle.mdp_pipeline.specs.Reading.{Reading, Said, Says, brings, refused, IsReading, AreReadings, events_in, events_of, kind_of}
+use Rattle.mdp_pipeline.specs.Output.{Begins, Prints, all_refusal_lines, is_lost_after, next_after}
+use Rattle.mdp_pipeline.specs.RefusalTexts.{RefusalTexts}
+use Rattle.mdp_pipeline.specs.Running.{TakesAs, Writes}
+use Rattle.mdp_pipeline.proofs.Written.{HasTaken, all_written, taken_more}
+
+-- ---- what records say that were not reached
+
+said_of_packet : (bytes : List ℕ) → HasOneAnswer (IsPacket bytes) (IsRefusedPacket bytes) → (said : Said) × Says incremental (Datagram bytes) said
+said_of_packet bytes (is_good packet is one none) = (brings (came packet ∷ []), (packet, is, refl))
+said_of_packet bytes (is_refused refusal is one none) = (refused refusal, is)
+
+said_of_snapshots : (bytes : List ℕ) → HasOneAnswer (AreSnapshots bytes) (AreRefusedSnapshots bytes) → (said : Said) × Says recovery (Datagram bytes) said
+said_of_snapshots bytes (is_good snapshots are one none) = (brings (map recovered snapshots), (snapshots, are, refl))
+said_of_snapshots bytes (is_refused refusal is one none) = (refused refusal, is)
+
+-- each record says something
+says_something : (kind : Kind) (received : Received) → (said : Said) × Says kind received said
+says_something incremental (Datagram bytes) = said_of_packet bytes (one_packet bytes)
+says_something recovery (Datagram bytes) = said_of_snapshots bytes (one_datagram bytes)
+says_something incremental Close = (brings [], refl)
+says_something recovery Close = (brings (closed ∷ []), refl)
+
+readings_exist : (arrivals : List Arrival) → (readings : List Reading) × AreReadings arrivals readings
+readings_exist [] = ([], record { of = refl; each = tt })
+readings_exist (arrival ∷ arrivals) =
+    let here = says_something (kind_of arrival.feed) arrival.entry.received in
+    let later = readings_exist arrivals in
+    let reading : Reading = record { arrival = arrival; said = here.0 } in
+    (reading ∷ later.0, record { of = ap (λ (t : List Arrival). arrival ∷ t) later.1.of; each = (here.1, later.1.each) })
+
+each-append : (readings more : List Reading) → AllByRecursion IsReading readings → AllByRecursion IsReading more → AllByRecursion IsReading (readings ++ more)
+each-append [] more each later = later
+each-append (r ∷ readings) more each later = (each.0, each-append readings more each.1 later)
+
+readings-append : (arrivals left : List Arrival) (readings more : List Reading) → AreReadings arrivals readings → AreReadings left more → AreReadings (arrivals ++ left) (readings ++ more)
+readings-append arrivals left readings more are later = record {
+  of =
+      map-append (λ (r : Reading). r.arrival) readings more
+      ∙ ap (λ (t : List Arrival). t ++ map (λ (r : Reading). r.arrival) more) are.of
+      ∙ ap (λ (t : List Arrival). arrivals ++ t) later.of;
+  each = each-append readings more are.each later.each;
+}
+
+-- ---- the text of the whole
+
+-- the text with no complete feed: what the moves show, the refused datagrams, and the last line
+abbrev end_of : List Instrument → ℕ → List Reading → List ℕ
+end_of listed room readings = all_refusal_lines readings ++ last_line (next_after listed room (events_of readings)) (is_lost_after listed room (events_of readings))
+
+abbrev moves_of : List Instrument → ℕ → List Reading → List Move
+moves_of listed room readings = trace room (ids_of listed) (events_of readings)
+
+abbrev text_of : List Instrument → ℕ → List Reading → List ℕ
+text_of listed room readings = shown_lines listed (moves_of listed room readings) ++ end_of listed room readings
+
+text_prints : (listed : List Instrument) (room : ℕ) (arrivals : List Arrival) (readings : List Reading) → AreReadings arrivals readings
+    → Prints listed room arrivals (text_of listed room readings) (next_after listed room (events_of readings)) (is_lost_after listed room (events_of readings))
+text_prints listed room arrivals readings are = record {
+  readings = readings;
+  are = are;
+  next_is = refl;
+  lost_is = refl;
+  owed = λ feed honest.
+      ap (λ (t : List ℕ). t ++ end_of listed room readings)
+      (shows_what_is_owed listed feed (moves_of listed room readings) honest.complete (honest_moves_agree listed feed room (events_of readings) honest));
+}
+
+-- what the moves show begins with what the first ones show
+shown_after-append : (listed : List Instrument) (before moves more : List Move) → shown_after listed before (moves ++ more) ≡ shown_after listed before moves ++ shown_after listed (before ++ moves) more
+shown_after-append listed before [] more = ap (λ (b : List Move). shown_after listed b more) (sym (append-nil before))
+shown_after-append listed before (m ∷ moves) more =
+    let now = before ++ m ∷ [] in
+    ap (λ (t : List ℕ). showed listed before m ++ t) (shown_after-append listed now moves more)
+    ∙ ap (λ (b : List Move). showed listed before m ++ (shown_after listed now moves ++ shown_after listed b more)) (append_assoc before (m ∷ []) moves)
+    ∙ sym (append_assoc (showed listed before m) (shown_after listed now moves) (shown_after listed (before ++ m ∷ moves) more))
+
+-- what is shown of the readings behind these ones
+abbrev shown_later : List Instrument → ℕ → List Reading → List Reading → List ℕ
+shown_later listed room readings more =
+    let moves = moves_of listed room readings in
+    shown_after listed moves (go_on room (ids_of listed) (events_of readings) (state_at room (ids_of listed) (events_of readings)) (events_of more))
+
+shown-front : (listed : List Instrument) (room : ℕ) (readings more : List Reading) → shown_lines listed (moves_of listed room (readings ++ more)) ≡ shown_lines listed (moves_of listed room readings) ++ shown_later listed room readings more
+shown-front listed room readings more =
+    let es = events_of readings in
+    let later = go_on room (ids_of listed) es (state_at room (ids_of listed) es) (events_of more) in
+    ap (λ (t : List Event). shown_lines listed (trace room (ids_of listed) t)) (flat_map-append (λ (r : Reading). events_in r.said) readings more)
+    ∙ ap (shown_lines listed) (law_of_fronts room (ids_of listed) es (events_of more))
+    ∙ shown_after-append listed [] (moves_of listed room readings) later
+
+-- ---- a beginning
+
+-- Nothing went out.
+pub begins_none : (listed : List Instrument) (room : ℕ) (arrivals : List Arrival) (taken : List ℕ) → Begins listed room arrivals taken taken
+begins_none listed room arrivals taken =
+    let readings = readings_exist arrivals in
+    record {
+      text = text_of listed room readings.0;
+      next = next_after listed room (events_of readings.0);
+      lost = is_lost_after listed room (events_of readings.0);
+      prints = text_prints listed room arrivals readings.0 readings.1;
+      sent = [];
+      rest = text_of listed room readings.0;
+      taken_is = sym (append-nil taken);
+      whole = refl;
+    }
+
+-- the text of all readings, where so much was sent of what the first ones show, and so much is held
+text_begins : (listed : List Instrument) (room : ℕ) (readings more : List Reading) (sent held : List ℕ) (n : ℕ) → sent ++ held ≡ shown_lines listed (moves_of listed room readings)
+    → text_of listed room (readings ++ more) ≡ (sent ++ take n held) ++ (drop n held ++ (shown_later listed room readings more ++ end_of listed room (readings ++ more)))
+text_begins listed room readings more sent held n shown =
+    let later = shown_later listed room readings more in
+    let end = end_of listed room (readings ++ more) in
+    ap (λ (t : List ℕ). t ++ end) (shown-front listed room readings more)
+    ∙ ap (λ (t : List ℕ). (t ++ later) ++ end) (sym shown)
+    ∙ append_assoc (sent ++ held) later end
+    ∙ ap (λ (t : List ℕ). (sent ++ t) ++ (later ++ end)) (sym (take-append-drop n held))
+    ∙ ap (λ (t : List ℕ). t ++ (later ++ end)) (sym (append_assoc sent (take n held) (drop n held)))
+    ∙ append_assoc (sent ++ take n held) (drop n held) (later ++ end)
+
+-- The first records were taken, and of the text that is held so many bytes went out.
+pub begins_so_far : (listed : List Instrument) (room : ℕ) (arrivals done left : List Arrival) (start taken taken' : List ℕ) (engine : View) (held : List ℕ) (refusals : RefusalTexts) (n : ℕ)
+    → arrivals ≡ done ++ left → taken' ≡ taken ++ take n held → Writes listed room done start taken engine held refusals → Begins listed room arrivals start taken'
+begins_so_far listed room arrivals done left start taken taken' engine held refusals n parts went so_far =
+    let readings = so_far.over.readings in
+    let more = readings_exist left in
+    let all = readings ++ more.0 in
+    let run = so_far.over.run in
+    let front = so_far.sent ++ held in
+    let shown : front ≡ shown_lines listed (moves_of listed room readings) =
+    sym (append-nil front) ∙ ap (λ (t : List ℕ). front ++ t) (sym run.drained) ∙ run.stands.shows.text_is
+    ∙ ap (λ (r : ℕ). shown_lines listed (trace r (ids_of listed) (events_of readings))) run.covers in
+    record {
+      text = text_of listed room all;
+      next = next_after listed room (events_of all);
+      lost = is_lost_after listed room (events_of all);
+      prints = text_prints listed room arrivals all (subst (λ (t : List Arrival). AreReadings t all) (sym parts) (readings-append done left readings more.0 so_far.over.are more.1));
+      sent = so_far.sent ++ take n held;
+      rest = drop n held ++ (shown_later listed room readings more.0 ++ end_of listed room all);
+      taken_is = went ∙ ap (λ (t : List ℕ). t ++ take n held) so_far.taken_is ∙ append_assoc start so_far.sent (take n held);
+      whole = text_begins listed room readings more.0 so_far.sent held n shown;
+    }
+
+-- All records were taken, and of the text that is held so many bytes went out.
+pub begins_at_end : (listed : List Instrument) (room : ℕ) (arrivals : List Arrival) (start taken taken' : List ℕ) (engine : View) (held : List ℕ) (refusals : RefusalTexts) (n : ℕ)
+    → taken' ≡ taken ++ take n held → Writes listed room arrivals start taken engine held refusals → Begins listed room arrivals start taken'
+begins_at_end listed room arrivals start taken taken' engine held refusals n went so_far =
+    begins_so_far listed room arrivals arrivals [] start taken taken' engine held refusals n (sym (append-nil arrivals)) went so_far
+
+-- The text went out, and of the refusals and the last line so many bytes.
+pub begins_in_end : (listed : List Instrument) (room : ℕ) (arrivals : List Arrival) (start taken taken' : List ℕ) (engine : View) (held end : List ℕ) (refusals : RefusalTexts) (next : ℕ) (lost : Bool) (n : ℕ)
+    → taken' ≡ (taken ++ held) ++ take n end → end ≡ (refusals.a ++ (refusals.b ++ refusals.s)) ++ last_line next lost
+    → ((listed : List Instrument) (es : List Event) (drained : List ℕ) → Stands listed es drained engine → next ≡ (state_at engine.arbiter.room (ids_of listed) es).next)
+    → ((listed : List Instrument) (es : List Event) (drained : List ℕ) → Stands listed es drained engine → lost ≡ is_lost engine.arbiter.room es (state_at engine.arbiter.room (ids_of listed) es))
+    → Writes listed room arrivals start taken engine held refusals → Begins listed room arrivals start taken'
+begins_in_end listed room arrivals start taken taken' engine held end refusals next lost n went end_is next_is lost_is so_far =
+    let all = all_written listed room arrivals start taken ((taken ++ held) ++ end) engine held end refusals next lost refl end_is next_is lost_is so_far in
+    let front = so_far.sent ++ held in
+    let from_start : (t : List ℕ) → (taken ++ held) ++ t ≡ start ++ (front ++ t) =
+    λ t. ap (λ (x : List ℕ). (x ++ held) ++ t) so_far.taken_is ∙ ap (λ (x : List ℕ). x ++ t) (append_assoc start so_far.sent held) ∙ append_assoc start front t in
+    let text_is : all.0 ≡ front ++ end = append_cancel_left start all.0 (front ++ end) (sym all.1 ∙ from_start end) in
+    record {
+      text = all.0;
+      next = next;
+      lost = lost;
+      prints = all.2;
+      sent = front ++ take n end;
+      rest = drop n end;
+      taken_is = went ∙ from_start (take n end);
+      whole = text_is ∙ ap (λ (t : List ℕ). front ++ t) (sym (take-append-drop n end)) ∙ sym (append_assoc front (take n end) (drop n end));
+    }
+
+-- ---- a run
+
+-- a run whose records are not all taken
+pub taken_begins : (listed : List Instrument) (room : ℕ) (a b s : List RecordContent) (start taken : List ℕ) (engine : View) (held : List ℕ) (refusals : RefusalTexts) (a' b' s' : List RecordContent)
+    → HasTaken listed room a b s start taken engine held refusals a' b' s' → Begins listed room (in_order a b s) start taken
+taken_begins listed room a b s start taken engine held refusals a' b' s' so_far =
+    begins_so_far listed room (in_order a b s) so_far.done (in_order a' b' s') start taken taken engine held refusals 0 so_far.left (sym (append-nil taken)) so_far.writes
+
+-- a run whose text was to go out after one record more
+pub piece_begins : {A : Type 0} (listed : List Instrument) (room : ℕ) (a b s : List RecordContent) (start taken taken' : List ℕ) (old new : Run A) (a' b' s' a'' b'' s'' : List RecordContent) (feed : Feed) (entry : RecordContent) (n : ℕ)
+    → in_order a' b' s' ≡ (record { feed = feed; entry = entry }) ∷ in_order a'' b'' s''
+    → TakesAs (kind_of feed) feed entry.line entry.received old new
+    → taken' ≡ taken ++ take n new.text.items
+    → HasTaken listed room a b s start taken old.engine old.text.items old.refusals a' b' s'
+    → Begins listed room (in_order a b s) start taken'
+piece_begins listed room a b s start taken taken' old new a' b' s' a'' b'' s'' feed entry n next takes went so_far =
+    let on = taken_more listed room a b s start taken taken old new new a' b' s' a'' b'' s'' feed entry next takes (λ arrivals writes. writes) so_far in
+    begins_so_far listed room (in_order a b s) on.done (in_order a'' b'' s'') start taken taken' new.engine new.text.items new.refusals n on.left went on.writes
+
+-- a run whose end failed
+pub run_begins : (listed : List Instrument) (room : ℕ) (arrivals : List Arrival) (start taken after : List ℕ) (engine : View) (held : List ℕ) (refusals : RefusalTexts) (result : Result Summary RunFault)
+    → IfErr result (λ (fault : RunFault). (listed : List Instrument) (room : ℕ) (arrivals : List Arrival) (start : List ℕ) → Writes listed room arrivals start taken engine held refusals → Begins listed room arrivals start after)
+    → Writes listed room arrivals start taken engine held refusals
+    → IfErr result (λ (fault : RunFault). Begins listed room arrivals start after)
+run_begins listed room arrivals start taken after engine held refusals (Ok summary) begins so_far = tt
+run_begins listed room arrivals start taken after engine held refusals (Err fault) begins so_far = begins listed room arrivals start so_far
