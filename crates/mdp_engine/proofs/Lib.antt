@@ -9,3 +9,4 @@ pub mod HonestFeeds
 pub mod Moving
 pub mod Under
 pub mod Auditing
+pub mod Passing

@@ -1,5 +1,5 @@
--- The places of securities, and of the legs of calendar spreads, beside their desks.
-use Rattle.std.specs.Prelude.{◌≡◌, ◌≢◌, ℕ, suc, ℤ, List, [], ◌∷◌, map, Option, Some, None, if◌then◌else◌}
+-- The places of securities and of the legs of calendar spreads, and the marks, beside their desks.
+use Rattle.std.specs.Prelude.{◌≡◌, ◌≢◌, ◌<◌, ◌≤◌, ℕ, suc, ℤ, Bool, false, List, [], ◌∷◌, map, length, get_or, Option, Some, None, if◌then◌else◌}
 use Rattle.std.specs.List.{AllPairs}
 use Rattle.std.specs.Option.{option_map}
 use Rattle.std.specs.Ordering.{int_eq}
@@ -34,3 +34,18 @@ pub record AreSlotsOf (listed : List Instrument) (ids : List ℤ) (legs : List (
   pub same : ids ≡ ids_of listed
   pub differ : AllPairs (λ a b. a ≢ b) ids
   pub legs_are : legs ≡ map (λ (i : Instrument). legs_in ids i.kind) listed
+
+-- the marks of the desks
+abbrev pub marks_of : List Desk → List Bool
+marks_of desks = map (λ (d : Desk). d.marked) desks
+
+-- every mark that is set stands from `low` on and below `high`
+pub record AreWithin (low high : ℕ) (marks : List Bool) : Type 0 where
+  pub short : high ≤ length marks
+  pub before : (n : ℕ) → n < low → get_or marks n false ≡ false
+  pub behind : (n : ℕ) → high ≤ n → get_or marks n false ≡ false
+
+-- what stands beside the desks: the ids, the places of the legs and the marks
+pub record AreBeside (desks : List Desk) (ids : List ℤ) (legs : List (Option Legs)) (marks : List Bool) : Type 0 where
+  pub slots : AreSlotsOf (listed_in desks) ids legs
+  pub marks_are : marks ≡ marks_of desks

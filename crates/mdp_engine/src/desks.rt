@@ -7,10 +7,12 @@ ghost use Rattle.mdp_books.specs.Feed.{sent_as, sent_in};
 ghost use Rattle.mdp_print.specs.Texts.{jump_line};
 ghost use Rattle.mdp_engine.specs.Desks.{desk_at_start, desk_heard, desk_settled, desk_standing, desks_after, desks_text, desks_through, passed_desks, passed_text, rebased_desks};
 ghost use Rattle.mdp_engine.specs.Lines.{text_of, audit_text, lines_as};
+ghost use Rattle.mdp_engine.specs.Slots.{marks_of};
 
 use crate::audits::put_audits;
 use crate::desk::Desk;
 use crate::legs::{Legs, legs_of_all};
+use crate::marked::Marked;
 use mdp_arbiter::Slots;
 use mdp_books::Place;
 use mdp_print::put_jump;
@@ -24,18 +26,19 @@ pub struct Desks<A: Allocator> {
     slots: Slots<A>,
     desks: Vec<Desk, A>,
     legs: Vec<Option<Legs>, A>,
+    marked: Marked<A>,
 }
 
 impl<A: Allocator> Model for Desks<A> {
     ghost use Rattle.std.specs.Prelude.{List};
     ghost use Rattle.mdp_engine.specs.declared.desk.Desk.{Desk};
-    ghost use Rattle.mdp_engine.specs.Slots.{listed_in, AreSlotsOf};
+    ghost use Rattle.mdp_engine.specs.Slots.{AreBeside};
 
     ghost Value = { List Desk };
 
     ghost view = { λ d. d.desks.items };
 
-    ghost invariant = { λ d. AreSlotsOf (listed_in d.desks.items) d.slots d.legs.items };
+    ghost invariant = { λ d. AreBeside d.desks.items d.slots d.legs.items d.marked };
 }
 
 // The place of the security that an entry names, if it is listed.
@@ -46,20 +49,75 @@ fn slot_named<A: Allocator + Copy>(slots: &Slots<A>, entry: &Entry) -> Option<us
     slots.slot_of(entry.security)
 }
 
-fn settle_all(desks: &mut [Desk], packet: u32)
-    ensures { desks.new ≡ map (desk_settled packet) desks.old }
+// Appends the lines of a desk, whose mark is this one; with none the desk isn't looked at.
+fn put_desk<A: Allocator>(
+    out: &mut Vec<u8, A>,
+    packet: u32,
+    message: u64,
+    desk: &Desk,
+    mark: bool,
+) -> Result<(), Memory>
+    requires { mark ≡ desk.now.marked }
+    ensures { OnOk result (out.new.items ≡ out.old.items ++ text_of packet message (desk_standing packet desk.now)) }
 {
-    for n in 0..desks.len() {
-        desks[n].settle(packet);
+    if mark {
+        desk.put(out, packet, message)?;
     }
+    Ok(())
 }
 
-fn rebase_all(desks: &mut [Desk], bases: &[Option<Snapshot>])
-    ensures { desks.new ≡ rebased_desks bases.now desks.old }
+// Appends the lines of the desks that are marked.
+fn put_marked<A: Allocator>(
+    out: &mut Vec<u8, A>,
+    packet: u32,
+    message: u64,
+    desks: &[Desk],
+    marked: &Marked<A>,
+) -> Result<(), Memory>
+    requires { marked.now ≡ marks_of desks.now }
+    ensures { OnOk result (out.new.items ≡ out.old.items ++ flat_map (text_of packet message) (map (desk_standing packet) desks.now)) }
+{
+    for n in marked.low()..marked.high() {
+        put_desk(out, packet, message, &desks[n], marked.is_set(n))?;
+    }
+    Ok(())
+}
+
+// Forgets the mark of a desk where an event ended, and returns the mark that it has then.
+fn settle_desk(desk: &mut Desk, mark: bool, packet: u32) -> bool
+    requires { mark ≡ desk.old.marked }
+    ensures desk { desk.new ≡ desk_settled packet desk.old }
+    ensures mark { result ≡ desk.new.marked }
+{
+    if !mark {
+        return false;
+    }
+    desk.settle(packet);
+    desk.marked
+}
+
+// Forgets the marks where an event ended.
+fn settle_all<A: Allocator>(desks: &mut [Desk], marked: &mut Marked<A>, packet: u32)
+    requires { marked.old ≡ marks_of desks.old }
+    ensures desks { desks.new ≡ map (desk_settled packet) desks.old }
+    ensures marks { marked.new ≡ marks_of desks.new }
+{
+    for n in marked.low()..marked.high() {
+        let mark = settle_desk(&mut desks[n], marked.is_set(n), packet);
+        marked.put(n, mark);
+    }
+    marked.narrow();
+}
+
+fn rebase_all<A: Allocator>(desks: &mut [Desk], marked: &mut Marked<A>, bases: &[Option<Snapshot>])
+    requires { marked.old ≡ marks_of desks.old }
+    ensures desks { desks.new ≡ rebased_desks bases.now desks.old }
+    ensures marks { marked.new ≡ marks_of desks.new }
 {
     let both = desks.len().min(bases.len());
     for n in 0..both {
         desks[n].jump(&bases[n]);
+        marked.put(n, desks[n].marked);
     }
 }
 
@@ -75,7 +133,13 @@ impl<A: Allocator + Copy> Desks<A> {
         for instrument in instruments {
             desks.push(Desk::new(instrument.copy()))?;
         }
-        Ok(Desks { slots, desks, legs })
+        let marked = Marked::none(alloc, instruments.len())?;
+        Ok(Desks {
+            slots,
+            desks,
+            legs,
+            marked,
+        })
     }
 
     // Takes an entry, which is for one desk at most.
@@ -84,6 +148,7 @@ impl<A: Allocator + Copy> Desks<A> {
     {
         if let Some(slot) = slot_named(&self.slots, entry) {
             self.desks[slot].enter(place, entry);
+            self.marked.put(slot, self.desks[slot].marked);
         }
     }
 
@@ -106,10 +171,7 @@ impl<A: Allocator + Copy> Desks<A> {
     fn put_books(&self, out: &mut Vec<u8, A>, packet: u32, message: u64) -> Result<(), Memory>
         ensures { OnOk result (out.new.items ≡ out.old.items ++ flat_map (text_of packet message) (map (desk_standing packet) self.now)) }
     {
-        for desk in &self.desks {
-            desk.put(out, packet, message)?;
-        }
-        Ok(())
+        put_marked(out, packet, message, &self.desks, &self.marked)
     }
 
     // Appends the lines of the calendar spreads that an event end audits.
@@ -132,7 +194,7 @@ impl<A: Allocator + Copy> Desks<A> {
     fn settle(&mut self, packet: u32)
         ensures { self.new ≡ map (desk_settled packet) self.old }
     {
-        settle_all(&mut self.desks, packet);
+        settle_all(&mut self.desks, &mut self.marked, packet);
     }
 
     // Takes a message, and appends the lines that are owed where it ends an event.
@@ -172,7 +234,7 @@ impl<A: Allocator + Copy> Desks<A> {
     fn rebase(&mut self, bases: &[Option<Snapshot>])
         ensures { self.new ≡ rebased_desks bases.now self.old }
     {
-        rebase_all(&mut self.desks, bases);
+        rebase_all(&mut self.desks, &mut self.marked, bases);
     }
 
     /// Jumps from packet number `old` to `new`: appends the line of the jump, and takes each security's

@@ -9,6 +9,7 @@ mod event;
 mod laws;
 mod legs;
 mod lines;
+mod marked;
 #[cfg(test)]
 mod tests;
 

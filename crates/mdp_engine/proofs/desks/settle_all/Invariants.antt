@@ -1,10 +1,11 @@
-use Rattle.std.proofs.Common.{◌≡◌, ◌++◌, take, drop, length, map}
+use Rattle.std.proofs.Common.{◌≡◌, ◌++◌, take, drop, map}
 use Rattle.mdp_engine.specs.Desks.{desk_settled}
+use Rattle.mdp_engine.specs.Slots.{marks_of}
 use Rattle.mdp_engine.proofs.desks.settle_all.Given as goal
 
 -- the first desks are settled, and the others are as they were
 abbrev pub invariant-loop-n : goal.invariant-loop-n
-invariant-loop-n l = record {
-  desks : take l.n l.desks ++ map (desk_settled l.packet) (drop l.n l.desks) ≡ map (desk_settled l.packet) l.initial.desks;
-  long : length l.desks ≡ length l.initial.desks;
+invariant-loop-n g l = record {
+  desks : l.desks ≡ map (desk_settled l.packet) (take l.n l.initial.desks) ++ drop l.n l.initial.desks;
+  marks : l.marked ≡ marks_of l.desks;
 }

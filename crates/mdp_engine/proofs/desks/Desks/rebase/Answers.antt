@@ -2,7 +2,7 @@ use Rattle.std.proofs.Common.{◌≡◌, List, length, drop, sym, ap, subst, ◌
 use Rattle.std.proofs.lemmas.List.{take_at}
 use Rattle.mdp_engine.specs.declared.desk.Desk.{Desk}
 use Rattle.mdp_engine.specs.Desks.{rebased_desks}
-use Rattle.mdp_engine.specs.Slots.{listed_in, AreSlotsOf}
+use Rattle.mdp_engine.specs.Slots.{listed_in, AreBeside}
 use Rattle.mdp_engine.proofs.Hearing.{same_slots, length_rebased}
 use Rattle.mdp_engine.proofs.Showing.{listed_rebased}
 use Rattle.mdp_engine.proofs.desks.Desks.rebase.Goals as goal
@@ -12,8 +12,8 @@ invariant_of-self g c =
     let inside = c.self.inside in
     let after = c.rebase_all.new.desks in
     let bases = c.args.bases.now in
-    let is : after ≡ rebased_desks bases inside.desks.items = c.rebase_all.ensures ∙ ap (rebased_desks bases) c.deref_mut.ensures.value in
-    let long : length after ≡ inside.desks.len = ap length c.rebase_all.ensures ∙ length_rebased bases _ ∙ c.deref_mut.ensures.len in
+    let is : after ≡ rebased_desks bases inside.desks.items = c.rebase_all.ensures.desks ∙ ap (rebased_desks bases) c.deref_mut.ensures.value in
+    let long : length after ≡ inside.desks.len = ap length c.rebase_all.ensures.desks ∙ length_rebased bases _ ∙ c.deref_mut.ensures.len in
     let kept = take_at after (drop (length after) inside.desks.items) inside.desks.len long in
-    let same = same_slots inside.desks.items after inside.slots inside.legs.items c.self.invariant (ap listed_in is ∙ listed_rebased bases inside.desks.items) in
-    subst (λ (ds : List Desk). AreSlotsOf (listed_in ds) inside.slots inside.legs.items) (sym kept) same
+    let same = same_slots inside.desks.items after inside.slots inside.legs.items c.self.invariant.slots (ap listed_in is ∙ listed_rebased bases inside.desks.items) in
+    subst (λ (ds : List Desk). AreBeside ds inside.slots inside.legs.items c.rebase_all.new.marked) (sym kept) (record { slots = same; marks_are = c.rebase_all.ensures.marks })

@@ -2,7 +2,7 @@ use Rattle.std.proofs.Common.{◌≡◌, List, length, map, drop, sym, ap, subst
 use Rattle.std.proofs.lemmas.List.{take_at, length-map}
 use Rattle.mdp_engine.specs.declared.desk.Desk.{Desk}
 use Rattle.mdp_engine.specs.Desks.{desk_settled}
-use Rattle.mdp_engine.specs.Slots.{listed_in, AreSlotsOf}
+use Rattle.mdp_engine.specs.Slots.{listed_in, AreBeside}
 use Rattle.mdp_engine.proofs.Hearing.{same_slots, listed_settled}
 use Rattle.mdp_engine.proofs.desks.Desks.settle.Goals as goal
 
@@ -10,8 +10,8 @@ pub invariant_of-self : goal.invariant_of-self
 invariant_of-self g c =
     let inside = c.self.inside in
     let after = c.settle_all.new.desks in
-    let is : after ≡ map (desk_settled c.args.packet) inside.desks.items = c.settle_all.ensures ∙ ap (map (desk_settled c.args.packet)) c.deref_mut.ensures.value in
-    let long : length after ≡ inside.desks.len = ap length c.settle_all.ensures ∙ simp length-map c.deref_mut.ensures.len in
+    let is : after ≡ map (desk_settled c.args.packet) inside.desks.items = c.settle_all.ensures.desks ∙ ap (map (desk_settled c.args.packet)) c.deref_mut.ensures.value in
+    let long : length after ≡ inside.desks.len = ap length c.settle_all.ensures.desks ∙ simp length-map c.deref_mut.ensures.len in
     let kept = take_at after (drop (length after) inside.desks.items) inside.desks.len long in
-    let same = same_slots inside.desks.items after inside.slots inside.legs.items c.self.invariant (ap listed_in is ∙ listed_settled c.args.packet inside.desks.items) in
-    subst (λ (ds : List Desk). AreSlotsOf (listed_in ds) inside.slots inside.legs.items) (sym kept) same
+    let same = same_slots inside.desks.items after inside.slots inside.legs.items c.self.invariant.slots (ap listed_in is ∙ listed_settled c.args.packet inside.desks.items) in
+    subst (λ (ds : List Desk). AreBeside ds inside.slots inside.legs.items c.settle_all.new.marked) (sym kept) (record { slots = same; marks_are = c.settle_all.ensures.marks })
