@@ -6,10 +6,11 @@ ghost use Rattle.mdp_arbiter.specs.Slots.{ids_of};
 ghost use Rattle.mdp_quotes.specs.Best.{best_of};
 ghost use Rattle.mdp_engine.specs.Desks.{desk_standing};
 ghost use Rattle.mdp_engine.specs.Lines.{verdicts_text, spread_text, audit_text};
-ghost use Rattle.mdp_engine.specs.Slots.{listed_in, legs_in, AreSlotsOf};
+ghost use Rattle.mdp_engine.specs.Slots.{listed_in, legs_in, marks_of, AreSlotsOf};
 
 use crate::desk::Desk;
 use crate::legs::Legs;
+use crate::marked::Marked;
 use mdp_books::Book;
 use mdp_print::put_audit;
 use mdp_quotes::{Best, audit};
@@ -37,10 +38,10 @@ fn put_verdicts<A: Allocator>(
     }
 }
 
-fn is_one_marked(spread: &Desk, leg1: &Desk, leg2: &Desk) -> bool
-    ensures { result ≡ (spread.now.marked || leg1.now.marked || leg2.now.marked) }
+fn is_one_set(spread: bool, leg1: bool, leg2: bool) -> bool
+    ensures { result ≡ (spread || leg1 || leg2) }
 {
-    spread.marked || leg1.marked || leg2.marked
+    spread || leg1 || leg2
 }
 
 // Whether the packet stands behind the bases of all three.
@@ -51,7 +52,8 @@ fn are_current(packet: u32, spread: &Desk, leg1: &Desk, leg2: &Desk) -> bool
 }
 
 // Appends the line of a spread where message `message` of packet `packet` ends an event that prints it
-// or one of its legs, and stands behind the bases of all three.
+// or one of its legs, and stands behind the bases of all three. `is_one_marked` tells whether it prints
+// one; the desks are looked at only then.
 fn put_spread<A: Allocator>(
     out: &mut Vec<u8, A>,
     packet: u32,
@@ -59,10 +61,12 @@ fn put_spread<A: Allocator>(
     spread: &Desk,
     leg1: &Desk,
     leg2: &Desk,
+    is_one_marked: bool,
 ) -> Result<(), Memory>
+    requires { is_one_marked ≡ (spread.now.marked || leg1.now.marked || leg2.now.marked) }
     ensures { OnOk result (out.new.items ≡ out.old.items ++ spread_text packet message (desk_standing packet spread.now) (desk_standing packet leg1.now) (desk_standing packet leg2.now)) }
 {
-    if !is_one_marked(spread, leg1, leg2) {
+    if !is_one_marked {
         return Ok(());
     }
     if !are_current(packet, spread, leg1, leg2) {
@@ -80,15 +84,20 @@ fn put_spread<A: Allocator>(
     )
 }
 
-// Appends the line of a security that may be a spread, whose legs stand at these places.
+// Appends the line of a security that may be a spread, whose mark is this one, and whose legs stand at
+// these places.
 fn put_audit_at<A: Allocator>(
     out: &mut Vec<u8, A>,
     packet: u32,
     message: u64,
     desks: &[Desk],
+    marked: &Marked<A>,
     desk: &Desk,
+    mark: bool,
     legs: Option<Legs>,
 ) -> Result<(), Memory>
+    requires marks { marked.now ≡ marks_of desks.now }
+    requires mark { mark ≡ desk.now.marked }
     requires differ { AllPairs (λ a b. a ≢ b) (ids_of (listed_in desks.now)) }
     requires legs { legs ≡ legs_in (ids_of (listed_in desks.now)) desk.now.instrument.kind }
     ensures { OnOk result (out.new.items ≡ out.old.items ++ audit_text packet message (map (desk_standing packet) desks.now) (desk_standing packet desk.now)) }
@@ -101,6 +110,7 @@ fn put_audit_at<A: Allocator>(
             desk,
             &desks[legs.leg1],
             &desks[legs.leg2],
+            is_one_set(mark, marked.is_set(legs.leg1), marked.is_set(legs.leg2)),
         ),
         None => Ok(()),
     }
@@ -112,13 +122,24 @@ pub(crate) fn put_audits<A: Allocator>(
     packet: u32,
     message: u64,
     desks: &[Desk],
+    marked: &Marked<A>,
     legs: &[Option<Legs>],
 ) -> Result<(), Memory>
-    requires { AreSlotsOf (listed_in desks.now) (ids_of (listed_in desks.now)) legs.now }
+    requires marks { marked.now ≡ marks_of desks.now }
+    requires slots { AreSlotsOf (listed_in desks.now) (ids_of (listed_in desks.now)) legs.now }
     ensures { OnOk result (out.new.items ≡ out.old.items ++ flat_map (audit_text packet message (map (desk_standing packet) desks.now)) (map (desk_standing packet) desks.now)) }
 {
     for n in 0..desks.len() {
-        put_audit_at(out, packet, message, desks, &desks[n], legs[n])?;
+        put_audit_at(
+            out,
+            packet,
+            message,
+            desks,
+            marked,
+            &desks[n],
+            marked.is_set(n),
+            legs[n],
+        )?;
     }
     Ok(())
 }

@@ -178,7 +178,7 @@ impl<A: Allocator + Copy> Desks<A> {
     fn put_spreads(&self, out: &mut Vec<u8, A>, packet: u32, message: u64) -> Result<(), Memory>
         ensures { OnOk result (out.new.items ≡ out.old.items ++ flat_map (audit_text packet message (map (desk_standing packet) self.now)) (map (desk_standing packet) self.now)) }
     {
-        put_audits(out, packet, message, &self.desks, &self.legs)
+        put_audits(out, packet, message, &self.desks, &self.marked, &self.legs)
     }
 
     // Appends the lines that an event end owes.
