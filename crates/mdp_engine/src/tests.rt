@@ -1,5 +1,5 @@
-//! An engine over a map window of four places, with one listed security: the lines that it owes, and each allocation
-//! refused in turn.
+//! An engine over a map window of four places, with one listed security: the lines that it owes. (Each allocation of an
+//! engine is refused in turn in the program's own tests.)
 
 ghost use Rattle.std.specs.Prelude.{◌≡◌, ◌∷◌, [], IfOk};
 ghost use Rattle.mdp_templates.specs.Instrument.{AreFit};
@@ -11,12 +11,11 @@ use mdp_templates::{
     Snapshot, are_fit,
 };
 use mdp_window::MapWindow;
-use refusing::Refusing;
-use std::alloc::{Allocator, Global};
+use std::alloc::Global;
 use std::process::Abort;
 use std::test::Fail;
 
-type OverMap<A> = Engine<A, MapWindow<Packet<A>, A>>;
+type OverMap = Engine<Global, MapWindow<Packet<Global>, Global>>;
 
 /// What comes on the channel, all of it for the security of id 1.
 #[derive(Clone, Copy)]
@@ -175,14 +174,14 @@ fn snapshot(last: u32, levels: [Level; 2]) -> Snapshot {
 }
 
 /// A packet with one message, which ends its event and has this entry.
-fn packet<A: Allocator + Copy>(alloc: A, number: u32, entry: Entry) -> Result<Packet<A>, Memory> {
+fn packet(alloc: Global, number: u32, entry: Entry) -> Result<Packet<Global>, Memory> {
     let entries = Vec::from_slice(alloc, &[entry])?;
     let mut messages = Vec::new(alloc);
     messages.push(Message::new(entries, true))?;
     Ok(Packet::new(number, messages))
 }
 
-fn event<A: Allocator + Copy>(alloc: A, came: Came) -> Result<Event<A>, Memory> {
+fn event(alloc: Global, came: Came) -> Result<Event<Global>, Memory> {
     match came {
         Came::Entry(number, kind, action, level, Level { price, size }) => {
             let entry = Entry {
@@ -200,16 +199,8 @@ fn event<A: Allocator + Copy>(alloc: A, came: Came) -> Result<Event<A>, Memory> 
     }
 }
 
-/// The event, made a second time where an allocation of the first was refused.
-fn event_at_last<A: Allocator + Copy>(alloc: A, came: Came) -> Result<Event<A>, Memory> {
-    match event(alloc, came) {
-        Ok(event) => Ok(event),
-        Err(_) => event(alloc, came),
-    }
-}
-
 /// The events of a table.
-fn events_of<A: Allocator + Copy>(alloc: A, rows: &[Row]) -> Result<Vec<Event<A>, A>, Memory> {
+fn events_of(alloc: Global, rows: &[Row]) -> Result<Vec<Event<Global>>, Memory> {
     let mut events = Vec::with_capacity(alloc, rows.len())?;
     for row in rows {
         events.push(event(alloc, row.0)?)?;
@@ -234,24 +225,36 @@ fn replays(rt: &impl Abort, alloc: Global, rows: &[Row]) -> Result<(), Fail> {
     Ok(())
 }
 
-/// Hands an engine the events of a table one by one, and drains the lines behind each.
+/// Hands an engine one event, and sees what number is next, whether it is lost, and which lines are owed then.
+fn follow(rt: &impl Abort, alloc: Global, engine: &mut OverMap, row: &Row) -> Result<(), Fail> {
+    let (came, next, lost, lines) = row;
+    engine.on(event(alloc, *came)?)?;
+    assert_eq!(rt; engine.next(), *next);
+    assert_eq!(rt; engine.lost(), *lost);
+    let mut out = Vec::from_slice(alloc, b"held: ")?;
+    engine.drain_lines(&mut out)?;
+    assert_eq!(rt; &out[..6], b"held: ".as_slice());
+    assert_eq!(rt; &out[6..], *lines);
+    Ok(())
+}
+
+/// Hands an engine the events of a table one by one.
+fn follow_all(
+    rt: &impl Abort,
+    alloc: Global,
+    engine: &mut OverMap,
+    rows: &[Row],
+) -> Result<(), Fail> {
+    for row in rows {
+        follow(rt, alloc, engine, row)?;
+    }
+    Ok(())
+}
+
+/// Follows a table from a new engine.
 fn follows(rt: &impl Abort, alloc: Global, rows: &[Row]) -> Result<(), Fail> {
     let mut engine = Engine::new(alloc, &near()?, MapWindow::new(alloc, 4))?;
-    assert_eq!(rt; engine.next(), 1);
-    assert!(rt; !engine.lost());
-    for (came, next, lost, lines) in rows {
-        engine.on(event(alloc, *came)?)?;
-        assert_eq!(rt; engine.next(), *next);
-        assert_eq!(rt; engine.lost(), *lost);
-        let mut out = Vec::from_slice(alloc, b"held: ")?;
-        engine.drain_lines(&mut out)?;
-        assert_eq!(rt; &out[..6], b"held: ".as_slice());
-        assert_eq!(rt; &out[6..], *lines);
-    }
-    let mut out = Vec::new(alloc);
-    engine.drain_lines(&mut out)?;
-    assert!(rt; out.is_empty());
-    Ok(())
+    follow_all(rt, alloc, &mut engine, rows)
 }
 
 #[test]
@@ -270,142 +273,5 @@ fn owes_the_lines_of_each_event_behind_it(rt: HostRuntime) -> Result<(), Fail> {
     follows(&rt, alloc, &REORDERED)?;
     follows(&rt, alloc, &RECOVERED)?;
     follows(&rt, alloc, &CLOSED)?;
-    Ok(())
-}
-
-/// Where the run met its refused allocation.
-#[derive(Clone, Copy, Debug, PartialEq, Eq)]
-enum Refused {
-    New,
-    On,
-    Drain,
-    /// In what the test itself made, or nowhere.
-    Elsewhere,
-}
-
-/// Hands an engine the events of a table, and drains behind each, until one of the calls answers want of memory.
-fn run_until_refused<A: Allocator + Copy>(
-    alloc: A,
-    engine: &mut OverMap<A>,
-    rows: &[Row],
-    out: &mut Vec<u8, A>,
-) -> Result<Refused, Fail> {
-    for row in rows {
-        let event = event_at_last(alloc, row.0)?;
-        if engine.on(event).is_err() {
-            return Ok(Refused::On);
-        }
-        if engine.drain_lines(out).is_err() {
-            return Ok(Refused::Drain);
-        }
-    }
-    Ok(Refused::Elsewhere)
-}
-
-/// Sees that an engine which answered want of memory goes on to do so, and drains nothing, though there is memory.
-fn stays_failed<A: Allocator + Copy>(
-    rt: &impl Abort,
-    alloc: A,
-    engine: &mut OverMap<A>,
-    out: &mut Vec<u8, A>,
-) -> Result<(), Fail> {
-    let drained = out.len();
-    for came in [Came::Close, FIRST, BEHIND_SECOND] {
-        assert!(rt; engine.drain_lines(out).is_err());
-        assert_eq!(rt; out.len(), drained);
-        assert!(rt; engine.on(event(alloc, came)?).is_err());
-    }
-    assert!(rt; engine.drain_lines(out).is_err());
-    assert_eq!(rt; out.len(), drained);
-    Ok(())
-}
-
-/// Runs over a table with the allocation of this number refused.
-fn refuse_one(
-    rt: &impl Abort,
-    heap: &Refusing<Global>,
-    whole: &[u8],
-    rows: &[Row],
-) -> Result<Refused, Fail> {
-    let Ok(mut engine) = Engine::new(heap, &near()?, MapWindow::new(heap, 4)) else {
-        assert!(rt; heap.has_refused());
-        return Ok(Refused::New);
-    };
-    let mut out = Vec::new(heap);
-    let refused = run_until_refused(heap, &mut engine, rows, &mut out)?;
-    match refused {
-        Refused::On | Refused::Drain => {
-            assert!(rt; heap.has_refused());
-            stays_failed(rt, heap, &mut engine, &mut out)?;
-            assert!(rt; whole.starts_with(&out));
-        }
-        Refused::New | Refused::Elsewhere => assert_eq!(rt; out.as_slice(), whole),
-    }
-    Ok(refused)
-}
-
-#[test]
-fn each_refused_allocation_ends_the_lines(rt: HostRuntime) -> Result<(), Fail> {
-    let whole = text_of(rt.alloc(), &RECOVERED)?;
-    let mut seen = [0u32; 3];
-    for number in 1..1000u64 {
-        let heap = Refusing::new(rt.alloc(), number);
-        match refuse_one(&rt, &heap, &whole, &RECOVERED)? {
-            Refused::New => seen[0] = seen[0].saturating_add(1),
-            Refused::On => seen[1] = seen[1].saturating_add(1),
-            Refused::Drain => seen[2] = seen[2].saturating_add(1),
-            Refused::Elsewhere => {}
-        }
-        if !heap.has_refused() {
-            break;
-        }
-    }
-    // rooms are made at the start, packets ahead and lines are held, and the lines go out
-    for count in seen {
-        assert!(rt; count > 0);
-    }
-    Ok(())
-}
-
-/// Replays a table with one allocation refused, and answers whether the replay ended for want of memory.
-fn replay_is_refused(
-    rt: &impl Abort,
-    heap: &Refusing<Global>,
-    whole: &[u8],
-    rows: &[Row],
-) -> Result<bool, Fail> {
-    let events = match events_of(heap, rows) {
-        Ok(events) => events,
-        Err(_) => events_of(heap, rows)?,
-    };
-    let was_refused = heap.has_refused();
-    match replay(heap, &events, &near()?, MapWindow::new(heap, 4)) {
-        Ok(text) => {
-            assert_eq!(rt; text.as_slice(), whole);
-            assert_eq!(rt; heap.has_refused(), was_refused);
-            Ok(false)
-        }
-        Err(_) => {
-            assert!(rt; heap.has_refused() && !was_refused);
-            Ok(true)
-        }
-    }
-}
-
-#[test]
-fn a_replay_answers_the_whole_text_or_want_of_memory(rt: HostRuntime) -> Result<(), Fail> {
-    let whole = text_of(rt.alloc(), &RECOVERED)?;
-    let mut ended = 0u64;
-    for number in 1..1000u64 {
-        let heap = Refusing::new(rt.alloc(), number);
-        if replay_is_refused(&rt, &heap, &whole, &RECOVERED)? {
-            ended = ended.saturating_add(1);
-        }
-        if !heap.has_refused() {
-            break;
-        }
-    }
-    // each of four packets is copied by two allocations, and there is the text
-    assert!(rt; ended > 8);
     Ok(())
 }
