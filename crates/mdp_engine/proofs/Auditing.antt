@@ -1,7 +1,7 @@
--- The legs of a calendar spread are found by their places, and give its line.
-use Rattle.std.proofs.Common.{◌≡◌, ◌≢◌, ◌<◌, ℕ, ℤ, zero, suc, Bool, true, false, cond, List, [], ◌∷◌, length, map, get_or, Option, Some, None, refl, sym, ap, ◌∙◌, arith, inl, inr}
+-- A calendar spread and its legs are found by their places, and give its line.
+use Rattle.std.proofs.Common.{◌≡◌, ◌≢◌, ◌<◌, ◌+◌, ◌++◌, ℕ, ℤ, zero, suc, Bool, true, false, cond, List, [], ◌∷◌, length, map, get_or, Option, Some, None, refl, sym, ap, subst, ◌∙◌, arith, inl, inr}
 use Rattle.std.specs.Prelude.{◌⊎◌, nat_lt, slice_get}
-use Rattle.std.specs.List.{AllPairs}
+use Rattle.std.specs.List.{AllByRecursion, AllPairs, flat_map}
 use Rattle.std.specs.Option.{option_map, IfSome, IfNone}
 use Rattle.std.specs.Ordering.{int_eq}
 use Rattle.std.proofs.lemmas.Bool.{cases_Bool}
@@ -10,10 +10,10 @@ use Rattle.mdp_templates.specs.declared.instrument.Instrument.{Instrument}
 use Rattle.mdp_templates.specs.declared.instrument.InstrumentKind.{InstrumentKind}
 use Rattle.mdp_templates.specs.declared.instrument.InstrumentKind.TheVariants.{Outright, Calendar}
 use Rattle.mdp_engine.specs.declared.desk.Desk.{Desk}
-use Rattle.mdp_engine.specs.declared.legs.Legs.{Legs}
-use Rattle.mdp_engine.specs.Slots.{listed_in, slot_in, legs_at, legs_in}
+use Rattle.mdp_engine.specs.declared.spreads.Spread.{Spread}
+use Rattle.mdp_engine.specs.Slots.{listed_in, slot_in, spread_at, spread_in, spreads_from, with_spread, IsUnder}
 use Rattle.mdp_engine.specs.Lines.{Seen, seen_of, spread_text, legs_text, audit_text}
-use Rattle.mdp_engine.specs.Desks.{desk_standing}
+use Rattle.mdp_engine.specs.Desks.{desk_standing, shown_there, spread_line}
 use Rattle.mdp_engine.proofs.Hearing.{ids_in, differ_tail, other_than}
 
 -- ---- the place of a security
@@ -100,29 +100,36 @@ unseen k id [] none = refl
 unseen k id (d ∷ ds) none =
     passed_over k id d (map (desk_standing k) ds) (λ same. none 0 (ap (λ (y : ℤ). Some y) same)) ∙ unseen k id ds (λ slot. none (suc slot))
 
-seen_here : (k : ℕ) (id : ℤ) (ds : List Desk) (n : ℕ) (here : Desk) → AllPairs (λ a b. a ≢ b) (ids_in ds) → slice_get (ids_in ds) n ≡ Some id → here ≡ get_or ds n here → seen_of id (map (desk_standing k) ds) ≡ desk_standing k here
-seen_here k id [] n here differ is at = absurd cc
-seen_here k id (d ∷ ds) zero here differ is at =
+-- what an event end shows of the security at a place
+seen_here : (k : ℕ) (id : ℤ) (ds : List Desk) (n : ℕ) → AllPairs (λ a b. a ≢ b) (ids_in ds) → slice_get (ids_in ds) n ≡ Some id → seen_of id (map (desk_standing k) ds) ≡ shown_there k (slice_get ds n)
+seen_here k id [] n differ is = absurd cc
+seen_here k id (d ∷ ds) zero differ is =
     let same : d.instrument.id ≡ id = cc in
     let none : seen_of id (map (desk_standing k) ds) ≡ None = unseen k id ds (λ slot there. other_than d.instrument.id (ids_in ds) differ slot (there ∙ ap (λ (y : ℤ). Some y) (sym same))) in
-    seen_first k id d (map (desk_standing k) ds) same none ∙ ap (desk_standing k) (sym at)
-seen_here k id (d ∷ ds) (suc n) here differ is at =
+    seen_first k id d (map (desk_standing k) ds) same none
+seen_here k id (d ∷ ds) (suc n) differ is =
     passed_over k id d (map (desk_standing k) ds) (λ same. other_than d.instrument.id (ids_in ds) differ n (is ∙ ap (λ (y : ℤ). Some y) (sym same)))
-    ∙ seen_here k id ds n here (differ_tail d.instrument.id (ids_in ds) differ) is at
+    ∙ seen_here k id ds n (differ_tail d.instrument.id (ids_in ds) differ) is
 
 -- ---- a spread's line
 
-both_at : (o1 o2 : Option ℕ) (legs : Legs) → legs_at o1 o2 ≡ Some legs → (o1 ≡ Some legs.leg1) × (o2 ≡ Some legs.leg2)
-both_at (Some n1) (Some n2) legs is =
-    let same : record { leg1 = n1; leg2 = n2 } ≡ legs = cc in
-    (ap (λ (l : Legs). Some l.leg1) same, ap (λ (l : Legs). Some l.leg2) same)
-both_at (Some n1) None legs is = absurd cc
-both_at None o2 legs is = absurd cc
+-- where a spread stands there, its places are these
+pub record Placed (n : ℕ) (o1 o2 : Option ℕ) (spread : Spread) : Type 0 where
+  pub slot : n ≡ spread.slot
+  pub leg1 : o1 ≡ Some spread.leg1
+  pub leg2 : o2 ≡ Some spread.leg2
 
-one_lacks : (o1 o2 : Option ℕ) → legs_at o1 o2 ≡ None → (o1 ≡ None) ⊎ (o2 ≡ None)
-one_lacks (Some n1) (Some n2) is = absurd cc
-one_lacks (Some n1) None is = inr refl
-one_lacks None o2 is = inl refl
+placed : (n : ℕ) (o1 o2 : Option ℕ) (spread : Spread) → spread_at n o1 o2 ≡ Some spread → Placed n o1 o2 spread
+placed n (Some n1) (Some n2) spread is =
+    let same : record { slot = n; leg1 = n1; leg2 = n2 } ≡ spread = cc in
+    record { slot = ap (λ (s : Spread). s.slot) same; leg1 = ap (λ (s : Spread). Some s.leg1) same; leg2 = ap (λ (s : Spread). Some s.leg2) same }
+placed n (Some n1) None spread is = absurd cc
+placed n None o2 spread is = absurd cc
+
+one_lacks : (n : ℕ) (o1 o2 : Option ℕ) → spread_at n o1 o2 ≡ None → (o1 ≡ None) ⊎ (o2 ≡ None)
+one_lacks n (Some n1) (Some n2) is = absurd cc
+one_lacks n (Some n1) None is = inr refl
+one_lacks n None o2 is = inl refl
 
 -- a security that the event end doesn't show has no line
 at_end : (k j : ℕ) (seen : List (Option Seen)) (d : Desk) (o1 o2 : Option Seen) → legs_text k j seen (seen_as d) d.instrument.kind ≡ spread_text k j (Some (seen_as d)) o1 o2 → audit_text k j seen (desk_standing k d) ≡ spread_text k j (desk_standing k d) o1 o2
@@ -137,61 +144,128 @@ slot_under [] n id is = absurd cc
 slot_under (x ∷ ids) zero id is = omega arith
 slot_under (x ∷ ids) (suc n) id is = let less = slot_under ids n id is in omega (arith, less)
 
--- both legs stand at places below the number of desks
-pub legs_under : (ds : List Desk) (kind : InstrumentKind) (legs : Legs) → Some legs ≡ legs_in (ids_in ds) kind → (legs.leg1 < length ds) × (legs.leg2 < length ds)
-legs_under ds Outright legs is = absurd cc
-legs_under ds (Calendar id1 id2) legs is =
-    let places = both_at (slot_in (ids_in ds) id1) (slot_in (ids_in ds) id2) legs (sym is) in
-    let first = slot_under (ids_in ds) legs.leg1 id1 (slot_holds (ids_in ds) id1 legs.leg1 places.0) in
-    let second = slot_under (ids_in ds) legs.leg2 id2 (slot_holds (ids_in ds) id2 legs.leg2 places.1) in
-    (ids_long ds legs.leg1 first, ids_long ds legs.leg2 second)
+desk_under : (ds : List Desk) (n : ℕ) (d : Desk) → slice_get ds n ≡ Some d → n < length ds
+desk_under [] n d is = absurd cc
+desk_under (x ∷ ds) zero d is = omega arith
+desk_under (x ∷ ds) (suc n) d is = let less = desk_under ds n d is in omega (arith, less)
+
+leg_under : (ds : List Desk) (id : ℤ) (n : ℕ) → slot_in (ids_in ds) id ≡ Some n → n < length ds
+leg_under ds id n is = ids_long ds n (slot_under (ids_in ds) n id (slot_holds (ids_in ds) id n is))
   where
     ids_long : (ds : List Desk) (n : ℕ) → n < length (ids_in ds) → n < length ds
     ids_long [] n less = less
     ids_long (d ∷ ds) zero less = omega arith
     ids_long (d ∷ ds) (suc n) less = let rest = ids_long ds n (omega (arith, less)) in omega (arith, rest)
 
--- a spread has the line of what is shown at its places
-pub audited : (k j : ℕ) (ds : List Desk) (d leg1 leg2 : Desk) (legs : Legs) → AllPairs (λ a b. a ≢ b) (ids_in ds) → Some legs ≡ legs_in (ids_in ds) d.instrument.kind → leg1 ≡ get_or ds legs.leg1 leg1 → leg2 ≡ get_or ds legs.leg2 leg2
-    → audit_text k j (map (desk_standing k) ds) (desk_standing k d) ≡ spread_text k j (desk_standing k d) (desk_standing k leg1) (desk_standing k leg2)
-audited k j ds d leg1 leg2 legs differ is at1 at2 = at_end k j seen d (desk_standing k leg1) (desk_standing k leg2) (by_kind d.instrument.kind is)
-  where
-    seen : List (Option Seen)
-    seen = map (desk_standing k) ds
+-- all of a spread's places stand below the number of desks
+spread_under : (ds : List Desk) (n : ℕ) (d : Desk) (kind : InstrumentKind) (spread : Spread) → slice_get ds n ≡ Some d → spread_in n (ids_in ds) kind ≡ Some spread → IsUnder (length ds) spread
+spread_under ds n d Outright spread at is = absurd cc
+spread_under ds n d (Calendar id1 id2) spread at is =
+    let places = placed n (slot_in (ids_in ds) id1) (slot_in (ids_in ds) id2) spread is in
+    record {
+      slot = subst (λ (slot : ℕ). slot < length ds) places.slot (desk_under ds n d at);
+      leg1 = leg_under ds id1 spread.leg1 places.leg1;
+      leg2 = leg_under ds id2 spread.leg2 places.leg2;
+    }
 
-    by_kind : (kind : InstrumentKind) → Some legs ≡ legs_in (ids_in ds) kind → legs_text k j (map (desk_standing k) ds) (seen_as d) kind ≡ spread_text k j (Some (seen_as d)) (desk_standing k leg1) (desk_standing k leg2)
-    by_kind Outright is = absurd cc
-    by_kind (Calendar id1 id2) is =
-        let places = both_at (slot_in (ids_in ds) id1) (slot_in (ids_in ds) id2) legs (sym is) in
-        let first = seen_here k id1 ds legs.leg1 leg1 differ (slot_holds (ids_in ds) id1 legs.leg1 places.0) at1 in
-        let second = seen_here k id2 ds legs.leg2 leg2 differ (slot_holds (ids_in ds) id2 legs.leg2 places.1) at2 in
-        ap (λ (o : Option Seen). spread_text k j (Some (seen_as d)) o (seen_of id2 (map (desk_standing k) ds))) first
-        ∙ ap (λ (o : Option Seen). spread_text k j (Some (seen_as d)) (desk_standing k leg1) o) second
+-- a spread has the line of what is shown at its places
+audited : (k j : ℕ) (ds : List Desk) (n : ℕ) (d : Desk) (spread : Spread) → AllPairs (λ a b. a ≢ b) (ids_in ds) → slice_get ds n ≡ Some d → spread_in n (ids_in ds) d.instrument.kind ≡ Some spread
+    → audit_text k j (map (desk_standing k) ds) (desk_standing k d) ≡ spread_line k j ds spread
+audited k j ds n d spread differ at is = by_kind d.instrument.kind refl is
+  where
+    shown : ℕ → Option Seen
+    shown slot = shown_there k (slice_get ds slot)
+
+    itself : n ≡ spread.slot → desk_standing k d ≡ shown_there k (slice_get ds spread.slot)
+    itself same = sym (ap (shown_there k) at) ∙ ap (λ (slot : ℕ). shown_there k (slice_get ds slot)) same
+
+    by_kind : (kind : InstrumentKind) → d.instrument.kind ≡ kind → spread_in n (ids_in ds) kind ≡ Some spread → audit_text k j (map (desk_standing k) ds) (desk_standing k d) ≡ spread_line k j ds spread
+    by_kind Outright same is = absurd cc
+    by_kind (Calendar id1 id2) same is =
+        let places = placed n (slot_in (ids_in ds) id1) (slot_in (ids_in ds) id2) spread is in
+        let first = seen_here k id1 ds spread.leg1 differ (slot_holds (ids_in ds) id1 spread.leg1 places.leg1) in
+        let second = seen_here k id2 ds spread.leg2 differ (slot_holds (ids_in ds) id2 spread.leg2 places.leg2) in
+        let legs : legs_text k j (map (desk_standing k) ds) (seen_as d) d.instrument.kind ≡ spread_text k j (Some (seen_as d)) (shown_there k (slice_get ds spread.leg1)) (shown_there k (slice_get ds spread.leg2)) =
+        ap (legs_text k j (map (desk_standing k) ds) (seen_as d)) same
+        ∙ ap (λ (o : Option Seen). spread_text k j (Some (seen_as d)) o (seen_of id2 (map (desk_standing k) ds))) first
+        ∙ ap (λ (o : Option Seen). spread_text k j (Some (seen_as d)) (shown_there k (slice_get ds spread.leg1)) o) second in
+        at_end k j (map (desk_standing k) ds) d (shown_there k (slice_get ds spread.leg1)) (shown_there k (slice_get ds spread.leg2)) legs
+        ∙ ap (λ (o : Option Seen). spread_text k j o (shown_there k (slice_get ds spread.leg1)) (shown_there k (slice_get ds spread.leg2))) (itself places.slot)
 
 no_second : (k j : ℕ) (s : Seen) (o : Option Seen) → spread_text k j (Some s) o None ≡ []
 no_second k j s None = refl
 no_second k j s (Some leg1) = refl
 
 -- a security with no legs there has no line
-pub not_audited : (k j : ℕ) (ds : List Desk) (d : Desk) → None ≡ legs_in (ids_in ds) d.instrument.kind → audit_text k j (map (desk_standing k) ds) (desk_standing k d) ≡ []
-not_audited k j ds d is = at_end k j (map (desk_standing k) ds) d None None (by_kind d.instrument.kind is) ∙ no_lines (desk_standing k d)
+not_audited : (k j : ℕ) (ds : List Desk) (n : ℕ) (d : Desk) → spread_in n (ids_in ds) d.instrument.kind ≡ None → audit_text k j (map (desk_standing k) ds) (desk_standing k d) ≡ []
+not_audited k j ds n d is = at_end k j (map (desk_standing k) ds) d None None (by_kind d.instrument.kind is) ∙ no_lines (desk_standing k d)
   where
     no_lines : (o : Option Seen) → spread_text k j o None None ≡ []
     no_lines None = refl
     no_lines (Some s) = refl
 
-    by_kind : (kind : InstrumentKind) → None ≡ legs_in (ids_in ds) kind → legs_text k j (map (desk_standing k) ds) (seen_as d) kind ≡ spread_text k j (Some (seen_as d)) None None
+    by_kind : (kind : InstrumentKind) → spread_in n (ids_in ds) kind ≡ None → legs_text k j (map (desk_standing k) ds) (seen_as d) kind ≡ spread_text k j (Some (seen_as d)) None None
     by_kind Outright is = refl
-    by_kind (Calendar id1 id2) is = elim (one_lacks (slot_in (ids_in ds) id1) (slot_in (ids_in ds) id2) (sym is)) [
+    by_kind (Calendar id1 id2) is = elim (one_lacks n (slot_in (ids_in ds) id1) (slot_in (ids_in ds) id2) is) [
       | inl lacks ↦ ap (λ (o : Option Seen). spread_text k j (Some (seen_as d)) o (seen_of id2 (map (desk_standing k) ds))) (unseen k id1 ds (slot_none (ids_in ds) id1 lacks))
       | inr lacks ↦ ap (λ (o : Option Seen). spread_text k j (Some (seen_as d)) (seen_of id1 (map (desk_standing k) ds)) o) (unseen k id2 ds (slot_none (ids_in ds) id2 lacks)) ∙ no_second k j (seen_as d) (seen_of id1 (map (desk_standing k) ds))
     ]
 
--- beside each desk stand its legs' places
-pub legs_there : (ds : List Desk) (ids : List ℤ) (legs : List (Option Legs)) (n : ℕ) (here : Desk) → legs ≡ map (λ (i : Instrument). legs_in ids i.kind) (listed_in ds) → n < length ds → here ≡ get_or ds n here → get_or legs n None ≡ legs_in ids here.instrument.kind
-legs_there ds ids legs n here are less at = ap (λ (ls : List (Option Legs)). get_or ls n None) are ∙ at_place ds n less at
+-- ---- all spreads
+
+-- these desks stand among all, from a place on
+abbrev AreFrom : ℕ → List Desk → List Desk → Type 0
+AreFrom n rest ds = (m : ℕ) → slice_get rest m ≡ slice_get ds (n + m)
+
+here_of : (n : ℕ) (d : Desk) (rest ds : List Desk) → AreFrom n (d ∷ rest) ds → slice_get ds n ≡ Some d
+here_of n d rest ds are = let none : n + 0 ≡ n = omega arith in sym (ap (λ (m : ℕ). slice_get ds m) none) ∙ sym (are 0)
+
+later_of : (n : ℕ) (d : Desk) (rest ds : List Desk) → AreFrom n (d ∷ rest) ds → AreFrom (n + 1) rest ds
+later_of n d rest ds are m = let same : n + suc m ≡ n + 1 + m = omega arith in are (suc m) ∙ ap (λ (i : ℕ). slice_get ds i) same
+
+itself_from : (ds : List Desk) → AreFrom 0 ds ds
+itself_from ds m = let same : m ≡ 0 + m = omega arith in ap (λ (i : ℕ). slice_get ds i) same
+
+all_audited : (k j : ℕ) (ds rest : List Desk) (n : ℕ) → AllPairs (λ a b. a ≢ b) (ids_in ds) → AreFrom n rest ds
+    → flat_map (audit_text k j (map (desk_standing k) ds)) (map (desk_standing k) rest) ≡ flat_map (spread_line k j ds) (spreads_from n (ids_in ds) (listed_in rest))
+all_audited k j ds [] n differ are = refl
+all_audited k j ds (d ∷ rest) n differ are = one_more (spread_in n (ids_in ds) d.instrument.kind) refl (all_audited k j ds rest (n + 1) differ (later_of n d rest ds are))
   where
-    at_place : (ds : List Desk) (n : ℕ) → n < length ds → here ≡ get_or ds n here → get_or (map (λ (i : Instrument). legs_in ids i.kind) (listed_in ds)) n None ≡ legs_in ids here.instrument.kind
-    at_place [] n less at = absurd (omega (arith, less))
-    at_place (d ∷ ds) zero less at = ap (λ (x : Desk). legs_in ids x.instrument.kind) (sym at)
-    at_place (d ∷ ds) (suc n) less at = at_place ds n (omega (arith, less)) at
+    one_more : (o : Option Spread) → spread_in n (ids_in ds) d.instrument.kind ≡ o
+        → flat_map (audit_text k j (map (desk_standing k) ds)) (map (desk_standing k) rest) ≡ flat_map (spread_line k j ds) (spreads_from (n + 1) (ids_in ds) (listed_in rest))
+        → audit_text k j (map (desk_standing k) ds) (desk_standing k d) ++ flat_map (audit_text k j (map (desk_standing k) ds)) (map (desk_standing k) rest)
+        ≡ flat_map (spread_line k j ds) (with_spread (spread_in n (ids_in ds) d.instrument.kind) (spreads_from (n + 1) (ids_in ds) (listed_in rest)))
+    one_more None is others =
+        ap (λ (t : List ℕ). t ++ flat_map (audit_text k j (map (desk_standing k) ds)) (map (desk_standing k) rest)) (not_audited k j ds n d is)
+        ∙ others
+        ∙ ap (λ (o : Option Spread). flat_map (spread_line k j ds) (with_spread o (spreads_from (n + 1) (ids_in ds) (listed_in rest)))) (sym is)
+    one_more (Some spread) is others =
+        ap (λ (t : List ℕ). t ++ flat_map (audit_text k j (map (desk_standing k) ds)) (map (desk_standing k) rest)) (audited k j ds n d spread differ (here_of n d rest ds are) is)
+        ∙ ap (λ (t : List ℕ). spread_line k j ds spread ++ t) others
+        ∙ ap (λ (o : Option Spread). flat_map (spread_line k j ds) (with_spread o (spreads_from (n + 1) (ids_in ds) (listed_in rest)))) (sym is)
+
+-- the lines of all spreads are those of the listed securities
+pub audits_are : (k j : ℕ) (ds : List Desk) (spreads : List Spread) → AllPairs (λ a b. a ≢ b) (ids_in ds) → spreads ≡ spreads_from 0 (ids_in ds) (listed_in ds)
+    → flat_map (audit_text k j (map (desk_standing k) ds)) (map (desk_standing k) ds) ≡ flat_map (spread_line k j ds) spreads
+audits_are k j ds spreads differ are = all_audited k j ds ds 0 differ (itself_from ds) ∙ ap (flat_map (spread_line k j ds)) (sym are)
+
+all_under : (ds rest : List Desk) (n : ℕ) → AreFrom n rest ds → AllByRecursion (IsUnder (length ds)) (spreads_from n (ids_in ds) (listed_in rest))
+all_under ds [] n are = tt
+all_under ds (d ∷ rest) n are = one_more (spread_in n (ids_in ds) d.instrument.kind) refl (all_under ds rest (n + 1) (later_of n d rest ds are))
+  where
+    one_more : (o : Option Spread) → spread_in n (ids_in ds) d.instrument.kind ≡ o
+        → AllByRecursion (IsUnder (length ds)) (spreads_from (n + 1) (ids_in ds) (listed_in rest))
+        → AllByRecursion (IsUnder (length ds)) (with_spread (spread_in n (ids_in ds) d.instrument.kind) (spreads_from (n + 1) (ids_in ds) (listed_in rest)))
+    one_more None is others = subst (λ (o : Option Spread). AllByRecursion (IsUnder (length ds)) (with_spread o (spreads_from (n + 1) (ids_in ds) (listed_in rest)))) (sym is) others
+    one_more (Some spread) is others =
+        subst (λ (o : Option Spread). AllByRecursion (IsUnder (length ds)) (with_spread o (spreads_from (n + 1) (ids_in ds) (listed_in rest)))) (sym is)
+        (spread_under ds n d d.instrument.kind spread (here_of n d rest ds are) is, others)
+
+one_under : (count : ℕ) (spreads : List Spread) (m : ℕ) (d : Spread) → AllByRecursion (IsUnder count) spreads → m < length spreads → IsUnder count (get_or spreads m d)
+one_under count [] m d all less = absurd (omega (arith, less))
+one_under count (s ∷ spreads) zero d all less = all.0
+one_under count (s ∷ spreads) (suc m) d all less = one_under count spreads m d all.1 (omega (arith, less))
+
+-- each spread stands below the number of desks with its legs
+pub under_there : (ds : List Desk) (spreads : List Spread) (m : ℕ) (d : Spread) → spreads ≡ spreads_from 0 (ids_in ds) (listed_in ds) → m < length spreads → IsUnder (length ds) (get_or spreads m d)
+under_there ds spreads m d are less = one_under (length ds) spreads m d (subst (AllByRecursion (IsUnder (length ds))) (sym are) (all_under ds ds 0 (itself_from ds))) less

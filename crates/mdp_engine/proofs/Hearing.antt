@@ -16,8 +16,8 @@ use Rattle.mdp_engine.specs.declared.desk.Desk.{Desk}
 use Rattle.mdp_engine.specs.Lines.{Seen, text_of, audit_text, lines_as}
 use Rattle.mdp_engine.specs.Desks.{desk_at_start, desk_entered, desk_heard, desks_through, desk_settled, desk_standing, desk_seen, desks_after, desks_text, rebased_desks}
 use Rattle.mdp_arbiter.specs.Slots.{ids_of}
-use Rattle.mdp_engine.specs.declared.legs.Legs.{Legs}
-use Rattle.mdp_engine.specs.Slots.{listed_in, legs_in, AreSlotsOf}
+use Rattle.mdp_engine.specs.declared.spreads.Spread.{Spread}
+use Rattle.mdp_engine.specs.Slots.{listed_in, spreads_from, AreSlotsOf}
 
 -- ---- one entry
 
@@ -70,8 +70,8 @@ one_heard place entry (d ∷ ds) (suc slot) here differ is at =
 
 -- ---- the listed securities stay, and so do their places
 
-pub same_slots : (ds after : List Desk) (ids : List ℤ) (legs : List (Option Legs)) → AreSlotsOf (listed_in ds) ids legs → listed_in after ≡ listed_in ds → AreSlotsOf (listed_in after) ids legs
-same_slots ds after ids legs are same = subst (λ (listed : List Instrument). AreSlotsOf listed ids legs) (sym same) are
+pub same_slots : (ds after : List Desk) (ids : List ℤ) (spreads : List Spread) → AreSlotsOf (listed_in ds) ids spreads → listed_in after ≡ listed_in ds → AreSlotsOf (listed_in after) ids spreads
+same_slots ds after ids spreads are same = subst (λ (listed : List Instrument). AreSlotsOf listed ids spreads) (sym same) are
 
 pub listed_entered : (place : Place) (entry : Entry) (ds : List Desk) (slot : ℕ) (here : Desk) → here ≡ get_or ds slot here → listed_in (set ds slot (desk_entered place entry here)) ≡ listed_in ds
 listed_entered place entry ds slot here at =
@@ -113,10 +113,10 @@ ids_differ (x ∷ xs) differ = λ i j d less below.
     let right : get_or (map (λ (k : Instrument). k.id) listed) j d ≡ (get_or listed j x).id = get_or-map (λ (k : Instrument). k.id) listed j x d inside in
     λ same. differ i j x less inside (sym left ∙ same ∙ right)
 
-pub slots_start : (listed : List Instrument) (ds : List Desk) (ids : List ℤ) (legs : List (Option Legs)) → AllPairs (λ (a b : Instrument). a.id ≢ b.id) listed → ds ≡ map desk_at_start listed → ids ≡ ids_of listed → legs ≡ map (λ (i : Instrument). legs_in ids i.kind) listed → AreSlotsOf (listed_in ds) ids legs
-slots_start listed ds ids legs differ desks slots places =
-    let at_start : AreSlotsOf listed ids legs = record { same = slots; differ = subst (λ (xs : List ℤ). AllPairs (λ a b. a ≢ b) xs) (sym slots) (ids_differ listed differ); legs_are = places } in
-    subst (λ (is : List Instrument). AreSlotsOf is ids legs) (sym (ap listed_in desks ∙ start_listed listed)) at_start
+pub slots_start : (listed : List Instrument) (ds : List Desk) (ids : List ℤ) (spreads : List Spread) → AllPairs (λ (a b : Instrument). a.id ≢ b.id) listed → ds ≡ map desk_at_start listed → ids ≡ ids_of listed → spreads ≡ spreads_from 0 ids listed → AreSlotsOf (listed_in ds) ids spreads
+slots_start listed ds ids spreads differ desks slots places =
+    let at_start : AreSlotsOf listed ids spreads = record { same = slots; differ = subst (λ (xs : List ℤ). AllPairs (λ a b. a ≢ b) xs) (sym slots) (ids_differ listed differ); spreads_are = places } in
+    subst (λ (is : List Instrument). AreSlotsOf is ids spreads) (sym (ap listed_in desks ∙ start_listed listed)) at_start
 
 -- ---- a message
 

@@ -1,5 +1,5 @@
 -- What the code does to a security's desk, as a function. The lines are defined elsewhere, with no desk.
-use Rattle.std.specs.Prelude.{Option, Some, None, false, ℕ, List, [], ◌∷◌, ◌++◌, true, not, ◌+◌, ◌&&◌, ◌||◌, if◌then◌else◌, map, nat_lt}
+use Rattle.std.specs.Prelude.{Option, Some, None, false, ℕ, List, [], ◌∷◌, ◌++◌, true, not, ◌+◌, ◌&&◌, ◌||◌, if◌then◌else◌, map, nat_lt, slice_get}
 use Rattle.mdp_templates.specs.Snapshot.{SnapshotContent}
 use Rattle.mdp_templates.specs.declared.entry.Entry.{Entry}
 use Rattle.mdp_templates.specs.declared.instrument.Instrument.{Instrument}
@@ -7,7 +7,8 @@ use Rattle.mdp_books.specs.declared.book.Place.{Place}
 use Rattle.mdp_books.specs.Book.{empty_book, book_of_snapshot, after_entry}
 use Rattle.mdp_books.specs.Feed.{Sent, names, place_at, book_after, is_named_in}
 use Rattle.mdp_engine.specs.declared.desk.Desk.{Desk}
-use Rattle.mdp_engine.specs.Lines.{Seen, lines_of}
+use Rattle.mdp_engine.specs.declared.spreads.Spread.{Spread}
+use Rattle.mdp_engine.specs.Lines.{Seen, lines_of, spread_text}
 
 -- before any packet
 abbrev pub desk_at_start : Instrument → Desk
@@ -33,6 +34,16 @@ desk_settled packet d = if nat_lt d.base packet then record { instrument = d.ins
 -- what an event end in this packet shows of the desk as it is
 abbrev pub desk_standing : ℕ → Desk → Option Seen
 desk_standing packet d = if nat_lt d.base packet then Some (record { instrument = d.instrument; printed = d.marked; book = d.book }) else None
+
+-- what it shows of the desk at a place
+abbrev pub shown_there : ℕ → Option Desk → Option Seen
+shown_there packet None = None
+shown_there packet (Some d) = desk_standing packet d
+
+-- the line of the calendar spread at these places, where an event ends
+abbrev pub spread_line : ℕ → ℕ → List Desk → Spread → List ℕ
+spread_line packet message desks spread =
+    spread_text packet message (shown_there packet (slice_get desks spread.slot)) (shown_there packet (slice_get desks spread.leg1)) (shown_there packet (slice_get desks spread.leg2))
 
 -- a whole message
 abbrev pub heard : Sent → Desk → Desk

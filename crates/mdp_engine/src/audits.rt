@@ -1,16 +1,16 @@
 //! The lines of calendar spreads where an event ends.
 
-ghost use Rattle.std.specs.Prelude.{◌≡◌, ◌≢◌, ◌++◌, ◌&&◌, ◌||◌, nat_lt, map, AllPairs, OnOk};
+ghost use Rattle.std.specs.Prelude.{◌≡◌, ◌++◌, ◌&&◌, ◌||◌, nat_lt, map, length, OnOk};
 ghost use Rattle.std.specs.List.{flat_map};
 ghost use Rattle.mdp_arbiter.specs.Slots.{ids_of};
 ghost use Rattle.mdp_quotes.specs.Best.{best_of};
-ghost use Rattle.mdp_engine.specs.Desks.{desk_standing};
+ghost use Rattle.mdp_engine.specs.Desks.{desk_standing, spread_line};
 ghost use Rattle.mdp_engine.specs.Lines.{verdicts_text, spread_text, audit_text};
-ghost use Rattle.mdp_engine.specs.Slots.{listed_in, legs_in, marks_of, AreSlotsOf};
+ghost use Rattle.mdp_engine.specs.Slots.{listed_in, marks_of, AreSlotsOf, IsUnder};
 
 use crate::desk::Desk;
-use crate::legs::Legs;
 use crate::marked::Marked;
+use crate::spreads::Spread;
 use mdp_books::Book;
 use mdp_print::put_audit;
 use mdp_quotes::{Best, audit};
@@ -84,62 +84,49 @@ fn put_spread<A: Allocator>(
     )
 }
 
-// Appends the line of a security that may be a spread, whose mark is this one, and whose legs stand at
-// these places.
+// Appends the line of the spread at these places.
 fn put_audit_at<A: Allocator>(
     out: &mut Vec<u8, A>,
     packet: u32,
     message: u64,
     desks: &[Desk],
     marked: &Marked<A>,
-    desk: &Desk,
-    mark: bool,
-    legs: Option<Legs>,
+    spread: &Spread,
 ) -> Result<(), Memory>
     requires marks { marked.now ≡ marks_of desks.now }
-    requires mark { mark ≡ desk.now.marked }
-    requires differ { AllPairs (λ a b. a ≢ b) (ids_of (listed_in desks.now)) }
-    requires legs { legs ≡ legs_in (ids_of (listed_in desks.now)) desk.now.instrument.kind }
-    ensures { OnOk result (out.new.items ≡ out.old.items ++ audit_text packet message (map (desk_standing packet) desks.now) (desk_standing packet desk.now)) }
+    requires under { IsUnder (length desks.now) spread.now }
+    ensures { OnOk result (out.new.items ≡ out.old.items ++ spread_line packet message desks.now spread.now) }
 {
-    match legs {
-        Some(legs) => put_spread(
-            out,
-            packet,
-            message,
-            desk,
-            &desks[legs.leg1],
-            &desks[legs.leg2],
-            is_one_set(mark, marked.is_set(legs.leg1), marked.is_set(legs.leg2)),
+    put_spread(
+        out,
+        packet,
+        message,
+        &desks[spread.slot],
+        &desks[spread.leg1],
+        &desks[spread.leg2],
+        is_one_set(
+            marked.is_set(spread.slot),
+            marked.is_set(spread.leg1),
+            marked.is_set(spread.leg2),
         ),
-        None => Ok(()),
-    }
+    )
 }
 
-/// Appends the lines of the calendar spreads among these securities that an event end owes.
+/// Appends the lines that an event end owes of the calendar spreads among these securities.
 pub(crate) fn put_audits<A: Allocator>(
     out: &mut Vec<u8, A>,
     packet: u32,
     message: u64,
     desks: &[Desk],
     marked: &Marked<A>,
-    legs: &[Option<Legs>],
+    spreads: &[Spread],
 ) -> Result<(), Memory>
     requires marks { marked.now ≡ marks_of desks.now }
-    requires slots { AreSlotsOf (listed_in desks.now) (ids_of (listed_in desks.now)) legs.now }
+    requires slots { AreSlotsOf (listed_in desks.now) (ids_of (listed_in desks.now)) spreads.now }
     ensures { OnOk result (out.new.items ≡ out.old.items ++ flat_map (audit_text packet message (map (desk_standing packet) desks.now)) (map (desk_standing packet) desks.now)) }
 {
-    for n in 0..desks.len() {
-        put_audit_at(
-            out,
-            packet,
-            message,
-            desks,
-            marked,
-            &desks[n],
-            marked.is_set(n),
-            legs[n],
-        )?;
+    for spread in spreads {
+        put_audit_at(out, packet, message, desks, marked, spread)?;
     }
     Ok(())
 }

@@ -11,8 +11,8 @@ ghost use Rattle.mdp_engine.specs.Slots.{marks_of};
 
 use crate::audits::put_audits;
 use crate::desk::Desk;
-use crate::legs::{Legs, legs_of_all};
 use crate::marked::Marked;
+use crate::spreads::{Spread, spreads_of};
 use mdp_arbiter::Slots;
 use mdp_books::Place;
 use mdp_print::put_jump;
@@ -25,7 +25,7 @@ use std::marker::Model;
 pub struct Desks<A: Allocator> {
     slots: Slots<A>,
     desks: Vec<Desk, A>,
-    legs: Vec<Option<Legs>, A>,
+    spreads: Vec<Spread, A>,
     marked: Marked<A>,
 }
 
@@ -38,7 +38,7 @@ impl<A: Allocator> Model for Desks<A> {
 
     ghost view = { λ d. d.desks.items };
 
-    ghost invariant = { λ d. AreBeside d.desks.items d.slots d.legs.items d.marked };
+    ghost invariant = { λ d. AreBeside d.desks.items d.slots d.spreads.items d.marked };
 }
 
 // The place of the security that an entry names, if it is listed.
@@ -128,7 +128,7 @@ impl<A: Allocator + Copy> Desks<A> {
         ensures { IfOk result (λ d. d ≡ map desk_at_start instruments.now) }
     {
         let slots = Slots::of(alloc, instruments)?;
-        let legs = legs_of_all(alloc, &slots, instruments)?;
+        let spreads = spreads_of(alloc, &slots, instruments)?;
         let mut desks = Vec::with_capacity(alloc, instruments.len())?;
         for instrument in instruments {
             desks.push(Desk::new(instrument.copy()))?;
@@ -137,7 +137,7 @@ impl<A: Allocator + Copy> Desks<A> {
         Ok(Desks {
             slots,
             desks,
-            legs,
+            spreads,
             marked,
         })
     }
@@ -178,7 +178,14 @@ impl<A: Allocator + Copy> Desks<A> {
     fn put_spreads(&self, out: &mut Vec<u8, A>, packet: u32, message: u64) -> Result<(), Memory>
         ensures { OnOk result (out.new.items ≡ out.old.items ++ flat_map (audit_text packet message (map (desk_standing packet) self.now)) (map (desk_standing packet) self.now)) }
     {
-        put_audits(out, packet, message, &self.desks, &self.marked, &self.legs)
+        put_audits(
+            out,
+            packet,
+            message,
+            &self.desks,
+            &self.marked,
+            &self.spreads,
+        )
     }
 
     // Appends the lines that an event end owes.

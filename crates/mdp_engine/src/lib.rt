@@ -7,9 +7,9 @@ mod desks;
 mod engine;
 mod event;
 mod laws;
-mod legs;
 mod lines;
 mod marked;
+mod spreads;
 #[cfg(test)]
 mod tests;
 

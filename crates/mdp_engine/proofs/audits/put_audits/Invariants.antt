@@ -1,11 +1,10 @@
-use Rattle.std.proofs.Common.{◌≡◌, ◌++◌, drop, map}
+use Rattle.std.proofs.Common.{◌≡◌, ◌++◌, drop}
 use Rattle.std.specs.List.{flat_map}
-use Rattle.mdp_engine.specs.Lines.{audit_text}
-use Rattle.mdp_engine.specs.Desks.{desk_standing}
+use Rattle.mdp_engine.specs.Desks.{spread_line}
 use Rattle.mdp_engine.proofs.audits.put_audits.Given as goal
 
--- the text with the lines that are left is the whole
-abbrev pub invariant-loop-n : goal.invariant-loop-n
-invariant-loop-n g l =
-    l.out.items ++ flat_map (audit_text l.packet l.message (map (desk_standing l.packet) l.desks)) (map (desk_standing l.packet) (drop l.n l.desks))
-    ≡ l.initial.out.items ++ flat_map (audit_text l.packet l.message (map (desk_standing l.packet) l.desks)) (map (desk_standing l.packet) l.desks)
+-- the text with the lines of the spreads that are left is the whole
+abbrev pub invariant-loop-spread : goal.invariant-loop-spread
+invariant-loop-spread g l =
+    l.out.items ++ flat_map (spread_line l.packet l.message l.desks) (drop l.spread-index l.spreads)
+    ≡ l.initial.out.items ++ flat_map (spread_line l.packet l.message l.desks) l.spreads

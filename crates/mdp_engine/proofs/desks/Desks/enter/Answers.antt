@@ -19,7 +19,7 @@ invariant_of-self g c =
     let less : slot < length inside.desks.items = omega (arith, under, long) in
     let same = ap (λ (d : Desk). d.marked) (c.index.ensures ∙ get_or-set_same inside.desks.items slot c.enter.new.self c.index.result.now less) in
     record {
-      slots = rw c.enter.ensures (same_slots inside.desks.items _ inside.slots inside.legs.items c.self.invariant.slots listed);
+      slots = rw c.enter.ensures (same_slots inside.desks.items _ inside.slots inside.spreads.items c.self.invariant.slots listed);
       marks_are = marks_put inside.desks.items _ _ slot c.enter.new.self _ c.self.invariant.marks_are c.put.ensures same;
     }
 

@@ -12,6 +12,6 @@ invariant_of-result g c =
     let all : take c.loop-instrument.instrument-index listed ≡ listed = take_all c.loop-instrument.instrument-index listed (omega arith) in
     let desks : c.loop-instrument.desks.items ≡ map desk_at_start listed = c.loop-instrument.invariant.desks ∙ ap (map desk_at_start) all in
     record {
-      slots = slots_start listed c.loop-instrument.desks.items c.in_ok-slots.slots c.in_ok-legs.legs.items c.requires.ids_differ desks c.in_ok-slots.ensures c.in_ok-legs.ensures;
+      slots = slots_start listed c.loop-instrument.desks.items c.in_ok-slots.slots c.in_ok-spreads.spreads.items c.requires.ids_differ desks c.in_ok-slots.ensures c.in_ok-spreads.ensures;
       marks_are = c.in_ok-marked.ensures ∙ marks_at_start listed ∙ ap marks_of (sym desks);
     }

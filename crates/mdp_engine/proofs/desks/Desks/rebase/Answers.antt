@@ -15,5 +15,5 @@ invariant_of-self g c =
     let is : after ≡ rebased_desks bases inside.desks.items = c.rebase_all.ensures.desks ∙ ap (rebased_desks bases) c.deref_mut.ensures.value in
     let long : length after ≡ inside.desks.len = ap length c.rebase_all.ensures.desks ∙ length_rebased bases _ ∙ c.deref_mut.ensures.len in
     let kept = take_at after (drop (length after) inside.desks.items) inside.desks.len long in
-    let same = same_slots inside.desks.items after inside.slots inside.legs.items c.self.invariant.slots (ap listed_in is ∙ listed_rebased bases inside.desks.items) in
-    subst (λ (ds : List Desk). AreBeside ds inside.slots inside.legs.items c.rebase_all.new.marked) (sym kept) (record { slots = same; marks_are = c.rebase_all.ensures.marks })
+    let same = same_slots inside.desks.items after inside.slots inside.spreads.items c.self.invariant.slots (ap listed_in is ∙ listed_rebased bases inside.desks.items) in
+    subst (λ (ds : List Desk). AreBeside ds inside.slots inside.spreads.items c.rebase_all.new.marked) (sym kept) (record { slots = same; marks_are = c.rebase_all.ensures.marks })

@@ -13,5 +13,5 @@ invariant_of-self g c =
     let is : after ≡ map (desk_settled c.args.packet) inside.desks.items = c.settle_all.ensures.desks ∙ ap (map (desk_settled c.args.packet)) c.deref_mut.ensures.value in
     let long : length after ≡ inside.desks.len = ap length c.settle_all.ensures.desks ∙ simp length-map c.deref_mut.ensures.len in
     let kept = take_at after (drop (length after) inside.desks.items) inside.desks.len long in
-    let same = same_slots inside.desks.items after inside.slots inside.legs.items c.self.invariant.slots (ap listed_in is ∙ listed_settled c.args.packet inside.desks.items) in
-    subst (λ (ds : List Desk). AreBeside ds inside.slots inside.legs.items c.settle_all.new.marked) (sym kept) (record { slots = same; marks_are = c.settle_all.ensures.marks })
+    let same = same_slots inside.desks.items after inside.slots inside.spreads.items c.self.invariant.slots (ap listed_in is ∙ listed_settled c.args.packet inside.desks.items) in
+    subst (λ (ds : List Desk). AreBeside ds inside.slots inside.spreads.items c.settle_all.new.marked) (sym kept) (record { slots = same; marks_are = c.settle_all.ensures.marks })

@@ -1,6 +1,6 @@
 use Rattle.std.proofs.lemmas.Int.{to_z-of_z}
 use Rattle.mdp_engine.proofs.Auditing.{slot_of_is}
-use Rattle.mdp_engine.proofs.legs.place_of.Goals as goal
+use Rattle.mdp_engine.proofs.spreads.place_of.Goals as goal
 
 pub returns : goal.returns
 returns g c =
