@@ -1,15 +1,15 @@
 -- What a ring of places holds at each number.
-use Rattle.std.proofs.Common.{◌≡◌, ℕ, suc, cond, List, [], ◌∷◌, ◌++◌, length, get_or, drop, replicate, refl, sym, ap, ◌∙◌, subst, Bool, true, false, ltb, eqb, ◌<◌, ◌≤◌, ◌+◌, ◌-◌, ◌≢◌, ◌⊎◌, min, max, arith, inl, inr, length-append, length-drop, drop-drop, append_assoc}
+use Rattle.std.proofs.Common.{◌≡◌, ℕ, suc, cond, List, [], ◌∷◌, ◌++◌, length, get_or, drop, replicate, refl, sym, ap, ◌∙◌, Bool, true, false, ltb, eqb, ◌<◌, ◌≤◌, ◌+◌, ◌-◌, ◌≢◌, ◌⊎◌, min, max, arith, inl, inr, length-append, length-drop}
 use Rattle.std.proofs.lemmas.Grind.{common_steps, get_or_tail, get_or-set_at}
 use Rattle.std.proofs.lemmas.Bool.{le-ltb, false≢true}
-use Rattle.std.proofs.lemmas.List.{drop-append-le, append-nil, length-replicate, replicate_more, get_or-drop, get_or_past, get_or-replicate, get_or_append_left, get_or-append_right, get_or-set_same, get_or-set_other}
-use Rattle.std.proofs.lemmas.Bool.Decides.{eqb_tells, leb_tells}
+use Rattle.std.proofs.lemmas.List.{length-replicate, get_or-drop, get_or_past, get_or-replicate, get_or_append_left, get_or-append_right, get_or-set_other}
+use Rattle.std.proofs.lemmas.Bool.Decides.{leb_tells}
 use Rattle.std.proofs.lemmas.Option.{unwrap_or-slice_get}
 use Rattle.std.specs.Prelude.{Option, Some, None, IsSome, IsTrue, is_some, unwrap_or, slice_set, slice_get, ◌↔◌}
 use Rattle.std.specs.Option.{option_flatten}
 use Rattle.std.specs.Ordering.{nat_cmp, is_eq}
 use Rattle.std.specs.Cmp.{nat_cmp_total}
-use Rattle.std.specs.FinMap.{FinMap, get, empty, insert, get-empty, get-insert, same_map, nat_cmp-IsAntisymmetric}
+use Rattle.std.specs.FinMap.{FinMap, get, empty, get-empty, get-insert, same_map, nat_cmp-IsAntisymmetric}
 use Rattle.circular_buffer.specs.Buffer.{keep_last}
 use Rattle.mdp_window.specs.Ring.{held_from}
 use Rattle.mdp_window.specs.Window.{View, IsInRange, HoldsFrom, HoldsAlso, Puts, Takes, DropsBelow}
@@ -17,24 +17,6 @@ use Rattle.mdp_window.specs.declared.window.Put.TheVariants.{Kept}
 use Rattle.mdp_window.proofs.Lookups.{is_eq-nat_cmp, range_also}
 
 module _ {X : Type 0} where
-  -- what is kept of what was kept, and then of more
-  pub keep_last-append : (n : ℕ) (xs ys : List X) → keep_last n (keep_last n xs ++ ys) ≡ keep_last n (xs ++ ys)
-  keep_last-append n xs ys =
-      let m = length xs - n in
-      let start : drop m xs ++ ys ≡ drop m (xs ++ ys) = sym (drop-append-le m xs ys (omega arith)) in
-      let at : m + (length (drop m (xs ++ ys)) - n) ≡ length (xs ++ ys) - n = omega (arith, length-append xs ys, length-drop m (xs ++ ys)) in
-      ap (keep_last n) start ∙ drop-drop (length (drop m (xs ++ ys)) - n) m (xs ++ ys) ∙ ap (λ k. drop k (xs ++ ys)) at
-
-  -- a ring that is not over-full is kept whole
-  pub keep_last-all : (n : ℕ) (xs : List X) → length xs ≤ n → xs ≡ keep_last n (xs ++ [])
-  keep_last-all n xs fits = let none : 0 ≡ length xs - n = omega arith in
-      ap (λ k. drop k xs) none ∙ ap (keep_last n) (sym (append-nil xs))
-
-  -- one more is put behind those that were
-  pub keep_last-more : (n count : ℕ) (xs : List X) (x : X) → keep_last n (keep_last n (xs ++ replicate count x) ++ x ∷ []) ≡ keep_last n (xs ++ replicate (count + 1) x)
-  keep_last-more n count xs x = keep_last-append n (xs ++ replicate count x) (x ∷ [])
-      ∙ ap (keep_last n) (append_assoc xs (replicate count x) (x ∷ []) ∙ ap (λ l. xs ++ l) (replicate_more count x))
-
   pub length-kept : (n count : ℕ) (xs : List X) (x : X) → length xs ≡ n → length (keep_last n (xs ++ replicate count x)) ≡ n
   length-kept n count xs x full = omega (arith, length-append xs (replicate count x), length-replicate count x, length-drop (length (xs ++ replicate count x) - n) (xs ++ replicate count x))
 
@@ -136,8 +118,8 @@ module _ {T : Type 0} where
       → HoldsAlso first number item (held_from first places) (held_from first (slice_set places index (Some item)))
   holds_filled first number index item places at from within k =
       case_filled k first number item _ _ _ _ (get-held_from first _ k) (get-held_from first places k)
-        (λ is. get_or-set_at places index (k - first) (Some item) None (omega (arith, at, is)) within)
-        (λ other above. get_or-set_other places index (k - first) (Some item) None (λ is. other (omega (arith, at, is, above, from)))) from
+      (λ is. get_or-set_at places index (k - first) (Some item) None (omega (arith, at, is)) within)
+      (λ other above. get_or-set_other places index (k - first) (Some item) None (λ is. other (omega (arith, at, is, above, from)))) from
 
   -- empty places hold nothing
   pub held_none : (first n : ℕ) → held_from first (keep_last n ([] ++ replicate n None)) ≡ empty {K = ℕ} {X = T} {R = nat_cmp}
@@ -205,8 +187,7 @@ module _ {T : Type 0} where
       let e : first ≡ max old.first up = ap (λ v. v.first) is ∙ drops.0 in
       let same : room ≡ old.room = ap (λ v. v.room) is ∙ drops.1 in
       let least = range.room_least in
-      let moved : HoldsFrom first old.held (held_from first places) = rw (← is) at drops.2 in
-      (
+      let moved : HoldsFrom first old.held (held_from first places) = rw (← is) at drops.2 in (
         from,
         none,
         omega (arith, e, is_up),

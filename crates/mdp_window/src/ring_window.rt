@@ -35,8 +35,8 @@ impl<T: Drop, A: Allocator> Model for RingWindow<T, A> {
     } };
 
     ghost invariant = { λ w.
-      (length w.places.items ≡ w.places.capacity)
-      × IsInRange (record { first = w.first; room = w.places.capacity; held = held_from w.first w.places.items }) };
+        (length w.places.items ≡ w.places.capacity)
+        × IsInRange (record { first = w.first; room = w.places.capacity; held = held_from w.first w.places.items }) };
 }
 
 /// Puts this many empty places behind the others. Each takes the place of the first one, where the ring is full.

@@ -1,4 +1,4 @@
-use Rattle.std.proofs.Common.{ap, arith, refl, Some, None, sym, ◌∙◌}
+use Rattle.std.proofs.Common.{ap, refl, Some, None, sym, ◌∙◌}
 use Rattle.std.specs.Option.{option_copied}
 use Rattle.mdp_window.proofs.Places.{tells_held}
 use Rattle.mdp_window.proofs.ring_window.RingWindow.is_held.Goals as goal

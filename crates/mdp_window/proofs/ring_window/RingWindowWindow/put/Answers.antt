@@ -15,7 +15,7 @@ invariant_of-self g c =
     let from : old.first ≤ number = rw (← c.self.view_is) c.if-number-self.false in
     let none = none_held c.is_held.result (get old.held number) c.is_held.ensures c.if-is_held.false in
     let kept = puts_kept number c.saturating_sub.result ring.first ring.places.capacity c.args.item ring.places.items old c.drop_below.new.self range from none
-        (omega (arith, c.saturating_sub.ensures, c.capacity.ensures.room)) c.drop_below.ensures c.self-2.view_is c.self-2.invariant.0 in
+    (omega (arith, c.saturating_sub.ensures, c.capacity.ensures.room)) c.drop_below.ensures c.self-2.view_is c.self-2.invariant.0 in
     rw c.fill_place.ensures (
       length-set ring.places.items (number - ring.first) (Some c.args.item) ∙ c.self-2.invariant.0,
       range_kept number c.args.item old (ring_view ring.first ring.places.capacity places) range (omega arith) kept,
@@ -30,6 +30,6 @@ returns g c =
     let from : old.first ≤ number = rw (← c.self.view_is) c.if-number-self.false in
     let none = none_held c.is_held.result (get old.held number) c.is_held.ensures c.if-is_held.false in
     rw (← c.number.ensures, ← c.from-number.ensures, c.fill_place.ensures) (
-      puts_kept number c.saturating_sub.result ring.first ring.places.capacity c.args.item ring.places.items old c.drop_below.new.self range from none
-        (omega (arith, c.saturating_sub.ensures, c.capacity.ensures.room)) c.drop_below.ensures c.self-2.view_is c.self-2.invariant.0
+    puts_kept number c.saturating_sub.result ring.first ring.places.capacity c.args.item ring.places.items old c.drop_below.new.self range from none
+    (omega (arith, c.saturating_sub.ensures, c.capacity.ensures.room)) c.drop_below.ensures c.self-2.view_is c.self-2.invariant.0
     )
