@@ -20,7 +20,7 @@ get-tree es q = rw (get-from_entries nat_cmp_total es q, find-lookup es q) refl
 
 pub ruleset lookups = (get-tree, get-empty)
 
-is_eq-nat_cmp : (a b : ℕ) → is_eq (nat_cmp a b) ≡ eqb a b
+pub is_eq-nat_cmp : (a b : ℕ) → is_eq (nat_cmp a b) ≡ eqb a b
 is_eq-nat_cmp a b = elim (eqb_tells a b) [
   | inl p ↦ rw (le-ltb a b (omega (arith, p.1)), p.0) refl
   | inr p ↦ elim (leb_tells (suc a) b) [ inl q ↦ rw (q.0, p.0) refl | inr q ↦ rw (q.0, p.0) refl ]

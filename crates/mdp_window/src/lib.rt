@@ -2,9 +2,11 @@
 #![tactic(auto, using(crate::proofs::Lookups::lookups))]
 
 mod map_window;
+mod ring_window;
 #[cfg(test)]
 mod tests;
 mod window;
 
 pub use map_window::MapWindow;
+pub use ring_window::RingWindow;
 pub use window::{Numbered, Put, Window};

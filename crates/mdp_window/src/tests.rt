@@ -1,9 +1,9 @@
 //! One table of calls, over every window of this crate, and each allocation refused in turn.
 
-use crate::{MapWindow, Put, Window};
-use mdp_templates::Packet;
+use crate::{MapWindow, Put, RingWindow, Window};
+use mdp_templates::{Memory, Packet};
 use refusing::Refusing;
-use std::alloc::Global;
+use std::alloc::{Allocator, Global};
 use std::process::Abort;
 
 #[derive(Clone, Copy)]
@@ -124,14 +124,33 @@ fn look<W: Window<Packet<Global>>>(
     assert_eq!(rt; answer_to(alloc, window, Call::TakeFirst), Answer::Nothing);
 }
 
+/// Makes the first calls of the table on a new window, and sees what it then holds.
+fn follow_and_look<W: Window<Packet<Global>>>(
+    rt: &impl Abort,
+    alloc: Global,
+    window: &mut W,
+    calls: usize,
+) {
+    assert_eq!(rt; window.capacity(), 2);
+    let (first, held) = follow(rt, alloc, window, calls);
+    look(rt, alloc, window, first, held);
+}
+
 #[test]
 fn a_map_window_follows_the_table(rt: HostRuntime) {
     for calls in 0..=TABLE.len() {
         let mut window = MapWindow::new(rt.alloc(), 2);
-        assert_eq!(rt; window.capacity(), 2);
-        let (first, held) = follow(&rt, rt.alloc(), &mut window, calls);
-        look(&rt, rt.alloc(), &mut window, first, held);
+        follow_and_look(&rt, rt.alloc(), &mut window, calls);
     }
+}
+
+#[test]
+fn a_ring_window_follows_the_table(rt: HostRuntime) -> Result<(), Memory> {
+    for calls in 0..=TABLE.len() {
+        let mut window = RingWindow::new(rt.alloc(), 2)?;
+        follow_and_look(&rt, rt.alloc(), &mut window, calls);
+    }
+    Ok(())
 }
 
 const ROOM: u64 = 32;
@@ -222,4 +241,29 @@ fn a_packet_that_came_back_for_want_of_memory_is_kept_once_there_is_some(rt: Hos
         );
         holds_all_before(&rt, alloc, &mut window, number.saturating_add(1));
     }
+}
+
+/// Whether a ring can be made with this allocator.
+fn is_made<A: Allocator + Copy>(alloc: A) -> bool {
+    let made: Result<RingWindow<Packet<Global>, A>, Memory> = RingWindow::new(alloc, ROOM);
+    made.is_ok()
+}
+
+#[test]
+fn a_ring_window_is_not_made_without_memory(rt: HostRuntime) {
+    let heap = Refusing::new(rt.alloc(), 1);
+    assert!(rt; !is_made(&heap));
+    assert!(rt; heap.has_refused());
+    assert!(rt; is_made(&heap));
+}
+
+#[test]
+fn a_ring_window_takes_no_memory_once_it_is_made(rt: HostRuntime) -> Result<(), Memory> {
+    let alloc = rt.alloc();
+    let heap = Refusing::new(alloc, 2);
+    let mut window = RingWindow::new(&heap, ROOM)?;
+    assert_eq!(rt; fill_until_refused(&rt, alloc, &mut window), None);
+    holds_all_before(&rt, alloc, &mut window, 101);
+    assert!(rt; !heap.has_refused());
+    Ok(())
 }

@@ -1,0 +1,134 @@
+//! A window over a ring of places.
+
+ghost use Rattle.std.specs.Prelude.{◌≡◌, ◌≤◌, ◌<◌, ◌↔◌, ◌++◌, None, Some, false, length, replicate, slice_set, IfOk, IsTrue, IsSome};
+ghost use Rattle.std.specs.FinMap as map;
+ghost use Rattle.circular_buffer.specs.Buffer.{buffer, keep_last};
+ghost use Rattle.mdp_window.specs.Window.{View};
+
+use crate::window::{Numbered, Put, Window};
+use circular_buffer::HeapCircularBuffer;
+use mdp_templates::Memory;
+use std::alloc::Allocator;
+use std::marker::Model;
+
+/// A window that takes all of its memory when it is made. It has a place for each number that it covers, from the
+/// first on, and a place is empty or holds an item.
+#[derive(Drop)]
+pub struct RingWindow<T: Drop, A: Allocator> {
+    first: u64,
+    places: HeapCircularBuffer<Option<T>, A>,
+}
+
+impl<T: Drop, A: Allocator> Model for RingWindow<T, A> {
+    ghost use Rattle.std.specs.Prelude.{◌≡◌, length};
+    ghost use Rattle.mdp_window.specs.Window.{View, IsInRange, view_code};
+    ghost use Rattle.mdp_window.specs.Ring.{held_from};
+
+    ghost Value = { View T };
+
+    ghost coded = { view_code T.code };
+
+    ghost view = { λ w. record {
+      first = w.first;
+      room = w.places.capacity;
+      held = held_from w.first w.places.items;
+    } };
+
+    ghost invariant = { λ w.
+        (length w.places.items ≡ w.places.capacity)
+        × IsInRange (record { first = w.first; room = w.places.capacity; held = held_from w.first w.places.items }) };
+}
+
+/// Puts this many empty places behind the others. Each takes the place of the first one, where the ring is full.
+fn push_empty<T: Drop, A: Allocator>(places: &mut HeapCircularBuffer<Option<T>, A>, count: usize)
+    requires { length places.old.items ≤ places.old.capacity }
+    ensures { places.new ≡ buffer (keep_last places.old.capacity (places.old.items ++ replicate count None)) places.old.capacity }
+{
+    for _ in 0..count {
+        places.push_back(None);
+    }
+}
+
+/// Fills a place with an item, whatever it held.
+fn fill_place<T: Drop, A: Allocator>(
+    places: &mut HeapCircularBuffer<Option<T>, A>,
+    index: usize,
+    item: T,
+)
+    requires { index < length places.old.items }
+    ensures { places.new ≡ buffer (slice_set places.old.items index (Some item)) places.old.capacity }
+{
+    if let Some(place) = places.get_mut(index) {
+        *place = Some(item);
+    }
+}
+
+impl<T: Drop, A: Allocator + Copy> RingWindow<T, A> {
+    /// A window of this room, of 1 to 65536, that begins at 1 and holds nothing. Only this takes memory.
+    pub fn new(alloc: A, capacity: u64) -> Result<RingWindow<T, A>, Memory>
+        requires least { 1 ≤ capacity }
+        requires most { capacity ≤ 65536 }
+        ensures { IfOk result (λ w. w ≡ record { first = 1; room = capacity; held = map.empty }) }
+    {
+        let room = capacity as usize;
+        let mut places = HeapCircularBuffer::with_capacity(alloc, room)?;
+        push_empty(&mut places, room);
+        Ok(RingWindow { first: 1, places })
+    }
+
+    /// Whether an item is held under this number.
+    fn is_held(&self, number: u64) -> bool
+        ensures { IsTrue result ↔ IsSome (map.get self.now.held number) }
+    {
+        if number < self.first {
+            return false;
+        }
+        match self.places.get((number - self.first) as usize) {
+            Some(place) => place.is_some(),
+            None => false,
+        }
+    }
+}
+
+impl<T: Numbered + Drop, A: Allocator + Copy> Window<T> for RingWindow<T, A> {
+    const ALLOCATES: bool = false;
+
+    ghost ALLOCATES = { false };
+
+    ghost view = { λ w. w };
+
+    fn capacity(&self) -> u64 {
+        self.places.capacity() as u64
+    }
+
+    fn put(&mut self, item: T) -> Put<T> {
+        let number = u64::from(item.number());
+        if number < self.first {
+            return Put::Back(item);
+        }
+        if self.is_held(number) {
+            return Put::Back(item);
+        }
+        self.drop_below((number + 1).saturating_sub(self.capacity()));
+        let index = (number - self.first) as usize;
+        fill_place(&mut self.places, index, item);
+        Put::Kept
+    }
+
+    fn take_first(&mut self) -> Option<T> {
+        if !self.is_held(self.first) {
+            return None;
+        }
+        self.first += 1;
+        self.places.push_back(None).flatten()
+    }
+
+    fn drop_below(&mut self, number: u64) {
+        if self.first < number {
+            let room = self.places.capacity() as u64;
+            let steps = (number - self.first).min(room);
+            push_empty(&mut self.places, steps as usize);
+            self.first = number;
+        }
+    }
+}
