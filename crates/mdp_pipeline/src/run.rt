@@ -14,13 +14,13 @@ use mdp_capture::Record;
 use mdp_engine::{Engine, Event};
 use mdp_print::Feed;
 use mdp_templates::{Fault, Instrument, Memory, Packet, Snapshot, read_packet, read_snapshots};
-use mdp_window::MapWindow;
+use mdp_window::RingWindow;
 use std::alloc::Allocator;
 
 /// The engine and the texts of a run.
 #[derive(Drop)]
 pub struct Run<A: Allocator + Copy> {
-    pub engine: Engine<A, MapWindow<Packet<A>, A>>,
+    pub engine: Engine<A, RingWindow<Packet<A>, A>>,
     /// What is printed at event ends and jumps, as far as it was not handed on.
     pub text: Vec<u8, A>,
     pub refusals: Refusals<A>,
@@ -35,7 +35,7 @@ impl<A: Allocator + Copy> Run<A> {
         ensures run { IfOk result (λ r. HasRun instruments.now window [] r.engine [] r.refusals) }
         ensures empty { IfOk result (λ r. r.text.items ≡ []) }
     {
-        let window = MapWindow::new(alloc, u64::from(window));
+        let window = RingWindow::new(alloc, u64::from(window))?;
         Ok(Run {
             engine: Engine::new(alloc, instruments, window)?,
             text: Vec::new(alloc),
