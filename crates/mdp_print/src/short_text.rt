@@ -96,7 +96,9 @@ impl<const MOST: usize> TextFromEnd<MOST> {
         ensures size { length self.new ≤ 4 + length self.old }
     {
         let one = write_digits(10_000 + number, &mut self.bytes, self.start);
-        let zeros = usize::from(number < 1_000) + usize::from(number < 100) + usize::from(number < 10);
+        let zeros = usize::from(number < 1_000)
+            + usize::from(number < 100)
+            + usize::from(number < 10);
         self.start = one + 1 + zeros;
     }
 
