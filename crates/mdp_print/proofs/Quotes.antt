@@ -1,10 +1,15 @@
 -- The texts of quotes, one after another.
-use Rattle.std.proofs.Common.{◌≡◌, ℕ, ℤ, ◌+◌, ◌<◌, List, [], ◌∷◌, ◌++◌, length, take, get_or, sym, ap, ◌∙◌, append-nil, append_assoc, length-append, arith}
-use Rattle.std.proofs.lemmas.List.{take_more}
-use Rattle.std.proofs.lemmas.List.Folds.{length-flat_map-take}
+use Rattle.std.proofs.Common.{◌≡◌, ℕ, ℤ, ◌+◌, ◌≤◌, List, [], ◌∷◌, ◌++◌, length, sym, ap, ◌∙◌, append-nil, append_assoc, length-append, length-take, arith}
+use Rattle.std.proofs.lemmas.List.{take-append-le}
 use Rattle.std.proofs.lemmas.Grind.{flat_map-append}
 use Rattle.mdp_print.specs.Texts.{quote_text}
-use Rattle.mdp_print.specs.Pieces.{quotes_text}
+use Rattle.mdp_print.specs.Pieces.{BeginsWith, quotes_text}
+
+-- what stands at the front stays there
+pub begins_more : (before now more : List ℕ) → BeginsWith now before → BeginsWith (now ++ more) before
+begins_more before now more front =
+    let within : length before ≤ length now = omega (arith, ap length front, length-take (length before) now) in
+    take-append-le (length before) now more within ∙ front
 
 module _ {Q : Type 0} (price size : Q → ℤ) where
   abbrev texts : List Q → List ℕ
@@ -13,19 +18,17 @@ module _ {Q : Type 0} (price size : Q → ℤ) where
   abbrev text : Q → List ℕ
   text x = quote_text (price x) (size x)
 
-  -- one quote more
-  pub texts_more : (xs : List Q) (i : ℕ) (x : Q) → i < length xs → x ≡ get_or xs i x → texts (take (i + 1) xs) ≡ texts (take i xs) ++ text x
-  texts_more xs i x h is =
-      ap texts (take_more xs i x h) ∙ flat_map-append text (take i xs) (get_or xs i x ∷ []) ∙ ap (λ ys. texts (take i xs) ++ ys) (append-nil (text (get_or xs i x)) ∙ ap text (sym is))
+  -- from the last quote to the first: all is the text of the quotes that are left, and what was put together
+  pub one_back : (left next : List Q) (x : Q) (old new all : List ℕ) → left ≡ next ++ x ∷ [] → new ≡ text x ++ old → texts left ++ old ≡ all → texts next ++ new ≡ all
+  one_back left next x old new all cut more so_far =
+      let last = ap texts cut ∙ flat_map-append text next (x ∷ []) ∙ ap (λ ys. texts next ++ ys) (append-nil (text x)) in
+      ap (λ ys. texts next ++ ys) more ∙ sym (append_assoc (texts next) (text x) old) ∙ ap (λ ys. ys ++ old) (sym last) ∙ so_far
 
-  pub appends_more : (before now after : List ℕ) (xs : List Q) (i : ℕ) (x : Q) → i < length xs → x ≡ get_or xs i x → now ≡ before ++ texts (take i xs) → after ≡ now ++ text x → after ≡ before ++ texts (take (i + 1) xs)
-  appends_more before now after xs i x h is so_far more = rw (more, so_far, texts_more xs i x h is) (append_assoc before (texts (take i xs)) (text x))
+  -- from the first quotes on: all is what stands there, and the text of the quotes that are left
+  pub some_on : (left few next : List Q) (old new all : List ℕ) → left ≡ few ++ next → new ≡ old ++ texts few → old ++ texts left ≡ all → new ++ texts next ≡ all
+  some_on left few next old new all cut more so_far =
+      ap (λ ys. ys ++ texts next) more ∙ append_assoc old (texts few) (texts next) ∙ ap (λ ys. old ++ ys) (sym (flat_map-append text few next) ∙ ap texts (sym cut)) ∙ so_far
 
-  pub length_more : (before now after : ℕ) (xs : List Q) (i : ℕ) (x : Q) → i < length xs → x ≡ get_or xs i x → now ≡ before + length (texts (take i xs)) → after ≡ now + length (text x) → after ≡ before + length (texts (take (i + 1) xs))
-  length_more before now after xs i x h is so_far more = omega (arith, ap length (texts_more xs i x h is), length-append (texts (take i xs)) (text x))
-
-  -- where a quote finds no room, all of them find none
-  pub full_at : (room before now : ℕ) (xs : List Q) (i : ℕ) (x : Q) → i < length xs → x ≡ get_or xs i x → now ≡ before + length (texts (take i xs)) → room < now + length (text x) → room < before + length (texts xs)
-  full_at room before now xs i x h is so_far full =
-      let whole = length-flat_map-take text xs i x h in
-      omega (arith, whole, ap (λ y. length (text y)) is)
+  -- the length of the text of the quotes that are left is that of the next quotes and of the others
+  pub length_on : (left few next : List Q) → left ≡ few ++ next → length (texts left) ≡ length (texts few) + length (texts next)
+  length_on left few next cut = ap (λ xs. length (texts xs)) cut ∙ ap length (flat_map-append text few next) ∙ length-append (texts few) (texts next)

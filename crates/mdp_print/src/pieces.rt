@@ -3,7 +3,7 @@
 ghost use Rattle.std.specs.Prelude.{◌≡◌, ◌+◌, ◌<◌, ◌≤◌, ◌++◌, ℤ, take, length, vec_len, vec_capacity, OnOk, OnErr};
 ghost use Rattle.mdp_print.specs.Pieces.{BeginsWith, head_text, quotes_text};
 
-use crate::short_text::ShortText;
+use crate::short_text::{ShortText, TextFromEnd};
 use mdp_quotes::Total;
 use mdp_templates::{Level, Memory};
 use std::alloc::Allocator;
@@ -91,6 +91,29 @@ pub(crate) fn put_event<A: Allocator>(
     put(out, name)
 }
 
+// The most levels that are put together at a time: those of one side of a book.
+const TOGETHER: usize = 10;
+
+// A text of so many levels, of 44 bytes at most each.
+type QuotesText = TextFromEnd<440>;
+
+/// Appends at most ten levels, put together from the last.
+#[inline]
+fn put_few<Q: Quote, A: Allocator>(out: &mut Vec<u8, A>, quotes: &[Q]) -> Result<(), Memory>
+    requires { length quotes.now ≤ 10 }
+    ensures ok { OnOk result (out.new.items ≡ out.old.items ++ quotes_text Q.price Q.size quotes.now) }
+    ensures err { OnErr result (out.new.items ≡ out.old.items) }
+    ensures len { OnOk result (vec_len out.new ≡ vec_len out.old + length (quotes_text Q.price Q.size quotes.now)) }
+    ensures room { vec_capacity out.old ≤ vec_capacity out.new }
+    ensures full { OnErr result (vec_capacity out.old < vec_len out.old + length (quotes_text Q.price Q.size quotes.now)) }
+{
+    let mut text = QuotesText::new();
+    for quote in quotes.iter().rev() {
+        text.put_quote(quote.price(), quote.size());
+    }
+    put(out, text.as_slice())
+}
+
 /// Appends the levels of a side.
 fn put_quotes<Q: Quote, A: Allocator>(out: &mut Vec<u8, A>, quotes: &[Q]) -> Result<(), Memory>
     ensures ok { OnOk result (out.new.items ≡ out.old.items ++ quotes_text Q.price Q.size quotes.now) }
@@ -99,10 +122,8 @@ fn put_quotes<Q: Quote, A: Allocator>(out: &mut Vec<u8, A>, quotes: &[Q]) -> Res
     ensures room { vec_capacity out.old ≤ vec_capacity out.new }
     ensures full { OnErr result (vec_capacity out.old < vec_len out.old + length (quotes_text Q.price Q.size quotes.now)) }
 {
-    for quote in quotes {
-        let mut text = ShortText::new();
-        text.put_quote(quote.price(), quote.size());
-        put(out, text.as_slice())?;
+    for few in quotes.chunks(TOGETHER) {
+        put_few(out, few)?;
     }
     Ok(())
 }

@@ -1,40 +1,40 @@
 //! Short texts, put together on the stack.
 
-ghost use Rattle.std.specs.Prelude.{◌≡◌, ◌+◌, ◌≤◌, ◌++◌, ◌∷◌, [], length, decimal};
+ghost use Rattle.std.specs.Prelude.{◌≡◌, ◌+◌, ◌<◌, ◌≤◌, ◌++◌, ◌∷◌, [], length, decimal};
 ghost use Rattle.std.specs.Fmt.{signed_decimal};
 ghost use Rattle.mdp_print.specs.Texts.{quote_text};
 
 use itoa::write_digits;
 use std::marker::Model;
 
-// The most bytes of a short text.
-const MOST: usize = 64;
+/// A text of at most 64 bytes.
+pub type ShortText = TextFromEnd<64>;
 
-/// A text of at most 64 bytes that grows at its front, since digits come from the last to the first. It takes no
+/// A text of at most `MOST` bytes that grows at its front, since digits come from the last to the first. It takes no
 /// memory.
 #[derive(Drop)]
-pub struct ShortText {
+pub struct TextFromEnd<const MOST: usize> {
     bytes: [u8; MOST],
     start: usize,
 }
 
-impl Model for ShortText {
+impl<const MOST: usize> Model for TextFromEnd<MOST> {
     ghost use Rattle.std.specs.Prelude.{◌≤◌, ℕ, List, drop};
 
     ghost Value = { List ℕ };
 
     ghost view = { λ t. drop t.start t.bytes };
 
-    ghost invariant = { λ t. t.start ≤ 64 };
+    ghost invariant = { λ t. t.start ≤ MOST };
 }
 
-impl ShortText {
+impl<const MOST: usize> TextFromEnd<MOST> {
     /// No text yet.
     #[inline]
-    pub fn new() -> ShortText
+    pub fn new() -> TextFromEnd<MOST>
         ensures { result ≡ [] }
     {
-        ShortText {
+        TextFromEnd {
             bytes: [0; MOST],
             start: MOST,
         }
@@ -45,13 +45,14 @@ impl ShortText {
     pub fn as_slice(&self) -> &[u8]
         ensures { result.now ≡ self.now }
     {
-        &self.bytes[self.start..]
+        let all = &self.bytes[..];
+        &all[self.start..]
     }
 
     /// Puts a byte in front.
     #[inline]
     pub fn put_byte(&mut self, byte: u8)
-        requires { 1 + length self.old ≤ 64 }
+        requires { 1 + length self.old ≤ MOST }
         ensures text { self.new ≡ byte ∷ self.old }
         ensures size { length self.new ≡ 1 + length self.old }
     {
@@ -62,29 +63,49 @@ impl ShortText {
     /// Puts bytes in front.
     #[inline]
     pub fn put_bytes(&mut self, bytes: &[u8])
-        requires { length bytes.now + length self.old ≤ 64 }
+        requires { length bytes.now + length self.old ≤ MOST }
         ensures text { self.new ≡ bytes.now ++ self.old }
         ensures size { length self.new ≡ length bytes.now + length self.old }
     {
         let end = self.start;
         self.start -= bytes.len();
-        self.bytes[self.start..end].copy_from_slice(bytes);
+        let all = &mut self.bytes[..];
+        all[self.start..end].copy_from_slice(bytes);
     }
 
     /// Puts a number in front, in decimal.
     #[inline]
     pub fn put_number(&mut self, number: u64)
-        requires { 20 + length self.old ≤ 64 }
+        requires { 20 + length self.old ≤ MOST }
         ensures text { self.new ≡ decimal number ++ self.old }
         ensures size { length self.new ≤ 20 + length self.old }
     {
-        self.start = write_digits(number, &mut self.bytes, self.start);
+        if number < 10_000 {
+            self.put_small(number);
+        } else {
+            self.start = write_digits(number, &mut self.bytes, self.start);
+        }
+    }
+
+    // Puts a number in front as the last digits of 10,000 and the number: in the same steps, however many digits it has.
+    #[inline]
+    fn put_small(&mut self, number: u64)
+        requires below { number < 10_000 }
+        requires room { 5 + length self.old ≤ MOST }
+        ensures text { self.new ≡ decimal number ++ self.old }
+        ensures size { length self.new ≤ 4 + length self.old }
+    {
+        let one = write_digits(10_000 + number, &mut self.bytes, self.start);
+        let zeros = usize::from(number < 1_000)
+            + usize::from(number < 100)
+            + usize::from(number < 10);
+        self.start = one + 1 + zeros;
     }
 
     /// Puts a number in front, in decimal, with `-` where it is negative.
     #[inline]
     pub(crate) fn put_signed(&mut self, number: i64)
-        requires { 21 + length self.old ≤ 64 }
+        requires { 21 + length self.old ≤ MOST }
         ensures text { self.new ≡ signed_decimal number ++ self.old }
         ensures size { length self.new ≤ 21 + length self.old }
     {
@@ -98,8 +119,9 @@ impl ShortText {
     #[inline]
     #[tactic(auto, unfolding(crate::specs::Texts::quote_text))]
     pub(crate) fn put_quote(&mut self, price: i64, size: i64)
-        requires { 44 + length self.old ≤ 64 }
-        ensures { self.new ≡ quote_text price size ++ self.old }
+        requires { 44 + length self.old ≤ MOST }
+        ensures text { self.new ≡ quote_text price size ++ self.old }
+        ensures size { length self.new ≤ 44 + length self.old }
     {
         self.put_signed(size);
         self.put_byte(b'x');
