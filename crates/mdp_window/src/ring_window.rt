@@ -11,8 +11,11 @@ use mdp_templates::Memory;
 use std::alloc::Allocator;
 use std::marker::Model;
 
-/// A window that takes all of its memory when it is made. It has a place for each number that it covers, from the
-/// first on, and a place is empty or holds an item.
+/// A window that takes memory in `new` alone. It has a place for each number that it covers, as many as its room, of 1
+/// to 65536, and a place is empty or holds an item.
+///
+/// To put an item at the first number and to take it out takes constant time, with no search. A call that moves the
+/// window up takes a step for each number that it moves by, and at most as many steps as the room.
 #[derive(Drop)]
 pub struct RingWindow<T: Drop, A: Allocator> {
     first: u64,
@@ -64,7 +67,8 @@ fn fill_place<T: Drop, A: Allocator>(
 }
 
 impl<T: Drop, A: Allocator + Copy> RingWindow<T, A> {
-    /// A window of this room, of 1 to 65536, that begins at 1 and holds nothing. Only this takes memory.
+    /// A window of this room, of 1 to 65536, that begins at 1 and holds nothing. `Memory` where its places were
+    /// refused; no other call takes any.
     pub fn new(alloc: A, capacity: u64) -> Result<RingWindow<T, A>, Memory>
         requires least { 1 ≤ capacity }
         requires most { capacity ≤ 65536 }
