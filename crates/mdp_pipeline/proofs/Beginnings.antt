@@ -20,7 +20,7 @@ use Rattle.mdp_arbiter.specs.Machine.{Move, state_at, trace, go_on, is_lost}
 use Rattle.mdp_arbiter.specs.Slots.{ids_of}
 use Rattle.mdp_arbiter.proofs.Runs.{law_of_fronts}
 use Rattle.mdp_engine.specs.Engine.{View, Stands}
-use Rattle.mdp_engine.specs.Shown.{showed, shown_after, shown_lines}
+use Rattle.mdp_desks.specs.Shown.{showed, shown_after, shown_lines}
 use Rattle.mdp_engine.proofs.Agreeing.{shows_what_is_owed}
 use Rattle.mdp_engine.proofs.Honesty.{honest_moves_agree}
 use Rattle.mdp_pipeline.specs.declared.run.Run.{Run}

@@ -16,8 +16,8 @@ use Rattle.mdp_arbiter.specs.Accepted.{Event, recovered}
 use Rattle.mdp_arbiter.specs.Machine.{state_at, trace, is_lost}
 use Rattle.mdp_arbiter.specs.Slots.{ids_of}
 use Rattle.mdp_engine.specs.Engine.{View, Stands}
-use Rattle.mdp_engine.specs.Lines.{lines}
-use Rattle.mdp_engine.specs.Shown.{steps_of}
+use Rattle.mdp_engine.specs.Owed.{lines}
+use Rattle.mdp_engine.specs.Owed.{steps_of}
 use Rattle.mdp_engine.proofs.Under.{stands_owed}
 use Rattle.mdp_pipeline.specs.declared.run.Run.{Run}
 use Rattle.mdp_pipeline.specs.declared.summary.Summary.{Summary}

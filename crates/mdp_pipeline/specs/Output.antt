@@ -8,8 +8,8 @@ use Rattle.mdp_arbiter.specs.Accepted.{Event}
 use Rattle.mdp_arbiter.specs.Machine.{is_lost, state_at, trace}
 use Rattle.mdp_arbiter.specs.Slots.{ids_of}
 use Rattle.mdp_engine.specs.Honest.{IsHonest}
-use Rattle.mdp_engine.specs.Lines.{lines}
-use Rattle.mdp_engine.specs.Shown.{steps_of}
+use Rattle.mdp_engine.specs.Owed.{lines}
+use Rattle.mdp_engine.specs.Owed.{steps_of}
 use Rattle.mdp_pipeline.specs.Merge.{Arrival}
 use Rattle.mdp_pipeline.specs.Reading.{Reading, AreReadings, events_of, refusal_lines}
 
