@@ -1,5 +1,6 @@
 pub mod Merge
 pub mod Reading
+pub mod Merging
 pub mod Output
 pub mod RefusalTexts
 pub mod Running
