@@ -90,10 +90,10 @@ read_more : {A : Type 0} (listed : List Instrument) (room : ℕ) (readings : Lis
 read_more listed room readings feed entry sent old new takes run =
     let reading = reading_of (record { feed = feed; entry = entry }) takes.said in
     record {
-      stands = subst (λ (es : List Event). Stands listed es (sent ++ new.text.items) new.engine) (sym (events-push readings reading)) (takes.goes.stands listed (events_of readings) sent run.stands);
-      drained = takes.goes.drained run.drained;
-      covers = takes.goes.room ∙ run.covers;
-      refusals_are = takes.refusals ∙ ap (after_said feed entry.line takes.said) run.refusals_are ∙ sym (refusals-push readings feed entry takes.said);
+      stands = subst (λ (es : List Event). Stands listed es (sent ++ new.text.items) new.engine) (sym (events-push readings reading)) (takes.takes.goes.stands listed (events_of readings) sent run.stands);
+      drained = takes.takes.goes.drained run.drained;
+      covers = takes.takes.goes.room ∙ run.covers;
+      refusals_are = takes.takes.refusals ∙ ap (after_said feed entry.line takes.said) run.refusals_are ∙ sym (refusals-push readings feed entry takes.said);
     }
 
 -- ---- what went out

@@ -28,12 +28,16 @@ pub record GoesOn (events : List Event) (engine : View) (text : List ℕ) (engin
   pub drained : engine.held ≡ [] → engine'.held ≡ []
   pub room : engine'.arbiter.room ≡ engine.arbiter.room
 
+-- a run has taken in what a record says
+pub record TakesSaid {A : Type 0} (feed : Feed) (line : ℕ) (said : Said) (old new : Run A) : Type 0 where
+  pub goes : GoesOn (brought_by said) old.engine old.text.items new.engine new.text.items
+  pub refusals : new.refusals ≡ after_said feed line said old.refusals
+
 -- a run has taken in what came on a feed of this kind, as it says
 pub record TakesAs {A : Type 0} (kind : Kind) (feed : Feed) (line : ℕ) (received : Received) (old new : Run A) : Type 0 where
   pub said : Said
   pub says : Says kind received said
-  pub goes : GoesOn (brought_by said) old.engine old.text.items new.engine new.text.items
-  pub refusals : new.refusals ≡ after_said feed line said old.refusals
+  pub takes : TakesSaid feed line said old new
 
 -- the engine stands at the events of these readings after the text so far, and holds no line back
 pub record HasRun (listed : List Instrument) (room : ℕ) (readings : List Reading) (engine : View) (text : List ℕ) (refusals : RefusalTexts) : Type 0 where
