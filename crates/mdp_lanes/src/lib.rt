@@ -16,6 +16,8 @@ mod lane;
 mod retry;
 mod rule;
 mod tag;
+#[cfg(test)]
+mod tests;
 
 pub use ends::Ends;
 pub use intake::{Intake, IntakeReceiver, IntakeSender};
