@@ -80,12 +80,12 @@ impl<I: Ends, A: Allocator + Copy> Model for IntakeSender<I, A> {
     ghost use Rattle.crossbeam_channel.specs.Ends.{sends_on};
     ghost use Rattle.mdp_lanes.specs.Rule.{sender, first_list};
     ghost use Rattle.mdp_lanes.specs.Items.{EndsLast};
-    ghost use Rattle.mdp_lanes.specs.Queues.{IntakeSenderView};
+    ghost use Rattle.mdp_lanes.specs.Queues.{IntakeSenderView, queue_of};
 
     ghost Value = { IntakeSenderView I };
 
     ghost view = { λ s. record {
-      intake = record { table = s.pass.table_id; store = s.pass.me.0.of };
+      intake = queue_of s.pass (sends_on s.channel);
       tag = s.tag;
       sent = first_list (known s.pass).rights;
     } };
@@ -112,12 +112,12 @@ impl<I: Ends, A: Allocator + Copy> Model for IntakeReceiver<I, A> {
     ghost use Rattle.crossbeam_channel.specs.Ends.{receives_on};
     ghost use Rattle.mdp_lanes.specs.Rule.{receiver};
     ghost use Rattle.mdp_lanes.specs.Items.{ends_taken};
-    ghost use Rattle.mdp_lanes.specs.Queues.{IntakeReceiverView};
+    ghost use Rattle.mdp_lanes.specs.Queues.{IntakeReceiverView, queue_of};
 
     ghost Value = { IntakeReceiverView I };
 
     ghost view = { λ r. record {
-      intake = record { table = r.pass.table_id; store = r.pass.me.0.of };
+      intake = queue_of r.pass (receives_on r.channel);
       taken = (known r.pass).taken;
     } };
 
@@ -196,6 +196,7 @@ impl<I: Ends> Intake<I> {
         ensures b { IfOk result (λ ends. IsFreshSenderOf ends.3 Tag.B ends.1) }
         ensures s { IfOk result (λ ends. IsFreshSenderOf ends.3 Tag.S ends.2) }
         ensures receiver { IfOk result (λ ends. ends.3.taken ≡ []) }
+        ensures room { IfOk result (λ ends. ends.3.intake.room ≡ capacity) }
     {
         let (channel, receiving, mut pass) = bounded_with::<(Tag, I), Known<I>, EachInOrder, A>(
             alloc, capacity,

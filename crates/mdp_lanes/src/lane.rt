@@ -71,12 +71,12 @@ impl<T: Drop, A: Allocator + Copy> Model for LaneSender<T, A> {
     ghost use Rattle.crossbeam_channel.specs.Ends.{sends_on};
     ghost use Rattle.mdp_lanes.specs.Rule.{sender, first_list};
     ghost use Rattle.mdp_lanes.specs.Lanes.{only_right};
-    ghost use Rattle.mdp_lanes.specs.Queues.{LaneSenderView};
+    ghost use Rattle.mdp_lanes.specs.Queues.{LaneSenderView, queue_of};
 
     ghost Value = { LaneSenderView T };
 
     ghost view = { λ s. record {
-      lane = record { table = s.pass.table_id; store = s.pass.me.0.of };
+      lane = queue_of s.pass (sends_on s.channel);
       sent = first_list (known s.pass).rights;
     } };
 
@@ -97,12 +97,12 @@ impl<T: Drop, A: Allocator + Copy> Model for LaneReceiver<T, A> {
     ghost use Rattle.crossbeam_channel.specs.Claims.{view as known, IsSeatAt};
     ghost use Rattle.crossbeam_channel.specs.Ends.{receives_on};
     ghost use Rattle.mdp_lanes.specs.Rule.{receiver};
-    ghost use Rattle.mdp_lanes.specs.Queues.{LaneReceiverView};
+    ghost use Rattle.mdp_lanes.specs.Queues.{LaneReceiverView, queue_of};
 
     ghost Value = { LaneReceiverView T };
 
     ghost view = { λ r. record {
-      lane = record { table = r.pass.table_id; store = r.pass.me.0.of };
+      lane = queue_of r.pass (receives_on r.channel);
       taken = (known r.pass).taken;
     } };
 
@@ -147,6 +147,7 @@ impl<T: Drop> Lane<T> {
         ensures lane { IfOk result (λ ends. ends.0.lane ≡ ends.1.lane) }
         ensures sender { IfOk result (λ ends. ends.0.sent ≡ []) }
         ensures receiver { IfOk result (λ ends. ends.1.taken ≡ []) }
+        ensures room { IfOk result (λ ends. ends.1.lane.room ≡ capacity) }
     {
         let (channel, receiving, mut pass) = bounded_with::<T, Known<T>, AllInOrder, A>(
             alloc, capacity,
