@@ -87,13 +87,15 @@ pub record HoldsPacket (packet : PacketContent) (old new : View) : Type 0 where
   pub newest : new.newest ≡ old.newest
   pub held : HoldsAlso (least_held new) packet.number packet old.held new.held
 
--- What a packet's answer says, and what it leaves: it comes back only after a close, when it is old, as a repeat, or
--- for want of memory, and then all is as before.
+-- What a packet's answer says, and what it leaves: it comes back after a close, when it is old and as a repeat, and
+-- else only for want of memory; then all is as before.
 abbrev pub Receives : Bool → PacketContent → View → View → Put PacketContent → Type 0
 Receives allocates packet old new Kept = HoldsPacket packet old new
 Receives allocates packet old new (Back back) =
     (back ≡ packet) × (new ≡ old) × ((old.is_closed ≡ true) ⊎ ((packet.number < least_held old) ⊎ IsSome (get old.held packet.number)))
-Receives allocates packet old new (Memory back) = (allocates ≡ true) × (back ≡ packet) × (new ≡ old)
+Receives allocates packet old new (Memory back) =
+    (allocates ≡ true) × (back ≡ packet) × (new ≡ old)
+    × (old.is_closed ≡ false) × (least_held old ≤ packet.number) × (get old.held packet.number ≡ None)
 
 -- whether the answer is another than want of memory
 abbrev pub is_taken_in : Put PacketContent → Bool
@@ -102,6 +104,10 @@ is_taken_in (Back back) = true
 is_taken_in (Memory back) = false
 
 -- ---- snapshots
+
+-- the snapshot is of a listed security, whose newest gives way to it
+abbrev pub IsNews : List ℤ → List (Option SnapshotContent) → SnapshotContent → Type 0
+IsNews ids newest s = (slot : ℕ) × (held : Option SnapshotContent) × (slice_get ids slot ≡ Some s.security) × (slice_get newest slot ≡ Some held) × (is_newer held s ≡ true)
 
 -- no listed security's newest snapshot gives way to this one
 abbrev pub IsNoNews : List ℤ → List (Option SnapshotContent) → SnapshotContent → Type 0
@@ -116,7 +122,7 @@ renewed (id ∷ ids) s [] = []
 -- What a snapshot's answer says, and what it leaves: it comes back only after a close, where its security isn't listed,
 -- or where its number isn't greater than that of the newest, and then all is as before.
 abbrev pub Renews : SnapshotContent → View → View → Option SnapshotContent → Type 0
-Renews s old new None = (old.is_closed ≡ false) × (new ≡ record old { newest = renewed old.ids s old.newest })
+Renews s old new None = (old.is_closed ≡ false) × (new ≡ record old { newest = renewed old.ids s old.newest }) × IsNews old.ids old.newest s
 Renews s old new (Some back) = (back ≡ s) × (new ≡ old) × ((old.is_closed ≡ true) ⊎ IsNoNews old.ids old.newest s)
 
 -- ---- moves

@@ -123,6 +123,7 @@ impl<A: Allocator + Copy, W: Window<Packet<A>> + Drop> Arbiter<A, W> {
 
     /// Takes in that the channel was closed: from now on no step is possible, and all that is handed in comes back.
     pub fn close(&mut self)
+        ensures closes { self.new ≡ record self.old { is_closed = true } }
         ensures keeps { state self.new ≡ state self.old }
         ensures channel { IsSameChannel self.old self.new }
         ensures stands { (es : List Event) → StandsAt es self.old

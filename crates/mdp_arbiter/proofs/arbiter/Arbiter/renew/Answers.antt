@@ -19,4 +19,4 @@ returns g c =
     let there : slice_get c.self.inside.newest.items c.in-Some.slot ≡ Some c.index.result.now = slice_get_read c.self.inside.newest.items _ _ _ refl within c.index.ensures in
     let newer : is_newer c.index.result.now c.args.snapshot ≡ true = grind (arith, common_steps, c.renews.ensures, c.if-not-renews.false) in
     let set = renewed-set c.self.inside.slots c.args.snapshot c.self.inside.newest.items c.in-Some.slot c.index.result.now at only there newer in
-    rw (← c.self.view_is) (c.if-self.false, rw set refl)
+    rw (← c.self.view_is) (c.if-self.false, rw set refl, (c.in-Some.slot, c.index.result.now, at, there, newer))
