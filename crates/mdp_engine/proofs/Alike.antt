@@ -13,12 +13,13 @@ use Rattle.mdp_arbiter.specs.Accepted.{Event}
 use Rattle.mdp_arbiter.specs.Machine.{Move, State, start, after, after_all, trace, state_at}
 use Rattle.mdp_arbiter.specs.Machine.Move.{passed, jumped}
 use Rattle.mdp_arbiter.specs.Slots.{ids_of}
-use Rattle.mdp_engine.specs.declared.desk.Desk.{Desk}
+use Rattle.mdp_desks.specs.declared.desk.Desk.{Desk}
 use Rattle.mdp_engine.specs.Feed.{IsFeed, IsJumpedTo}
-use Rattle.mdp_engine.specs.Lines.{Footing, footed, at_start, footings_through, footings, lines}
-use Rattle.mdp_engine.specs.Shown.{Start, shown, shown_lines, steps_of, opening, book_since, is_due}
+use Rattle.mdp_engine.specs.Owed.{Footing, footed, at_start, footings_through, footings, lines}
+use Rattle.mdp_desks.specs.Shown.{Start, shown, shown_lines, opening, book_since, is_due}
+use Rattle.mdp_engine.specs.Owed.{steps_of}
 use Rattle.mdp_engine.specs.Agreed.{start_of, AreOf}
-use Rattle.mdp_engine.specs.Standing.{DeskShows}
+use Rattle.mdp_desks.specs.Standing.{DeskShows}
 use Rattle.mdp_engine.specs.Honest.{IsHonest}
 use Rattle.mdp_engine.specs.Engine.{View, IsSettled, Stands, is_owed, DeskStands, StandsUnder, StandsAlike}
 use Rattle.mdp_engine.proofs.Fronts.{same_mark, sent-split, behind-front}

@@ -1,7 +1,4 @@
-pub mod Marks
-pub mod Showing
 pub mod Fronts
-pub mod Hearing
 pub mod Agreeing
 pub mod Honesty
 pub mod Alike
@@ -9,4 +6,3 @@ pub mod HonestFeeds
 pub mod Moving
 pub mod Under
 pub mod Auditing
-pub mod Passing

@@ -16,12 +16,12 @@ use Rattle.mdp_arbiter.specs.declared.step.Step.{Step}
 use Rattle.mdp_arbiter.specs.declared.step.Step.TheVariants.{Pass, Jump}
 use Rattle.mdp_arbiter.proofs.Jumps.{law_of_jumps}
 use Rattle.mdp_arbiter.proofs.Runs.{law_of_events}
-use Rattle.mdp_engine.specs.declared.desk.Desk.{Desk}
-use Rattle.mdp_engine.specs.Desks.{desk_at_start, passed_desks, passed_text, rebased_desks}
-use Rattle.mdp_engine.specs.Standing.{Shows}
+use Rattle.mdp_desks.specs.declared.desk.Desk.{Desk}
+use Rattle.mdp_desks.specs.Desks.{desk_at_start, passed_desks, passed_text, rebased_desks}
+use Rattle.mdp_desks.specs.Standing.{Shows}
 use Rattle.mdp_engine.specs.Steps.{stepped_desks, stepped_text}
 use Rattle.mdp_engine.specs.Engine.{View, Stands, IsUnderWay, Advances}
-use Rattle.mdp_engine.proofs.Showing.{shows_nothing, shows_passed, shows_jumped}
+use Rattle.mdp_desks.proofs.Showing.{shows_nothing, shows_passed, shows_jumped}
 
 -- ---- possible moves, one after another
 

@@ -9,11 +9,11 @@ use Rattle.mdp_arbiter.specs.Accepted.{Event}
 use Rattle.mdp_arbiter.specs.Machine.{Move, Settles, after_all, trace, state_at}
 use Rattle.mdp_arbiter.specs.Slots.{ids_of}
 use Rattle.mdp_arbiter.specs.Standing.{View as ArbiterView, view_code as arbiter_code, StandsAt, state}
-use Rattle.mdp_engine.specs.declared.desk.Desk.{Desk}
-use Rattle.mdp_engine.specs.contracts.desk.Desk as desk
-use Rattle.mdp_engine.specs.Lines.{Footing, footings, lines}
-use Rattle.mdp_engine.specs.Shown.{steps_of}
-use Rattle.mdp_engine.specs.Standing.{Shows}
+use Rattle.mdp_desks.specs.declared.desk.Desk.{Desk}
+use Rattle.mdp_desks.specs.contracts.desk.Desk as desk
+use Rattle.mdp_engine.specs.Owed.{Footing, footings, lines}
+use Rattle.mdp_engine.specs.Owed.{steps_of}
+use Rattle.mdp_desks.specs.Standing.{Shows}
 use Rattle.mdp_engine.specs.Honest.{IsHonest}
 
 -- an engine as contracts see it: its arbiter, its desks, the lines that it holds, and whether memory ran out

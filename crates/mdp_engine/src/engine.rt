@@ -12,11 +12,11 @@ ghost use Rattle.mdp_arbiter.specs.Standing.{IsSameChannel, StandsAt, state};
 ghost use Rattle.mdp_engine.specs.Engine.{Advances, Stands, StandsUnder};
 ghost use Rattle.mdp_engine.specs.Feed.{IsFeed};
 ghost use Rattle.mdp_engine.specs.Honest.{IsHonest};
-ghost use Rattle.mdp_engine.specs.Lines.{lines};
-ghost use Rattle.mdp_engine.specs.Shown.{steps_of};
+ghost use Rattle.mdp_engine.specs.Owed.{lines};
+ghost use Rattle.mdp_engine.specs.Owed.{steps_of};
 ghost use Rattle.mdp_engine.specs.Steps.{event_of, stepped_desks, stepped_text};
 
-use crate::desks::Desks;
+use crate::audited_desks::AuditedDesks;
 use crate::event::Event;
 use mdp_arbiter::{Arbiter, Step};
 use mdp_templates::{Instrument, Memory, Packet};
@@ -31,7 +31,7 @@ use std::marker::Model;
 #[derive(Drop)]
 pub struct Engine<A: Allocator, W: Window<Packet<A>> + Drop> {
     arbiter: Arbiter<A, W>,
-    desks: Desks<A>,
+    desks: AuditedDesks<A>,
     held: Vec<u8, A>,
     has_failed: bool,
 }
@@ -65,7 +65,7 @@ impl<A: Allocator + Copy, W: Window<Packet<A>> + Drop> Engine<A, W> {
     {
         Ok(Engine {
             arbiter: Arbiter::new(alloc, instruments, window)?,
-            desks: Desks::new(alloc, instruments)?,
+            desks: AuditedDesks::new(alloc, instruments)?,
             held: Vec::new(alloc),
             has_failed: false,
         })

@@ -1,5 +1,7 @@
 pub mod Merge
 pub mod Reading
+pub mod Merging
+pub mod Decoding
 pub mod Output
 pub mod RefusalTexts
 pub mod Running

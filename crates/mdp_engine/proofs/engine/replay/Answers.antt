@@ -4,8 +4,8 @@ use Rattle.mdp_arbiter.specs.Accepted.{Event as Accepted}
 use Rattle.mdp_arbiter.specs.Machine.{trace}
 use Rattle.mdp_arbiter.specs.Slots.{ids_of}
 use Rattle.mdp_engine.specs.Engine.{Stands}
-use Rattle.mdp_engine.specs.Lines.{lines}
-use Rattle.mdp_engine.specs.Shown.{steps_of}
+use Rattle.mdp_engine.specs.Owed.{lines}
+use Rattle.mdp_engine.specs.Owed.{steps_of}
 use Rattle.mdp_engine.specs.Steps.{event_of}
 use Rattle.mdp_engine.proofs.Under.{stands_owed, taken_more}
 use Rattle.mdp_engine.proofs.engine.replay.Goals as goal

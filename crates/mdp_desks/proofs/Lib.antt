@@ -1,0 +1,4 @@
+pub mod Marks
+pub mod Hearing
+pub mod Passing
+pub mod Showing
