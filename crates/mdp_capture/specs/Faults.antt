@@ -1,5 +1,7 @@
--- The table of the faults of a capture: the number and the name of each, which are printed.
-use Rattle.std.specs.Prelude.{ℕ, List, codes}
+-- The faults of a capture: the number and the name of each, which are printed, and the text of a fault.
+use Rattle.std.specs.Prelude.{ℕ, List, [], ◌++◌, ◌==◌, codes, decimal, if◌then◌else◌}
+use Rattle.mdp_capture.specs.declared.fault.CaptureFault.{CaptureFault}
+use Rattle.mdp_capture.specs.declared.fault.CaptureFault.TheVariants as faults
 use Rattle.mdp_capture.specs.declared.fault.CaptureRefusal.{CaptureRefusal}
 use Rattle.mdp_capture.specs.declared.fault.CaptureRefusal.TheVariants as refusals
 use Rattle.mdp_capture.specs.declared.skip.Skip.{Skip}
@@ -28,3 +30,18 @@ refusal_name refusals.UnknownLeg = codes "UnknownLeg"
 refusal_name refusals.TooMany = codes "TooMany"
 refusal_name refusals.NoInstrument = codes "None"
 refusal_name refusals.InstrumentLate = codes "InstrumentLate"
+
+-- the line of the capture of which something is told
+abbrev pub place_text : ℕ → List ℕ
+place_text line = codes "line " ++ decimal line ++ codes ": "
+
+-- why a run is refused, and at which line, unless that is line 0
+unfoldable pub refusal_text : ℕ → CaptureRefusal → List ℕ
+refusal_text line refusal =
+    (if line == 0 then [] else place_text line) ++ decimal (refusal_number refusal) ++ codes " " ++ refusal_name refusal
+
+-- what a fault is printed as
+abbrev pub fault_text : CaptureFault → List ℕ
+fault_text (faults.Refused line refusal) = refusal_text line refusal
+fault_text faults.Memory = codes "41 Memory"
+fault_text faults.Input = codes "43 Input"

@@ -1,10 +1,12 @@
 //! Why a capture could not be read.
 
-ghost use Rattle.std.specs.Prelude.{◌≡◌};
+ghost use Rattle.std.specs.Prelude.{◌≡◌, Some};
+ghost use Rattle.mdp_capture.specs.Faults.{fault_text};
 ghost use Rattle.mdp_capture.specs.declared.fault.CaptureFault.TheVariants as faults;
 
 use std::alloc::{AllocError, AllocFailed};
-use thiserror::Error;
+use std::error::Error;
+use std::fmt;
 
 /// Why a run is refused, by the number and the name that are printed.
 #[derive(Clone, Copy, Debug, PartialEq, Eq)]
@@ -52,18 +54,37 @@ impl CaptureRefusal {
 }
 
 /// Why a capture could not be read.
-#[derive(Clone, Copy, Debug, PartialEq, Eq, Error)]
+#[derive(Clone, Copy, Debug, PartialEq, Eq)]
 pub enum CaptureFault {
     /// The run is refused at this line, or at line 0 where the whole capture lacks an instrument.
-    #[error("line {line}: {} {}", .refusal.number(), .refusal.name())]
     Refused { line: u32, refusal: CaptureRefusal },
     /// Memory ran out.
-    #[error("41 Memory")]
     Memory,
     /// A read failed.
-    #[error("43 Input")]
     Input,
 }
+
+#[tactic(auto, unfolding(crate::specs::Faults::refusal_text))]
+impl fmt::Display for CaptureFault {
+    ghost output = { λ fault. Some (fault_text fault) };
+
+    /// Writes the number and the name, and before them the line, unless that is line 0.
+    fn fmt<W: fmt::Write>(&self, f: &mut fmt::Formatter<W>) -> fmt::Result {
+        match *self {
+            CaptureFault::Refused { line, refusal } => {
+                let (number, name) = (refusal.number(), refusal.name());
+                if line == 0 {
+                    return write!(f, "{number} {name}");
+                }
+                write!(f, "line {line}: {number} {name}")
+            }
+            CaptureFault::Memory => f.write_str("41 Memory"),
+            CaptureFault::Input => f.write_str("43 Input"),
+        }
+    }
+}
+
+impl Error for CaptureFault {}
 
 impl From<AllocError> for CaptureFault {
     ghost from_gives = { λ _ e. e ≡ faults.Memory };

@@ -172,6 +172,13 @@ fn tells_numbers_and_names(rt: HostRuntime) -> Result<(), Fail> {
         format!(in rt.alloc(); "{fault}")?.as_str(),
         "line 7: 32 UnknownLeg"
     );
+    let fault = CaptureFault::Refused {
+        line: 0,
+        refusal: CaptureRefusal::NoInstrument,
+    };
+    assert_eq!(rt; format!(in rt.alloc(); "{fault}")?.as_str(), "34 None");
+    let fault = CaptureFault::Memory;
+    assert_eq!(rt; format!(in rt.alloc(); "{fault}")?.as_str(), "41 Memory");
     assert!(rt; Record::<Global>::close(3).bytes().is_none());
     Ok(())
 }

@@ -2,3 +2,5 @@ pub mod Marks
 pub mod Hearing
 pub mod Passing
 pub mod Showing
+pub mod Moments
+pub mod Sharing

@@ -3,3 +3,7 @@ pub mod Shown
 pub mod Desks
 pub mod Beside
 pub mod Standing
+pub mod Moments
+pub mod Shares
+pub mod Reports
+pub mod ShareLaws

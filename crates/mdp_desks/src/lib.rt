@@ -4,10 +4,12 @@
 
 mod desk;
 mod desks;
+mod laws;
 mod lines;
 mod marked;
 
 pub use desk::Desk;
 pub use desks::Desks;
+pub use laws::{law_of_moments, law_of_shares};
 pub use lines::put_book;
 pub use marked::Marked;

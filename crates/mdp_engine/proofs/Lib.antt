@@ -6,3 +6,9 @@ pub mod HonestFeeds
 pub mod Moving
 pub mod Under
 pub mod Auditing
+pub mod Merging
+pub mod Keeping
+pub mod Telling
+pub mod Collecting
+pub mod Ascending
+pub mod Batching

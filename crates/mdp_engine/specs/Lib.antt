@@ -5,3 +5,5 @@ pub mod Spreads
 pub mod Honest
 pub mod Engine
 pub mod Steps
+pub mod Rounds
+pub mod RoundLaws

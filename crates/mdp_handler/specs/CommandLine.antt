@@ -1,5 +1,6 @@
 -- The command line: the options of the program, and what words of a command line ask for.
-use Rattle.std.specs.Prelude.{◌≡◌, ◌≤◌, ℕ, Bool, true, false, List, [], ◌∷◌, Some, None, codes, pos}
+use Rattle.std.specs.Prelude.{◌≡◌, ◌≤◌, ℕ, Bool, true, false, List, [], ◌∷◌, Some, None, codes, map, pos}
+use denote.Ref.{Bor}
 use Rattle.std.specs.Str.Parse.{IsNumeral, digits_value, without_leading_plus}
 use Rattle.clap.specs.Words.{App, Rule, Text, IsAmong, Kinds, fault_of, matches_of, new_app, new_rule, one_of, with_rule}
 use Rattle.clap.specs.declared.builder.action.ArgAction.TheVariants.{SetTrue}
@@ -49,6 +50,14 @@ shown_kinds = kind.DisplayHelp ∷ kind.DisplayVersion ∷ []
 -- the words ask for the help or the version
 abbrev pub AsksToShow : List Text → Type 0
 AsksToShow words = (asked : ErrorKind) × IsAmong asked shown_kinds × IsAmong asked (fault_of options words)
+
+-- the words have a fault: more than a wish for the help or the version
+abbrev pub HasFault : List Text → Type 0
+HasFault words = (fault : ErrorKind) × IsAmong fault (fault_of options words) × (¬ (IsAmong fault shown_kinds))
+
+-- the texts of borrowed words
+abbrev pub texts_of : List (Bor Text) → List Text
+texts_of words = map (λ word. word.now) words
 
 -- the number that is read of an option: that of a text that writes a number from 1 to `most`, and the default where
 -- there is no text

@@ -1,7 +1,7 @@
--- What a run to its end has written.
-use Rattle.std.specs.Prelude.{◌≡◌, ◌++◌, ℕ, Bool, List, Option, Ok, IfSome}
-use Rattle.mdp_capture.specs.Capture.{CaptureContent, capture_of}
-use Rattle.mdp_pipeline.specs.Output.{PrintsByLine}
+-- What a run over a capture has written: all its text, or a front of it.
+use Rattle.std.specs.Prelude.{◌≡◌, ◌++◌, ℕ, Bool, List}
+use Rattle.mdp_capture.specs.Capture.{CaptureContent}
+use Rattle.mdp_pipeline.specs.Output.{BeginsByLine, PrintsByLine}
 
 -- After a run over this capture, with a window of so many packet numbers, a writer holds, behind what it held before,
 -- the text of the run.
@@ -10,7 +10,7 @@ HasPrinted capture window before after =
     (text : List ℕ) × (next : ℕ) × (lost : Bool) × (after ≡ before ++ text)
     × PrintsByLine capture.instruments window capture.a capture.b capture.s text next lost
 
--- The same of a run over the text of a capture, where the reader tells it.
-abbrev pub HasRun : Option (List ℕ) → ℕ → List ℕ → List ℕ → Type 0
-HasRun input window before after =
-    IfSome input (λ text. (capture : CaptureContent) × (capture_of text ≡ Ok capture) × HasPrinted capture window before after)
+-- The same where the run ended early, of a front of its text.
+abbrev pub HasBegun : CaptureContent → ℕ → List ℕ → List ℕ → Type 0
+HasBegun capture window before after =
+    BeginsByLine capture.instruments window capture.a capture.b capture.s before after

@@ -1,15 +1,15 @@
 //! What is told on standard error. A write that fails there is passed over, and no line takes memory.
 
-ghost use Rattle.std.specs.Prelude.{◌≡◌, ◌<◌, ◌≤◌, ◌-◌, ◌^◌, ◌++◌, length, codes, decimal};
-ghost use Rattle.mdp_handler.specs.Faults.{output_line, place_text, refused_line, skipped_line, skipped_lines};
+ghost use Rattle.std.specs.Prelude.{◌≡◌, ◌≤◌, ◌++◌, length, codes, decimal};
+ghost use Rattle.mdp_capture.specs.Faults.{place_text};
+ghost use Rattle.mdp_handler.specs.Faults.{Tells, input_line, memory_line, output_line, refused_line, skipped_line, skipped_lines};
 
 use mdp_capture::{CaptureRefusal, SkippedLine};
 use mdp_print::{CountedWrite, ShortText, write_all_counted};
 
 /// Tells a text. Once as many writes failed as can be counted, nothing more is told.
 pub fn tell<F: CountedWrite>(faults: &mut F, text: &[u8])
-    ensures told { F.failed faults.new ≡ F.failed faults.old → F.failed faults.old < 2 ^ 64 - 1 → F.taken faults.new ≡ F.taken faults.old ++ text.now }
-    ensures failures { F.failed faults.old ≤ F.failed faults.new }
+    ensures { Tells F.failed F.taken faults.old faults.new text.now }
 {
     if faults.failures() < u64::MAX {
         let _ = write_all_counted(faults, text);
@@ -18,7 +18,7 @@ pub fn tell<F: CountedWrite>(faults: &mut F, text: &[u8])
 
 /// Tells that memory ran out.
 pub fn tell_memory<F: CountedWrite>(faults: &mut F)
-    ensures { F.failed faults.new ≡ F.failed faults.old → F.failed faults.old < 2 ^ 64 - 1 → F.taken faults.new ≡ F.taken faults.old ++ codes "41 Memory\n" }
+    ensures { Tells F.failed F.taken faults.old faults.new memory_line }
 {
     tell(faults, b"41 Memory\n");
 }
@@ -26,7 +26,7 @@ pub fn tell_memory<F: CountedWrite>(faults: &mut F)
 /// Tells that a write failed after this many bytes went out.
 #[tactic(auto, unfolding(crate::specs::Faults::output_line))]
 pub fn tell_output<F: CountedWrite>(faults: &mut F, written: u64)
-    ensures { F.failed faults.new ≡ F.failed faults.old → F.failed faults.old < 2 ^ 64 - 1 → F.taken faults.new ≡ F.taken faults.old ++ output_line written }
+    ensures { Tells F.failed F.taken faults.old faults.new (output_line written) }
 {
     let mut text = ShortText::new();
     text.put_bytes(b" bytes\n");
@@ -37,7 +37,7 @@ pub fn tell_output<F: CountedWrite>(faults: &mut F, written: u64)
 
 /// Tells that a read failed.
 pub fn tell_input<F: CountedWrite>(faults: &mut F)
-    ensures { F.failed faults.new ≡ F.failed faults.old → F.failed faults.old < 2 ^ 64 - 1 → F.taken faults.new ≡ F.taken faults.old ++ codes "43 Input\n" }
+    ensures { Tells F.failed F.taken faults.old faults.new input_line }
 {
     tell(faults, b"43 Input\n");
 }
@@ -67,9 +67,9 @@ fn put_place(text: &mut ShortText, line: u32)
 }
 
 /// Tells why a capture is refused, with the line where it is, unless that is line 0.
-#[tactic(auto, using(crate::proofs::Names::refusal_name_short), unfolding(crate::specs::Faults::refused_line))]
+#[tactic(auto, using(crate::proofs::Names::refusal_name_short), unfolding(mdp_capture::specs::Faults::refusal_text))]
 pub fn tell_refused<F: CountedWrite>(faults: &mut F, line: u32, refusal: CaptureRefusal)
-    ensures { F.failed faults.new ≡ F.failed faults.old → F.failed faults.old < 2 ^ 64 - 1 → F.taken faults.new ≡ F.taken faults.old ++ refused_line line refusal }
+    ensures { Tells F.failed F.taken faults.old faults.new (refused_line line refusal) }
 {
     let mut text = fault_text(refusal.number(), refusal.name());
     if line != 0 {
@@ -81,8 +81,7 @@ pub fn tell_refused<F: CountedWrite>(faults: &mut F, line: u32, refusal: Capture
 /// Tells a line that was skipped.
 #[tactic(auto, using(crate::proofs::Names::skip_name_short), unfolding(crate::specs::Faults::skipped_line))]
 fn tell_skipped_line<F: CountedWrite>(faults: &mut F, skipped: &SkippedLine)
-    ensures told { F.failed faults.new ≡ F.failed faults.old → F.failed faults.old < 2 ^ 64 - 1 → F.taken faults.new ≡ F.taken faults.old ++ skipped_line skipped.now }
-    ensures failures { F.failed faults.old ≤ F.failed faults.new }
+    ensures { Tells F.failed F.taken faults.old faults.new (skipped_line skipped.now) }
 {
     let mut text = fault_text(skipped.skip.number(), skipped.skip.name());
     put_place(&mut text, skipped.line);
@@ -91,7 +90,7 @@ fn tell_skipped_line<F: CountedWrite>(faults: &mut F, skipped: &SkippedLine)
 
 /// Tells each line that was skipped, on a line of its own.
 pub fn tell_skipped<F: CountedWrite>(faults: &mut F, lines: &[SkippedLine])
-    ensures { F.failed faults.new ≡ F.failed faults.old → F.failed faults.old < 2 ^ 64 - 1 → F.taken faults.new ≡ F.taken faults.old ++ skipped_lines lines.now }
+    ensures { Tells F.failed F.taken faults.old faults.new (skipped_lines lines.now) }
 {
     for line in lines {
         tell_skipped_line(faults, line);

@@ -1,11 +1,11 @@
 //! The program, over any input and outputs.
 
-ghost use Rattle.std.specs.Prelude.{◌≡◌, ◌≤◌, ◌<◌, ◌-◌, ◌^◌, ◌++◌, ◌⊎◌, ℕ, List, map};
+ghost use Rattle.std.specs.Prelude.{◌≡◌, ◌≢◌, ◌≤◌, ◌<◌, ◌-◌, ◌^◌, ◌++◌, ◌⊎◌, [], ℕ, List};
 ghost use Rattle.clap.specs.Words.{IsAmong, kind_of};
-ghost use Rattle.mdp_handler.specs.CommandLine.{AreSettings, AsksToRun, AsksToShow, shown_kinds};
-ghost use Rattle.mdp_handler.specs.declared.settings.Settings.{Settings};
-ghost use Rattle.mdp_handler.specs.Faults.{HasFailed, HasRefused};
-ghost use Rattle.mdp_handler.specs.Printed.{HasPrinted, HasRun};
+ghost use Rattle.mdp_handler.specs.CommandLine.{AsksToRun, shown_kinds, texts_of};
+ghost use Rattle.mdp_handler.specs.Faults.{Tells, skipped_lines};
+ghost use Rattle.mdp_handler.specs.Outcome.{Fails, HasDone, HasFailed, HasFailedRun, HasFailedWrite, HasNoMemory, HasRefused, HasRefusedCapture, HasRun, HasStopped};
+ghost use Rattle.mdp_handler.specs.Printed.{HasPrinted};
 ghost use Rattle.mdp_templates.specs.Instrument.{AreFit};
 
 use crate::faults::{tell, tell_input, tell_memory, tell_output, tell_refused, tell_skipped};
@@ -40,11 +40,17 @@ pub fn program<I: CountedRead, O: CountedWrite, F: CountedWrite, A: Allocator + 
     requires input { I.failed input.old < 2 ^ 64 - 1 }
     requires output { O.failed output.old < 2 ^ 64 - 1 }
     ensures status { result ≤ 2 }
-    ensures reads { result ≡ 0 → I.failed input.new ≡ I.failed input.old }
-    ensures text { result ≡ 0 → (AsksToRun (map (λ word. word.now) words.now) × ((settings : Settings) × AreSettings (map (λ word. word.now) words.now) settings × HasRun (I.rest input.old) settings.window (O.taken output.old) (O.taken output.new))) ⊎ (AsksToShow (map (λ word. word.now) words.now) × (I.rest input.new ≡ I.rest input.old) × ((text : List ℕ) × (O.taken output.new ≡ O.taken output.old ++ text))) }
-    ensures refused { result ≡ 2 → O.taken output.new ≡ O.taken output.old }
-    ensures told { result ≡ 2 → AsksToRun (map (λ word. word.now) words.now) → F.failed faults.new ≡ F.failed faults.old → F.failed faults.old < 2 ^ 64 - 1 → HasRefused (I.rest input.old) (F.taken faults.old) (F.taken faults.new) }
-    ensures unread { ¬ (AsksToRun (map (λ word. word.now) words.now)) → I.rest input.new ≡ I.rest input.old }
+    ensures done { result ≡ 0 → HasDone (texts_of words.now) (I.rest input.old)
+        (O.taken output.old) (O.taken output.new) (Tells F.failed F.taken faults.old faults.new) }
+    ensures failed { result ≡ 1 → HasFailed (texts_of words.now) (I.rest input.old)
+        (Fails I.failed input.old input.new) (Fails O.failed output.old output.new)
+        (O.taken output.old) (O.taken output.new) (Tells F.failed F.taken faults.old faults.new) }
+    ensures refused { result ≡ 2 → HasRefused (texts_of words.now) (I.rest input.old)
+        (Tells F.failed F.taken faults.old faults.new) }
+    ensures unprinted { result ≡ 2 → output.new ≡ output.old }
+    ensures unread { ¬ (AsksToRun (texts_of words.now)) → input.new ≡ input.old }
+    ensures reads { result ≢ 1 → I.failed input.new ≡ I.failed input.old }
+    ensures writes { result ≢ 1 → O.failed output.new ≡ O.failed output.old }
 {
     match read_settings(words_alloc, words) {
         Ok(settings) => run_over(alloc, settings.window, input, output, faults),
@@ -61,10 +67,20 @@ fn show<O: CountedWrite, F: CountedWrite, A: Allocator>(
 ) -> u8
     requires { O.failed output.old < 2 ^ 64 - 1 }
     ensures status { result ≤ 2 }
-    ensures shown { result ≡ 0 → IsAmong (kind_of error.now) shown_kinds × ((text : List ℕ) × (O.taken output.new ≡ O.taken output.old ++ text)) }
-    ensures refused { result ≡ 2 → O.taken output.new ≡ O.taken output.old }
+    ensures shown { result ≡ 0 → IsAmong (kind_of error.now) shown_kinds
+        × ((text : List ℕ) × (O.taken output.new ≡ O.taken output.old ++ text))
+        × Tells F.failed F.taken faults.old faults.new [] }
+    ensures failed { result ≡ 1 →
+        let Failed = Fails O.failed output.old output.new in
+        let Told = Tells F.failed F.taken faults.old faults.new in
+        HasNoMemory Failed (O.taken output.old) (O.taken output.new) Told
+        ⊎ (IsAmong (kind_of error.now) shown_kinds
+        × HasFailedWrite [] Failed (O.taken output.old) (O.taken output.new) Told) }
+    ensures refused { result ≡ 2 → (¬ (IsAmong (kind_of error.now) shown_kinds))
+        × ((text : List ℕ) × Tells F.failed F.taken faults.old faults.new text) }
+    ensures unprinted { result ≡ 2 → output.new ≡ output.old }
     ensures memory { kind_of error.now ≡ ErrorKind.OutOfMemory → result ≡ 1 }
-    ensures failed { result ≡ 1 → F.failed faults.new ≡ F.failed faults.old → F.failed faults.old < 2 ^ 64 - 1 → HasFailed (O.taken output.old) (O.taken output.new) (F.taken faults.old) (F.taken faults.new) }
+    ensures writes { result ≢ 1 → O.failed output.new ≡ O.failed output.old }
 {
     if error.kind() == ErrorKind::OutOfMemory {
         tell_memory(faults);
@@ -100,10 +116,20 @@ fn run_over<I: CountedRead, O: CountedWrite, F: CountedWrite, A: Allocator + Cop
     requires least { 1 ≤ window }
     requires most { window ≤ 65536 }
     ensures status { result ≤ 2 }
-    ensures reads { result ≡ 0 → I.failed input.new ≡ I.failed input.old }
-    ensures text { result ≡ 0 → HasRun (I.rest input.old) window (O.taken output.old) (O.taken output.new) }
-    ensures refused { result ≡ 2 → O.taken output.new ≡ O.taken output.old }
-    ensures told { result ≡ 2 → F.failed faults.new ≡ F.failed faults.old → F.failed faults.old < 2 ^ 64 - 1 → HasRefused (I.rest input.old) (F.taken faults.old) (F.taken faults.new) }
+    ensures done { result ≡ 0 → HasRun (I.rest input.old) window
+        (O.taken output.old) (O.taken output.new) (Tells F.failed F.taken faults.old faults.new) }
+    ensures failed { result ≡ 1 →
+        let FailedReads = Fails I.failed input.old input.new in
+        let FailedWrites = Fails O.failed output.old output.new in
+        let Told = Tells F.failed F.taken faults.old faults.new in
+        (FailedReads 0 × HasNoMemory FailedWrites (O.taken output.old) (O.taken output.new) Told)
+        ⊎ HasFailedRun (I.rest input.old) window FailedReads FailedWrites
+        (O.taken output.old) (O.taken output.new) Told }
+    ensures refused { result ≡ 2 → HasRefusedCapture (I.rest input.old)
+        (Tells F.failed F.taken faults.old faults.new) }
+    ensures unprinted { result ≡ 2 → output.new ≡ output.old }
+    ensures reads { result ≢ 1 → I.failed input.new ≡ I.failed input.old }
+    ensures writes { result ≢ 1 → O.failed output.new ≡ O.failed output.old }
 {
     match read_capture(alloc, input) {
         Ok(capture) => run_capture(alloc, &capture, window, output, faults),
@@ -135,7 +161,11 @@ fn run_capture<O: CountedWrite, F: CountedWrite, A: Allocator + Copy>(
     requires least { 1 ≤ window }
     requires most { window ≤ 65536 }
     ensures status { result ≤ 1 }
-    ensures text { result ≡ 0 → HasPrinted capture.now window (O.taken output.old) (O.taken output.new) }
+    ensures printed { result ≡ 0 → HasPrinted capture.now window (O.taken output.old) (O.taken output.new) }
+    ensures told { result ≡ 0 → Tells F.failed F.taken faults.old faults.new (skipped_lines capture.now.skipped) }
+    ensures failed { result ≡ 1 → HasStopped capture.now window (Fails O.failed output.old output.new)
+        (O.taken output.old) (O.taken output.new) (Tells F.failed F.taken faults.old faults.new) }
+    ensures writes { result ≢ 1 → O.failed output.new ≡ O.failed output.old }
 {
     tell_skipped(faults, capture.skipped());
     match run_in_order(

@@ -29,6 +29,7 @@ pub(crate) struct Kept {
     calls: u64,
     fail_at: u64,
     failures: u64,
+    error: Option<ErrorKind>,
 }
 
 impl Kept {
@@ -48,6 +49,7 @@ impl Kept {
             calls: 0,
             fail_at,
             failures: 0,
+            error: None,
         }
     }
 }
@@ -57,15 +59,19 @@ impl CountedWrite for Kept {
 
     ghost failed = { λ w. w.failures };
 
+    ghost error = { λ w. w.error };
+
     fn write(&mut self, bytes: &[u8]) -> io::Result<usize> {
         self.calls = self.calls.saturating_add(1);
         let count = bytes.len().min(self.most);
         if self.calls == self.fail_at || self.bytes.extend_from_slice(&bytes[..count]).is_err() {
             self.failures += 1;
+            self.error = Some(ErrorKind::Other);
             return Err(io::Error::from(ErrorKind::Other));
         }
         if count == 0 {
             self.failures += 1;
+            self.error = None;
         }
         Ok(count)
     }

@@ -126,6 +126,7 @@ struct Slow {
     fail_at: u64,
     kind: Option<ErrorKind>,
     failures: u64,
+    error: Option<ErrorKind>,
 }
 
 impl CountedWrite for Slow {
@@ -133,12 +134,15 @@ impl CountedWrite for Slow {
 
     ghost failed = { λ w. w.failures };
 
+    ghost error = { λ w. w.error };
+
     fn write(&mut self, bytes: &[u8]) -> io::Result<usize> {
         self.calls = self.calls.saturating_add(1);
         let byte = match bytes.first() {
             Some(byte) if self.calls != self.fail_at => *byte,
             _ => {
                 self.failures += 1;
+                self.error = self.kind;
                 return match self.kind {
                     Some(kind) => Err(io::Error::from(kind)),
                     None => Ok(0),
@@ -147,6 +151,7 @@ impl CountedWrite for Slow {
         };
         if self.bytes.push(byte).is_err() {
             self.failures += 1;
+            self.error = Some(ErrorKind::OutOfMemory);
             return Err(io::Error::from(ErrorKind::OutOfMemory));
         }
         Ok(1)
@@ -168,6 +173,7 @@ fn tells_how_much_went_out(rt: HostRuntime) -> Result<(), Fail> {
                 fail_at,
                 kind,
                 failures: 0,
+                error: None,
             };
             match write_all_counted(&mut slow, line) {
                 Ok(()) => {
@@ -196,6 +202,7 @@ fn writes_no_bytes_without_a_write(rt: HostRuntime) -> Result<(), Fail> {
         fail_at: 1,
         kind: None,
         failures: 0,
+        error: None,
     };
     assert!(rt; write_all_counted(&mut slow, b"").is_ok());
     assert_eq!(rt; slow.calls, 0);

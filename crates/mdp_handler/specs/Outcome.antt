@@ -1,0 +1,70 @@
+-- What each exit status says: of the words, of the input, of what the output took, and of what was told.
+use Rattle.std.specs.Prelude.{◌≡◌, ℕ, ◌+◌, List, [], ◌++◌, ◌⊎◌, Option, Ok, Err, IfSome}
+use Rattle.clap.specs.Words.{Text}
+use Rattle.mdp_capture.specs.Capture.{CaptureContent, capture_of}
+use Rattle.mdp_capture.specs.declared.fault.CaptureRefusal.{CaptureRefusal}
+use Rattle.mdp_pipeline.specs.Counted.{HasCounted}
+use Rattle.mdp_handler.specs.CommandLine.{AreSettings, AsksToRun, AsksToShow, HasFault}
+use Rattle.mdp_handler.specs.declared.settings.Settings.{Settings}
+use Rattle.mdp_handler.specs.Faults.{input_line, memory_line, output_line, refused_line, skipped_lines}
+use Rattle.mdp_handler.specs.Printed.{HasBegun, HasPrinted}
+
+-- so many failures more were counted
+abbrev pub Fails : {S : Type 0} → (S → ℕ) → S → S → ℕ → Type 0
+Fails failed old new count = failed new ≡ failed old + count
+
+-- the input is the text of this capture, where the reader tells its text
+abbrev pub HasCapture : Option (List ℕ) → CaptureContent → Type 0
+HasCapture input capture = IfSome input (λ text. capture_of text ≡ Ok capture)
+
+-- A run to its end has printed its text, and told each skipped line.
+abbrev pub HasRun : Option (List ℕ) → ℕ → List ℕ → List ℕ → (List ℕ → Type 0) → Type 0
+HasRun input window before after Told =
+    (capture : CaptureContent) × HasCapture input capture × HasPrinted capture window before after × Told (skipped_lines capture.skipped)
+
+-- Status 0: a run to its end; or the help or the version was shown, and nothing told.
+abbrev pub HasDone : List Text → Option (List ℕ) → List ℕ → List ℕ → (List ℕ → Type 0) → Type 0
+HasDone words input before after Told =
+    (AsksToRun words × ((settings : Settings) × AreSettings words settings × HasRun input settings.window before after Told))
+    ⊎ (AsksToShow words × ((text : List ℕ) × (after ≡ before ++ text)) × Told [])
+
+-- Memory ran out before anything was printed, and that alone is told.
+abbrev pub HasNoMemory : (ℕ → Type 0) → List ℕ → List ℕ → (List ℕ → Type 0) → Type 0
+HasNoMemory FailedWrites before after Told = FailedWrites 0 × (after ≡ before) × Told memory_line
+
+-- A write failed, and behind these lines it is told after how many bytes.
+abbrev pub HasFailedWrite : List ℕ → (ℕ → Type 0) → List ℕ → List ℕ → (List ℕ → Type 0) → Type 0
+HasFailedWrite lines FailedWrites before after Told =
+    FailedWrites 1 × ((written : ℕ) × HasCounted before after written × Told (lines ++ output_line written))
+
+-- A run over a capture ended early, for want of memory or by a failed write: a front of its text was printed, and
+-- behind each skipped line it is told why it ended.
+abbrev pub HasStopped : CaptureContent → ℕ → (ℕ → Type 0) → List ℕ → List ℕ → (List ℕ → Type 0) → Type 0
+HasStopped capture window FailedWrites before after Told =
+    let lines = skipped_lines capture.skipped in
+    HasBegun capture window before after
+    × ((FailedWrites 0 × Told (lines ++ memory_line)) ⊎ HasFailedWrite lines FailedWrites before after Told)
+
+-- A read failed before anything was printed, and that alone is told; or a run over the capture ended early.
+abbrev pub HasFailedRun : Option (List ℕ) → ℕ → (ℕ → Type 0) → (ℕ → Type 0) → List ℕ → List ℕ → (List ℕ → Type 0) → Type 0
+HasFailedRun input window FailedReads FailedWrites before after Told =
+    (FailedReads 1 × FailedWrites 0 × (after ≡ before) × Told input_line)
+    ⊎ (FailedReads 0 × ((capture : CaptureContent) × HasCapture input capture × HasStopped capture window FailedWrites before after Told))
+
+-- Status 1: memory ran out while the words or the capture were read; a run failed; or not all of the help or the
+-- version went out.
+abbrev pub HasFailed : List Text → Option (List ℕ) → (ℕ → Type 0) → (ℕ → Type 0) → List ℕ → List ℕ → (List ℕ → Type 0) → Type 0
+HasFailed words input FailedReads FailedWrites before after Told =
+    (FailedReads 0 × HasNoMemory FailedWrites before after Told)
+    ⊎ ((AsksToRun words × ((settings : Settings) × AreSettings words settings × HasFailedRun input settings.window FailedReads FailedWrites before after Told))
+    ⊎ (AsksToShow words × HasFailedWrite [] FailedWrites before after Told))
+
+-- The capture is refused, at its first refusal where the reader tells its text, and that is told.
+abbrev pub HasRefusedCapture : Option (List ℕ) → (List ℕ → Type 0) → Type 0
+HasRefusedCapture input Told =
+    (line : ℕ) × (refusal : CaptureRefusal) × IfSome input (λ text. capture_of text ≡ Err (record { line = line; refusal = refusal })) × Told (refused_line line refusal)
+
+-- Status 2: the words have a fault, of which a text was told; or they ask for a run, and the capture is refused.
+abbrev pub HasRefused : List Text → Option (List ℕ) → (List ℕ → Type 0) → Type 0
+HasRefused words input Told =
+    (HasFault words × ((text : List ℕ) × Told text)) ⊎ (AsksToRun words × HasRefusedCapture input Told)
