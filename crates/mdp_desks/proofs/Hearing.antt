@@ -15,7 +15,7 @@ use Rattle.mdp_books.specs.Feed.{Sent, names, place_at, entered_from}
 use Rattle.mdp_desks.specs.declared.desk.Desk.{Desk}
 use Rattle.mdp_desks.specs.Lines.{Seen, text_of, audit_text, lines_as}
 use Rattle.mdp_desks.specs.Desks.{desk_at_start, desk_entered, desk_heard, desks_through, desk_settled, desk_standing, desk_seen, desks_after, desks_text, rebased_desks}
-use Rattle.mdp_arbiter.specs.Slots.{ids_of}
+use Rattle.mdp_arbiter.specs.Channel.{ids_of}
 use Rattle.mdp_desks.specs.Beside.{listed_in, marks_of, AreBeside}
 
 -- ---- one entry

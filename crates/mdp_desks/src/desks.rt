@@ -2,7 +2,7 @@
 
 ghost use Rattle.std.specs.Prelude.{◌≡◌, ◌≢◌, ◌++◌, ◌≤◌, ℕ, AllPairs, IfOk, OnOk, IfSome, IfNone, Some, slice_get, map, length};
 ghost use Rattle.std.specs.List.{flat_map};
-ghost use Rattle.mdp_arbiter.specs.Slots.{ids_of};
+ghost use Rattle.mdp_arbiter.specs.Channel.{ids_of};
 ghost use Rattle.mdp_desks.specs.Beside.{listed_in, marks_of};
 ghost use Rattle.mdp_desks.specs.Desks.{desk_at_start, desk_heard, desk_settled, desk_standing, desks_through, rebased_desks};
 ghost use Rattle.mdp_desks.specs.Lines.{text_of};

@@ -6,7 +6,7 @@ use Rattle.mdp_quotes.specs.declared.best.Best.{Best}
 use Rattle.std.specs.Prelude.{Option}
 use Rattle.mdp_templates.specs.declared.instrument.Instrument.{Instrument}
 use Rattle.mdp_arbiter.specs.Machine.{Move, trace}
-use Rattle.mdp_arbiter.specs.Slots.{ids_of}
+use Rattle.mdp_arbiter.specs.Channel.{channel_of}
 use Rattle.mdp_engine.proofs.Agreeing.{shows_what_is_owed}
 use Rattle.mdp_engine.proofs.Honesty.{honest_moves_agree}
 use Rattle.mdp_desks.specs.Moments.{Moment, moments_of, moments_after, moments_by}
@@ -59,8 +59,8 @@ law_of_first_rounds listed rounds more = first_rounds listed (kept_at_start list
 pub law_of_runs : LawOfRuns
 law_of_runs n listed feed room es batches some differ honest cut =
     ap (collected_text listed) (law_of_batches n batches some ∙ ap (map (round_of n)) (sym cut))
-    ∙ law_of_workers n listed (trace room (ids_of listed) es) some differ (law_of_ascent listed room es)
-    ∙ shows_what_is_owed listed feed (trace room (ids_of listed) es) honest.complete (honest_moves_agree listed feed room es honest)
+    ∙ law_of_workers n listed (trace (channel_of listed room) es) some differ (law_of_ascent listed room es)
+    ∙ shows_what_is_owed listed feed (trace (channel_of listed room) es) honest.complete (honest_moves_agree listed feed room es honest)
 
 moments-append : (listed : List Instrument) (before moves more : List Move) → moments_after listed before (moves ++ more) ≡ moments_after listed before moves ++ moments_after listed (before ++ moves) more
 moments-append listed before [] more = ap (λ (b : List Move). moments_after listed b more) (sym (append-nil before))

@@ -10,7 +10,7 @@ use Rattle.mdp_quotes.specs.declared.best.Best.{Best}
 use Rattle.mdp_print.specs.Texts.{jump_line}
 use Rattle.mdp_arbiter.specs.Machine.{Move}
 use Rattle.mdp_arbiter.specs.Machine.Move.{passed, jumped}
-use Rattle.mdp_arbiter.specs.Slots.{ids_of}
+use Rattle.mdp_arbiter.specs.Channel.{ids_of}
 use Rattle.mdp_desks.specs.Lines.{Seen}
 use Rattle.mdp_desks.specs.Shown.{Start, Shown, shown, started, opening, shown_through, shown_seen, shown_at, shown_from, shown_after}
 use Rattle.mdp_desks.proofs.Showing.{shown-push}

@@ -1,19 +1,18 @@
 -- What n workers report, joined in slot order and audited by what was kept, is what the moves show.
-use Rattle.std.specs.Prelude.{◌≡◌, ◌≢◌, ◌≤◌, ℕ, ◌+◌, Bool, List, [], ◌∷◌, ◌++◌, length, map, ⊤}
+use Rattle.std.specs.Prelude.{◌≡◌, ◌≢◌, ◌≤◌, ℕ, ◌+◌, List, [], ◌∷◌, ◌++◌, length, map, ⊤}
 use Rattle.std.specs.List.{AllPairs, flat_map}
 use Rattle.mdp_templates.specs.declared.instrument.Instrument.{Instrument}
 use Rattle.mdp_templates.specs.Packet.{PacketContent}
 use Rattle.mdp_arbiter.specs.Accepted.{Event}
 use Rattle.mdp_arbiter.specs.Machine.{Move, trace}
 use Rattle.mdp_arbiter.specs.Machine.Move.{passed, jumped}
-use Rattle.mdp_arbiter.specs.Slots.{ids_of}
+use Rattle.mdp_arbiter.specs.Channel.{ids_of, channel_of}
 use Rattle.mdp_desks.specs.Shown.{shown_lines}
 use Rattle.mdp_engine.specs.Owed.{steps_of}
 use Rattle.mdp_engine.specs.Owed.{lines}
 use Rattle.mdp_engine.specs.Honest.{IsHonest}
-use Rattle.mdp_desks.specs.Moments.{Moment, moment_text, moments, moments_after, moments_by}
-use Rattle.mdp_desks.specs.Shares.{own, own_slots, own_moves}
-use Rattle.mdp_desks.specs.Reports.{Report, report_by, report_of}
+use Rattle.mdp_desks.specs.Moments.{Moment, moments, moments_by}
+use Rattle.mdp_desks.specs.Reports.{Report}
 use Rattle.mdp_engine.specs.Rounds.{collected_text, round_of}
 use Rattle.mdp_engine.specs.Rounds.{batch_of, all_rounds_in}
 
@@ -30,7 +29,7 @@ LawOfWorkers = (n : ℕ) (listed : List Instrument) (moves : List Move) → 1 �
 
 -- the recovery machine's moves ascend, whatever came
 abbrev pub LawOfAscent : Type 0
-LawOfAscent = (listed : List Instrument) (room : ℕ) (es : List Event) → Ascend listed 1 (trace room (ids_of listed) es)
+LawOfAscent = (listed : List Instrument) (room : ℕ) (es : List Event) → Ascend listed 1 (trace (channel_of listed room) es)
 
 -- batches of reports are the rounds of all their moments, however the moments are cut into batches
 abbrev pub LawOfBatches : Type 0
@@ -45,8 +44,8 @@ LawOfFirstRounds = (listed : List Instrument) (rounds more : List (List Report))
 abbrev pub LawOfRuns : Type 0
 LawOfRuns = (n : ℕ) (listed : List Instrument) (feed : List PacketContent) (room : ℕ) (es : List Event) (batches : List (List Moment))
     → 1 ≤ n → AllPairs (λ a b. a ≢ b) (ids_of listed) → IsHonest (ids_of listed) feed es
-    → moments listed (trace room (ids_of listed) es) ≡ flat_map (λ (ms : List Moment). ms) batches
-    → collected_text listed (all_rounds_in (map (batch_of n) batches)) ≡ lines listed feed (steps_of (trace room (ids_of listed) es))
+    → moments listed (trace (channel_of listed room) es) ≡ flat_map (λ (ms : List Moment). ms) batches
+    → collected_text listed (all_rounds_in (map (batch_of n) batches)) ≡ lines listed feed (steps_of (trace (channel_of listed room) es))
 
 -- the moments of moves that come batch by batch are those of all of them
 abbrev pub LawOfCuts : Type 0

@@ -6,7 +6,7 @@ use Rattle.mdp_quotes.specs.declared.best.Best.{Best}
 use Rattle.mdp_books.specs.Book.{empty_book}
 use Rattle.mdp_quotes.specs.Best.{best_of}
 use Rattle.mdp_print.specs.Texts.{jump_line}
-use Rattle.mdp_arbiter.specs.Slots.{ids_of}
+use Rattle.mdp_arbiter.specs.Channel.{ids_of}
 use Rattle.mdp_engine.specs.declared.spreads.Spread.{Spread}
 use Rattle.mdp_engine.specs.Spreads.{spreads_from}
 use Rattle.mdp_desks.specs.Lines.{verdicts_text}

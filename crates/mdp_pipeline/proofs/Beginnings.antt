@@ -17,7 +17,7 @@ use Rattle.mdp_print.specs.declared.feed.Feed.{Feed}
 use Rattle.mdp_capture.specs.Record.{RecordContent, Received, Datagram, Close}
 use Rattle.mdp_arbiter.specs.Accepted.{Event, came, recovered, closed}
 use Rattle.mdp_arbiter.specs.Machine.{Move, state_at, trace, go_on, is_lost}
-use Rattle.mdp_arbiter.specs.Slots.{ids_of}
+use Rattle.mdp_arbiter.specs.Channel.{Channel, channel_of}
 use Rattle.mdp_arbiter.proofs.Runs.{law_of_fronts}
 use Rattle.mdp_engine.specs.Engine.{View, Stands}
 use Rattle.mdp_desks.specs.Shown.{showed, shown_after, shown_lines}
@@ -94,14 +94,14 @@ shown_after-append listed before (m ∷ moves) more =
 abbrev shown_later : List Instrument → ℕ → List Reading → List Reading → List ℕ
 shown_later listed room readings more =
     let moves = moves_of listed room (events_of readings) in
-    shown_after listed moves (go_on room (ids_of listed) (events_of readings) (state_at room (ids_of listed) (events_of readings)) (events_of more))
+    shown_after listed moves (go_on (channel_of listed room) (events_of readings) (state_at (channel_of listed room) (events_of readings)) (events_of more))
 
 shown-front : (listed : List Instrument) (room : ℕ) (readings more : List Reading) → shown_lines listed (moves_of listed room (events_of (readings ++ more))) ≡ shown_lines listed (moves_of listed room (events_of readings)) ++ shown_later listed room readings more
 shown-front listed room readings more =
     let es = events_of readings in
-    let later = go_on room (ids_of listed) es (state_at room (ids_of listed) es) (events_of more) in
-    ap (λ (t : List Event). shown_lines listed (trace room (ids_of listed) t)) (flat_map-append (λ (r : Reading). brought_by r.said) readings more)
-    ∙ ap (shown_lines listed) (law_of_fronts room (ids_of listed) es (events_of more))
+    let later = go_on (channel_of listed room) es (state_at (channel_of listed room) es) (events_of more) in
+    ap (λ (t : List Event). shown_lines listed (trace (channel_of listed room) t)) (flat_map-append (λ (r : Reading). brought_by r.said) readings more)
+    ∙ ap (shown_lines listed) (law_of_fronts (channel_of listed room) es (events_of more))
     ∙ shown_after-append listed [] (moves_of listed room (events_of readings)) later
 
 -- ---- a beginning
@@ -145,7 +145,7 @@ begins_so_far listed room arrivals done left start taken taken' engine held refu
     let front = so_far.sent ++ held in
     let shown : front ≡ shown_lines listed (moves_of listed room (events_of readings)) =
     sym (append-nil front) ∙ ap (λ (t : List ℕ). front ++ t) (sym run.drained) ∙ run.stands.shows.text_is
-    ∙ ap (λ (r : ℕ). shown_lines listed (trace r (ids_of listed) (events_of readings))) run.covers in
+    ∙ ap (λ (c : Channel). shown_lines listed (trace c (events_of readings))) run.channel in
     record {
       text = text_of listed room all;
       next = next_after listed room (events_of all);
@@ -166,8 +166,8 @@ begins_at_end listed room arrivals start taken taken' engine held refusals n wen
 -- The text went out, and of the refusals and the last line so many bytes.
 pub begins_in_end : (listed : List Instrument) (room : ℕ) (arrivals : List Arrival) (start taken taken' : List ℕ) (engine : View) (held end : List ℕ) (refusals : RefusalTexts) (next : ℕ) (lost : Bool) (n : ℕ)
     → taken' ≡ (taken ++ held) ++ take n end → end ≡ (refusals.a ++ (refusals.b ++ refusals.s)) ++ last_line next lost
-    → ((listed : List Instrument) (es : List Event) (drained : List ℕ) → Stands listed es drained engine → next ≡ (state_at engine.arbiter.room (ids_of listed) es).next)
-    → ((listed : List Instrument) (es : List Event) (drained : List ℕ) → Stands listed es drained engine → lost ≡ is_lost engine.arbiter.room es (state_at engine.arbiter.room (ids_of listed) es))
+    → ((listed : List Instrument) (es : List Event) (drained : List ℕ) → Stands listed es drained engine → next ≡ (state_at engine.arbiter.channel es).next)
+    → ((listed : List Instrument) (es : List Event) (drained : List ℕ) → Stands listed es drained engine → lost ≡ is_lost engine.arbiter.channel es (state_at engine.arbiter.channel es))
     → Writes listed room arrivals start taken engine held refusals → BeginsAll listed room arrivals start taken'
 begins_in_end listed room arrivals start taken taken' engine held end refusals next lost n went end_is next_is lost_is so_far =
     let all = all_written listed room arrivals start taken ((taken ++ held) ++ end) engine held end refusals next lost refl end_is next_is lost_is so_far in

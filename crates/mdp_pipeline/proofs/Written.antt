@@ -1,7 +1,7 @@
 -- What a run has written, record by record.
 use Rattle.std.proofs.Common.{◌≡◌, ℕ, ◌+◌, ◌<◌, Bool, true, false, cond, List, [], ◌∷◌, ◌++◌, map, take, length, get_or, refl, sym, ap, subst, ◌∙◌, append_assoc, arith}
 use Rattle.std.specs.Prelude.{Result, Ok, Err, IfOk, IfErr, ◌^◌, ◌-◌}
-use Rattle.std.specs.List.{AllByRecursion, filter, flat_map}
+use Rattle.std.specs.List.{AllByRecursion}
 use Rattle.std.proofs.Math.Nat.{zero-min}
 use Rattle.std.proofs.lemmas.List.{append-nil, map-append, take_more}
 use Rattle.std.proofs.lemmas.List.Elements.{filter-append}
@@ -14,7 +14,7 @@ use Rattle.mdp_print.specs.declared.feed.Feed.TheVariants as feeds
 use Rattle.mdp_capture.specs.Record.{RecordContent}
 use Rattle.mdp_arbiter.specs.Accepted.{Event, recovered}
 use Rattle.mdp_arbiter.specs.Machine.{state_at, trace, is_lost}
-use Rattle.mdp_arbiter.specs.Slots.{ids_of}
+use Rattle.mdp_arbiter.specs.Channel.{Channel}
 use Rattle.mdp_engine.specs.Engine.{View, Stands}
 use Rattle.mdp_desks.specs.Shown.{shown_lines}
 use Rattle.mdp_pipeline.specs.declared.run.Run.{Run}
@@ -92,7 +92,7 @@ read_more listed room readings feed entry sent old new takes run =
     record {
       stands = subst (λ (es : List Event). Stands listed es (sent ++ new.text.items) new.engine) (sym (events-push readings reading)) (takes.takes.goes.stands listed (events_of readings) sent run.stands);
       drained = takes.takes.goes.drained run.drained;
-      covers = takes.takes.goes.room ∙ run.covers;
+      channel = takes.takes.goes.channel ∙ run.channel;
       refusals_are = takes.takes.refusals ∙ ap (after_said feed entry.line takes.said) run.refusals_are ∙ sym (refusals-push readings feed entry takes.said);
     }
 
@@ -165,8 +165,8 @@ taken_all listed room a b s start taken engine held refusals a' b' s' none so_fa
 
 pub all_written : (listed : List Instrument) (room : ℕ) (arrivals : List Arrival) (start taken taken' : List ℕ) (engine : View) (held end : List ℕ) (refusals : RefusalTexts) (next : ℕ) (lost : Bool)
     → taken' ≡ (taken ++ held) ++ end → end ≡ (refusals.a ++ (refusals.b ++ refusals.s)) ++ last_line next lost
-    → ((listed : List Instrument) (es : List Event) (drained : List ℕ) → Stands listed es drained engine → next ≡ (state_at engine.arbiter.room (ids_of listed) es).next)
-    → ((listed : List Instrument) (es : List Event) (drained : List ℕ) → Stands listed es drained engine → lost ≡ is_lost engine.arbiter.room es (state_at engine.arbiter.room (ids_of listed) es))
+    → ((listed : List Instrument) (es : List Event) (drained : List ℕ) → Stands listed es drained engine → next ≡ (state_at engine.arbiter.channel es).next)
+    → ((listed : List Instrument) (es : List Event) (drained : List ℕ) → Stands listed es drained engine → lost ≡ is_lost engine.arbiter.channel es (state_at engine.arbiter.channel es))
     → Writes listed room arrivals start taken engine held refusals
     → (text : List ℕ) × (taken' ≡ start ++ text) × PrintsAll listed room arrivals text next lost
 all_written listed room arrivals start taken taken' engine held end refusals next lost went end_is next_is lost_is so_far =
@@ -174,8 +174,8 @@ all_written listed room arrivals start taken taken' engine held end refusals nex
     let es = events_of readings in
     let run = so_far.over.run in
     let front = so_far.sent ++ held in
-    let next_after_all : next ≡ next_after listed room es = next_is listed es front run.stands ∙ ap (λ (r : ℕ). next_after listed r es) run.covers in
-    let lost_after_all : lost ≡ is_lost_after listed room es = lost_is listed es front run.stands ∙ ap (λ (r : ℕ). is_lost_after listed r es) run.covers in
+    let next_after_all : next ≡ next_after listed room es = next_is listed es front run.stands ∙ ap (λ (c : Channel). (state_at c es).next) run.channel in
+    let lost_after_all : lost ≡ is_lost_after listed room es = lost_is listed es front run.stands ∙ ap (λ (c : Channel). is_lost c es (state_at c es)) run.channel in
     let ending : end ≡ refusals_text (by_feed readings) ++ last_line (next_after listed room es) (is_lost_after listed room es) =
     end_is
     ∙ ap (λ (t : RefusalTexts). (t.a ++ (t.b ++ t.s)) ++ last_line next lost) run.refusals_are
@@ -193,7 +193,7 @@ all_written listed room arrivals start taken taken' engine held end refusals nex
         shown =
             let front_is : front ≡ shown_lines listed (moves_of listed room es) =
             sym (append-nil front) ∙ ap (λ (t : List ℕ). front ++ t) (sym run.drained) ∙ run.stands.shows.text_is
-            ∙ ap (λ (r : ℕ). shown_lines listed (moves_of listed r es)) run.covers in
+            ∙ ap (λ (c : Channel). shown_lines listed (trace c es)) run.channel in
             ap (λ (t : List ℕ). t ++ end) front_is ∙ ap (λ (t : List ℕ). shown_lines listed (moves_of listed room es) ++ t) ending;
       },
     )

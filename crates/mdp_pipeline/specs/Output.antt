@@ -6,7 +6,7 @@ use Rattle.mdp_print.specs.Texts.{last_line}
 use Rattle.mdp_capture.specs.Record.{RecordContent}
 use Rattle.mdp_arbiter.specs.Accepted.{Event}
 use Rattle.mdp_arbiter.specs.Machine.{Move, is_lost, state_at, trace}
-use Rattle.mdp_arbiter.specs.Slots.{ids_of}
+use Rattle.mdp_arbiter.specs.Channel.{ids_of, channel_of}
 use Rattle.mdp_desks.specs.Shown.{shown_lines}
 use Rattle.mdp_engine.specs.Honest.{IsHonest}
 use Rattle.mdp_engine.specs.Owed.{lines, steps_of}
@@ -17,13 +17,13 @@ use Rattle.mdp_pipeline.specs.Merging.{Tagged, IsMerge, IsByLine, events_in}
 
 -- The moves of the recovery machine, the number of the packet that comes next, and whether the receiver is lost then.
 abbrev pub moves_of : List Instrument → ℕ → List Event → List Move
-moves_of listed room events = trace room (ids_of listed) events
+moves_of listed room events = trace (channel_of listed room) events
 
 abbrev pub next_after : List Instrument → ℕ → List Event → ℕ
-next_after listed room events = (state_at room (ids_of listed) events).next
+next_after listed room events = (state_at (channel_of listed room) events).next
 
 abbrev pub is_lost_after : List Instrument → ℕ → List Event → Bool
-is_lost_after listed room events = is_lost room events (state_at room (ids_of listed) events)
+is_lost_after listed room events = is_lost (channel_of listed room) events (state_at (channel_of listed room) events)
 
 -- what stands behind the moves' lines: those of the refused datagrams, and the last line
 abbrev pub end_lines : List Instrument → ℕ → List ℕ → List Event → List ℕ

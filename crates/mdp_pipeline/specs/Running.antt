@@ -3,6 +3,7 @@ use Rattle.std.specs.Prelude.{◌≡◌, ℕ, List, [], ◌∷◌, ◌++◌, Boo
 use Rattle.mdp_templates.specs.declared.instrument.Instrument.{Instrument}
 use Rattle.mdp_print.specs.declared.feed.Feed.{Feed}
 use Rattle.mdp_print.specs.declared.feed.Feed.TheVariants as feeds
+use Rattle.mdp_arbiter.specs.Channel.{channel_of}
 use Rattle.mdp_arbiter.specs.Accepted.{Event}
 use Rattle.mdp_engine.specs.Engine.{View, Stands}
 use Rattle.mdp_pipeline.specs.Merge.{Arrival}
@@ -26,7 +27,7 @@ after_said feed line (refused refusal) texts = with_refusal feed line refusal te
 pub record GoesOn (events : List Event) (engine : View) (text : List ℕ) (engine' : View) (text' : List ℕ) : Type 0 where
   pub stands : (listed : List Instrument) (before : List Event) (sent : List ℕ) → Stands listed before (sent ++ text) engine → Stands listed (before ++ events) (sent ++ text') engine'
   pub drained : engine.held ≡ [] → engine'.held ≡ []
-  pub room : engine'.arbiter.room ≡ engine.arbiter.room
+  pub channel : engine'.arbiter.channel ≡ engine.arbiter.channel
 
 -- a run has taken in what a record says
 pub record TakesSaid {A : Type 0} (feed : Feed) (line : ℕ) (said : Said) (old new : Run A) : Type 0 where
@@ -43,7 +44,7 @@ pub record TakesAs {A : Type 0} (kind : Kind) (feed : Feed) (line : ℕ) (receiv
 pub record HasRun (listed : List Instrument) (room : ℕ) (readings : List Reading) (engine : View) (text : List ℕ) (refusals : RefusalTexts) : Type 0 where
   pub stands : Stands listed (events_of readings) text engine
   pub drained : engine.held ≡ []
-  pub covers : engine.arbiter.room ≡ room
+  pub channel : engine.arbiter.channel ≡ channel_of listed room
   pub refusals_are : refusals ≡ refusals_of readings
 
 -- a record more, and what it says
