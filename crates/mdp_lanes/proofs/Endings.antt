@@ -2,8 +2,8 @@
 use Rattle.std.proofs.Common.{◌≡◌, ◌+◌, ◌≤◌, Bool, true, false, true≢false, not, ◌||◌, ◌&&◌, cond, List, [], ◌∷◌, ◌++◌, sym, refl, ap, ◌∙◌, arith}
 use Rattle.std.specs.List.{list_any, count_by}
 use Rattle.std.proofs.lemmas.List.Sums.{sum_by-cons, sum_by_push}
-use Rattle.mdp_lanes.specs.declared.tag.Tag.{Tag}
-use Rattle.mdp_lanes.specs.declared.tag.Tag.TheVariants.{A, B, S}
+use Rattle.mdp_templates.specs.declared.feed.Feed.{Feed}
+use Rattle.mdp_templates.specs.declared.feed.Feed.TheVariants.{A, B, S}
 use Rattle.mdp_lanes.specs.Items.{items_of, ends_taken, ends_last, EndsLast}
 
 module _ {I : Type 0} (is_end : I → Bool) where
@@ -31,20 +31,20 @@ module _ {I : Type 0} (is_end : I → Bool) where
       elim (is_end y) as (λ b. (b || list_any is_end xs) ≡ false → (b || list_any is_end (xs ++ x ∷ [])) ≡ is_end x)
       [ true ↦ λ d. absurd (true≢false d) | false ↦ λ d. longer_has_end xs x d ] e
 
-  pub ends_taken-append : (xs : List (Tag × I)) (m : Tag × I) → ends_taken is_end (xs ++ m ∷ []) ≡ ends_taken is_end xs + cond (is_end m.1) 1 0
+  pub ends_taken-append : (xs : List (Feed × I)) (m : Feed × I) → ends_taken is_end (xs ++ m ∷ []) ≡ ends_taken is_end xs + cond (is_end m.1) 1 0
   ends_taken-append xs m = sum_by_push (λ n. cond (is_end n.1) 1 0) xs m
 
   count-cons : (x : I) (xs : List I) → count_by is_end (x ∷ xs) ≡ cond (is_end x) 1 0 + count_by is_end xs
   count-cons x xs = sum_by-cons (λ y. cond (is_end y) 1 0) x xs
 
   -- what was taken has the ends of the three tags
-  ends_by_tags : (ms : List (Tag × I))
+  ends_by_tags : (ms : List (Feed × I))
       → ends_taken is_end ms ≡ count_by is_end (items_of A ms) + count_by is_end (items_of B ms) + count_by is_end (items_of S ms)
   ends_by_tags [] = refl
   ends_by_tags (m ∷ ms) =
-      let P : Tag → Type 0 = λ tag. cond (is_end m.1) 1 0 + ends_taken is_end ms ≡ count_by is_end (items_of A ((tag, m.1) ∷ ms)) + count_by is_end (items_of B ((tag, m.1) ∷ ms)) + count_by is_end (items_of S ((tag, m.1) ∷ ms)) in
+      let P : Feed → Type 0 = λ tag. cond (is_end m.1) 1 0 + ends_taken is_end ms ≡ count_by is_end (items_of A ((tag, m.1) ∷ ms)) + count_by is_end (items_of B ((tag, m.1) ∷ ms)) + count_by is_end (items_of S ((tag, m.1) ∷ ms)) in
       let rest = ends_by_tags ms in
-      let each : (tag : Tag) → P tag = elim [
+      let each : (tag : Feed) → P tag = elim [
         | A ↦ omega (arith, rest, count-cons m.1 (items_of A ms))
         | B ↦ omega (arith, rest, count-cons m.1 (items_of B ms))
         | S ↦ omega (arith, rest, count-cons m.1 (items_of S ms))
@@ -59,7 +59,7 @@ module _ {I : Type 0} (is_end : I → Bool) where
       omega (arith, few, count-cons x (y ∷ xs))
 
   -- so three senders end three times at most
-  pub three_ends : (ms : List (Tag × I)) → ((tag : Tag) → EndsLast is_end (items_of tag ms)) → ends_taken is_end ms ≤ 3
+  pub three_ends : (ms : List (Feed × I)) → ((tag : Feed) → EndsLast is_end (items_of tag ms)) → ends_taken is_end ms ≤ 3
   three_ends ms e =
       let a = one_end (items_of A ms) (e A) in
       let b = one_end (items_of B ms) (e B) in
@@ -67,14 +67,14 @@ module _ {I : Type 0} (is_end : I → Bool) where
       let all = ends_by_tags ms in omega arith
 
   -- and where they ended three times, each has ended
-  pub each_ended : (ms : List (Tag × I)) → ((tag : Tag) → EndsLast is_end (items_of tag ms)) → ends_taken is_end ms ≡ 3
-      → (tag : Tag) → count_by is_end (items_of tag ms) ≡ 1
+  pub each_ended : (ms : List (Feed × I)) → ((tag : Feed) → EndsLast is_end (items_of tag ms)) → ends_taken is_end ms ≡ 3
+      → (tag : Feed) → count_by is_end (items_of tag ms) ≡ 1
   each_ended ms e three tag =
       let a = one_end (items_of A ms) (e A) in
       let b = one_end (items_of B ms) (e B) in
       let s = one_end (items_of S ms) (e S) in
       let all = ends_by_tags ms in
-      let each : (t : Tag) → count_by is_end (items_of t ms) ≡ 1 = elim [ A ↦ omega arith | B ↦ omega arith | S ↦ omega arith ] in each tag
+      let each : (t : Feed) → count_by is_end (items_of t ms) ≡ 1 = elim [ A ↦ omega arith | B ↦ omega arith | S ↦ omega arith ] in each tag
 
   -- nothing stands behind an end
   pub nothing_behind : (xs ys : List I) → count_by is_end xs ≡ 1 → EndsLast is_end (xs ++ ys) → xs ++ ys ≡ xs

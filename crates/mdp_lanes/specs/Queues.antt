@@ -6,7 +6,7 @@ use Rattle.crossbeam_channel.specs.declared.flavors.array.Key.{Key}
 use Rattle.crossbeam_channel.specs.declared.flavors.array.Rows.{Rows}
 use Rattle.crossbeam_channel.specs.Claims.{Pass}
 use Rattle.crossbeam_channel.specs.Ends.{ruled_capacity}
-use Rattle.mdp_lanes.specs.declared.tag.Tag.{Tag}
+use Rattle.mdp_templates.specs.declared.feed.Feed.{Feed}
 
 -- which queue of messages of type M an end belongs to, and for how many messages it has room
 pub record Queue (M : Type 0) : Type 0 where
@@ -20,14 +20,14 @@ queue_of pass channel = record { table = pass.table_id; store = pass.me.0.of; ro
 
 -- an intake's sender: its intake, its tag, and all that it has put
 pub record IntakeSenderView (I : Type 0) : Type 0 where
-  pub intake : Queue (Tag × I)
-  pub tag : Tag
+  pub intake : Queue (Feed × I)
+  pub tag : Feed
   pub sent : List I
 
 -- an intake's receiver: its intake, and all that it has taken, each item with the tag of its sender
 pub record IntakeReceiverView (I : Type 0) : Type 0 where
-  pub intake : Queue (Tag × I)
-  pub taken : List (Tag × I)
+  pub intake : Queue (Feed × I)
+  pub taken : List (Feed × I)
 
 -- a lane's sender: its lane, and all that it has put
 pub record LaneSenderView (T : Type 0) : Type 0 where
@@ -40,9 +40,9 @@ pub record LaneReceiverView (T : Type 0) : Type 0 where
   pub taken : List T
 
 -- the sender with this tag of the receiver's intake
-abbrev pub IsSenderOf : {I : Type 0} → IntakeReceiverView I → Tag → IntakeSenderView I → Type 0
+abbrev pub IsSenderOf : {I : Type 0} → IntakeReceiverView I → Feed → IntakeSenderView I → Type 0
 IsSenderOf r tag s = (s.intake ≡ r.intake) × (s.tag ≡ tag)
 
 -- such a sender, which has put nothing yet
-abbrev pub IsFreshSenderOf : {I : Type 0} → IntakeReceiverView I → Tag → IntakeSenderView I → Type 0
+abbrev pub IsFreshSenderOf : {I : Type 0} → IntakeReceiverView I → Feed → IntakeSenderView I → Type 0
 IsFreshSenderOf r tag s = (s.intake ≡ r.intake) × (s.tag ≡ tag) × (s.sent ≡ [])

@@ -8,21 +8,20 @@ ghost use Rattle.mdp_lanes.specs.Queues.{IsSenderOf, IsFreshSenderOf};
 use crate::ends::Ends;
 use crate::retry;
 use crate::rule::{Account, Knowledge};
-use crate::tag::Tag;
 use crossbeam_channel::protocol::{Lesson, Outcome, Protocol};
 use crossbeam_channel::{Pass, RuledReceiver, RuledSender, bounded_with};
-use mdp_templates::Memory;
+use mdp_templates::{Feed, Memory};
 use std::alloc::Allocator;
 use std::marker::{Model, PhantomData};
 use std::sync::Wait;
 
 // What an end knows: a key is a tag, and an item is sent with it.
-type Known<I> = Knowledge<Tag, I, (Tag, I)>;
+type Known<I> = Knowledge<Feed, I, (Feed, I)>;
 
 // Of each tag, what was taken and what the queue holds is what was sent, and nothing was sent behind an end.
 struct EachInOrder;
 
-impl<I: Ends> Protocol<(Tag, I), Known<I>> for EachInOrder {
+impl<I: Ends> Protocol<(Feed, I), Known<I>> for EachInOrder {
     ghost use Rattle.std.specs.Prelude.{[]};
     ghost use Rattle.mdp_lanes.specs.Rule.{receiver, Delivers};
     ghost use Rattle.mdp_lanes.specs.Items.{items_of, EndsLast};
@@ -35,29 +34,29 @@ impl<I: Ends> Protocol<(Tag, I), Known<I>> for EachInOrder {
 
 struct Put;
 
-impl<I: Ends> Outcome<(Tag, I), Known<I>> for Put {
+impl<I: Ends> Outcome<(Feed, I), Known<I>> for Put {
     ghost use Rattle.mdp_lanes.specs.Intakes.{Puts};
 
     ghost then = { Puts };
 }
 
-impl<I: Ends> Lesson<(Tag, I), Known<I>> for Put {
+impl<I: Ends> Lesson<(Feed, I), Known<I>> for Put {
     ghost fact = { λ _ _. ⊤ };
 }
 
 struct Take;
 
-impl<I: Ends> Outcome<(Tag, I), Known<I>> for Take {
+impl<I: Ends> Outcome<(Feed, I), Known<I>> for Take {
     ghost use Rattle.mdp_lanes.specs.Intakes.{Takes};
 
     ghost then = { Takes I.is_end };
 }
 
-impl<I: Ends> Lesson<(Tag, I), Known<I>> for Take {
+impl<I: Ends> Lesson<(Feed, I), Known<I>> for Take {
     ghost fact = { λ _ _. ⊤ };
 }
 
-impl<I: Ends> Lesson<(Tag, I), Known<I>> for Account {
+impl<I: Ends> Lesson<(Feed, I), Known<I>> for Account {
     ghost use Rattle.mdp_lanes.specs.Rule.{Accounts};
     ghost use Rattle.mdp_lanes.specs.Items.{items_of};
 
@@ -67,9 +66,9 @@ impl<I: Ends> Lesson<(Tag, I), Known<I>> for Account {
 /// The end that puts items under one tag. A contract sees its intake, its tag, and the list of all that it has put.
 #[derive(Drop)]
 pub struct IntakeSender<I: Ends, A: Allocator + Copy> {
-    channel: RuledSender<(Tag, I), Known<I>, EachInOrder, A>,
-    pass: Pass<(Tag, I), Known<I>>,
-    tag: Tag,
+    channel: RuledSender<(Feed, I), Known<I>, EachInOrder, A>,
+    pass: Pass<(Feed, I), Known<I>>,
+    tag: Feed,
     ended: bool,
 }
 
@@ -101,8 +100,8 @@ impl<I: Ends, A: Allocator + Copy> Model for IntakeSender<I, A> {
 /// its sender.
 #[derive(Drop)]
 pub struct IntakeReceiver<I: Ends, A: Allocator + Copy> {
-    channel: RuledReceiver<(Tag, I), Known<I>, EachInOrder, A>,
-    pass: Pass<(Tag, I), Known<I>>,
+    channel: RuledReceiver<(Feed, I), Known<I>, EachInOrder, A>,
+    pass: Pass<(Feed, I), Known<I>>,
     ends: u8,
 }
 
@@ -159,7 +158,7 @@ impl<I: Ends, A: Allocator + Copy> IntakeReceiver<I, A> {
 
     /// Takes the item at the front of the queue, with the tag of its sender. It waits while the queue is empty, and
     /// does not return where the senders are gone, too.
-    pub fn take<R: Wait>(&mut self, rt: &R) -> (Tag, I)
+    pub fn take<R: Wait>(&mut self, rt: &R) -> (Feed, I)
         ensures { self.new ≡ record self.old { taken = self.old.taken ++ result ∷ [] } }
     {
         let message = retry::receive::<_, _, _, Take, R, A>(rt, &self.channel, &mut self.pass);
@@ -192,13 +191,13 @@ impl<I: Ends> Intake<I> {
     >
         requires least { 1 ≤ capacity }
         requires most { capacity ≤ 65536 }
-        ensures a { IfOk result (λ ends. IsFreshSenderOf ends.3 Tag.A ends.0) }
-        ensures b { IfOk result (λ ends. IsFreshSenderOf ends.3 Tag.B ends.1) }
-        ensures s { IfOk result (λ ends. IsFreshSenderOf ends.3 Tag.S ends.2) }
+        ensures a { IfOk result (λ ends. IsFreshSenderOf ends.3 Feed.A ends.0) }
+        ensures b { IfOk result (λ ends. IsFreshSenderOf ends.3 Feed.B ends.1) }
+        ensures s { IfOk result (λ ends. IsFreshSenderOf ends.3 Feed.S ends.2) }
         ensures receiver { IfOk result (λ ends. ends.3.taken ≡ []) }
         ensures room { IfOk result (λ ends. ends.3.intake.room ≡ capacity) }
     {
-        let (channel, receiving, mut pass) = bounded_with::<(Tag, I), Known<I>, EachInOrder, A>(
+        let (channel, receiving, mut pass) = bounded_with::<(Feed, I), Known<I>, EachInOrder, A>(
             alloc, capacity,
         )?;
         let b_channel = channel.try_clone()?;
@@ -209,19 +208,19 @@ impl<I: Ends> Intake<I> {
         let a = IntakeSender {
             channel,
             pass: a_pass,
-            tag: Tag::A,
+            tag: Feed::A,
             ended: false,
         };
         let b = IntakeSender {
             channel: b_channel,
             pass: b_pass,
-            tag: Tag::B,
+            tag: Feed::B,
             ended: false,
         };
         let s = IntakeSender {
             channel: s_channel,
             pass: s_pass,
-            tag: Tag::S,
+            tag: Feed::S,
             ended: false,
         };
         let receiver = IntakeReceiver {
@@ -240,13 +239,13 @@ impl<I: Ends> Intake<I> {
         b: IntakeSender<I, A>,
         s: IntakeSender<I, A>,
     )
-        requires a { IsSenderOf receiver Tag.A a }
-        requires b { IsSenderOf receiver Tag.B b }
-        requires s { IsSenderOf receiver Tag.S s }
+        requires a { IsSenderOf receiver Feed.A a }
+        requires b { IsSenderOf receiver Feed.B b }
+        requires s { IsSenderOf receiver Feed.S s }
         requires ends { ends_taken I.is_end receiver.taken ≡ 3 }
-        ensures a { items_of Tag.A receiver.taken ≡ a.sent }
-        ensures b { items_of Tag.B receiver.taken ≡ b.sent }
-        ensures s { items_of Tag.S receiver.taken ≡ s.sent }
+        ensures a { items_of Feed.A receiver.taken ≡ a.sent }
+        ensures b { items_of Feed.B receiver.taken ≡ b.sent }
+        ensures s { items_of Feed.S receiver.taken ≡ s.sent }
     {
         let IntakeReceiver { mut pass, .. } = receiver;
         let IntakeSender {

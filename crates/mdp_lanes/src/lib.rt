@@ -15,11 +15,9 @@ mod intake;
 mod lane;
 mod retry;
 mod rule;
-mod tag;
 #[cfg(test)]
 mod tests;
 
 pub use ends::Ends;
 pub use intake::{Intake, IntakeReceiver, IntakeSender};
 pub use lane::{Lane, LaneReceiver, LaneSender};
-pub use tag::Tag;

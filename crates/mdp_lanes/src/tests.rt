@@ -4,9 +4,9 @@ ghost use Rattle.std.specs.Prelude.{◌≡◌, ◌≤◌, IfOk};
 ghost use Rattle.mdp_lanes.specs.Items.{ends_taken};
 ghost use Rattle.mdp_lanes.specs.Queues.{IsSenderOf, IsFreshSenderOf};
 
-use crate::{Ends, Intake, IntakeReceiver, IntakeSender, Lane, LaneReceiver, LaneSender, Tag};
+use crate::{Ends, Intake, IntakeReceiver, IntakeSender, Lane, LaneReceiver, LaneSender};
 use arrayvec::ArrayVec;
-use mdp_templates::{Memory, Message, Packet, Snapshot};
+use mdp_templates::{Feed, Memory, Message, Packet, Snapshot};
 use refusing::Refusing;
 use std::alloc::{AllocError, Allocator, Global};
 use std::process::Abort;
@@ -94,19 +94,19 @@ fn put_one<R: Wait, A: Allocator + Copy>(rt: &R, sender: &mut IntakeSender<Item,
 }
 
 /// Puts the packets of feed A or B, or the snapshots of feed S and a close, and then the end.
-fn put_all<R: Wait>(rt: &R, alloc: Global, mut sender: Sender, tag: Tag) -> Sender
+fn put_all<R: Wait>(rt: &R, alloc: Global, mut sender: Sender, tag: Feed) -> Sender
     ensures intake { result.intake ≡ sender.intake }
     ensures tag { result.tag ≡ sender.tag }
 {
     for number in 0..MANY {
         let item = match tag {
-            Tag::A => Item::Packet(packet(alloc, number)),
-            Tag::B => Item::Packet(packet(alloc, 5000 + number)),
-            Tag::S => Item::Snapshot(snapshot(number)),
+            Feed::A => Item::Packet(packet(alloc, number)),
+            Feed::B => Item::Packet(packet(alloc, 5000 + number)),
+            Feed::S => Item::Snapshot(snapshot(number)),
         };
         put_one(rt, &mut sender, item);
     }
-    if tag == Tag::S {
+    if tag == Feed::S {
         put_one(rt, &mut sender, Item::Close);
     }
     put_one(rt, &mut sender, Item::End);
@@ -128,7 +128,7 @@ fn start<R: Threads + Wait + Copy + Send + 'static>(
     rt: R,
     alloc: Global,
     sender: Sender,
-    tag: Tag,
+    tag: Feed,
 ) -> Result<PromisedHandle<Sender, GivesBack>, AllocError>
     ensures { IfOk result (λ handle. handle.promise.before.value ≡ sender) }
 {
@@ -144,7 +144,7 @@ fn take_all<I: Ends, R: Wait>(
     rt: &R,
     alloc: Global,
     mut receiver: IntakeReceiver<I, Global>,
-) -> (IntakeReceiver<I, Global>, Vec<(Tag, I)>)
+) -> (IntakeReceiver<I, Global>, Vec<(Feed, I)>)
     ensures intake { result.0.intake ≡ receiver.intake }
     ensures ends { ends_taken I.is_end result.0.taken ≡ 3 }
 {
@@ -166,10 +166,10 @@ fn finish<R: Threads + Wait>(
     a: PromisedHandle<Sender, GivesBack>,
     b: PromisedHandle<Sender, GivesBack>,
     s: PromisedHandle<Sender, GivesBack>,
-) -> Vec<(Tag, Item)>
-    requires a { IsFreshSenderOf receiver Tag.A a.promise.before.value }
-    requires b { IsFreshSenderOf receiver Tag.B b.promise.before.value }
-    requires s { IsFreshSenderOf receiver Tag.S s.promise.before.value }
+) -> Vec<(Feed, Item)>
+    requires a { IsFreshSenderOf receiver Feed.A a.promise.before.value }
+    requires b { IsFreshSenderOf receiver Feed.B b.promise.before.value }
+    requires s { IsFreshSenderOf receiver Feed.S s.promise.before.value }
 {
     let (receiver, taken) = take_all(rt, alloc, receiver);
     let a = a.join(rt);
@@ -184,30 +184,30 @@ fn exchange<R: Threads + Wait + Copy + Send + 'static>(
     rt: R,
     alloc: Global,
     capacity: usize,
-) -> Result<Vec<(Tag, Item)>, Memory>
+) -> Result<Vec<(Feed, Item)>, Memory>
     requires least { 1 ≤ capacity }
     requires most { capacity ≤ 65536 }
 {
     let (a, b, s, receiver) = Intake::new(alloc, capacity)?;
-    let a = start(rt, alloc, a, Tag::A)?;
-    let b = start(rt, alloc, b, Tag::B)?;
-    let s = start(rt, alloc, s, Tag::S)?;
+    let a = start(rt, alloc, a, Feed::A)?;
+    let b = start(rt, alloc, b, Feed::B)?;
+    let s = start(rt, alloc, s, Feed::S)?;
     Ok(finish(&rt, alloc, receiver, a, b, s))
 }
 
 /// What a thread puts at this place, counted from 0.
-fn put_at(tag: Tag, place: u32) -> Mark {
+fn put_at(tag: Feed, place: u32) -> Mark {
     match tag {
-        Tag::A if place < MANY => Mark::Packet(place, 1),
-        Tag::B if place < MANY => Mark::Packet(place.saturating_add(5000), 1),
-        Tag::S if place < MANY => Mark::Snapshot(place),
-        Tag::S if place == MANY => Mark::Close,
+        Feed::A if place < MANY => Mark::Packet(place, 1),
+        Feed::B if place < MANY => Mark::Packet(place.saturating_add(5000), 1),
+        Feed::S if place < MANY => Mark::Snapshot(place),
+        Feed::S if place == MANY => Mark::Close,
         _ => Mark::End,
     }
 }
 
 /// Sees that what was taken with this tag is what its thread put, so many items, in order.
-fn compare(rt: &impl Abort, taken: &[(Tag, Item)], tag: Tag, many: u32) {
+fn compare(rt: &impl Abort, taken: &[(Feed, Item)], tag: Feed, many: u32) {
     let mut place = 0u32;
     for (sender, item) in taken {
         if *sender == tag {
@@ -219,11 +219,11 @@ fn compare(rt: &impl Abort, taken: &[(Tag, Item)], tag: Tag, many: u32) {
 }
 
 /// Sees that what was taken of three threads is what each of them put.
-fn compare_all(rt: &impl Abort, taken: &[(Tag, Item)]) {
+fn compare_all(rt: &impl Abort, taken: &[(Feed, Item)]) {
     assert_eq!(rt; taken.len(), 3004);
-    compare(rt, taken, Tag::A, 1001);
-    compare(rt, taken, Tag::B, 1001);
-    compare(rt, taken, Tag::S, 1002);
+    compare(rt, taken, Feed::A, 1001);
+    compare(rt, taken, Feed::B, 1001);
+    compare(rt, taken, Feed::S, 1002);
 }
 
 #[test]
@@ -341,7 +341,7 @@ fn carry<R: Wait, A: Allocator + Copy>(rt: &R, alloc: Global, heap: A) -> Result
     for number in 0..100u32 {
         put_one(rt, &mut a, Item::Packet(packet(alloc, number)));
         let (tag, item) = receiver.take(rt);
-        if tag == Tag::A && mark_of(&item) == Mark::Packet(number, 1) {
+        if tag == Feed::A && mark_of(&item) == Mark::Packet(number, 1) {
             count = count.saturating_add(1);
         }
     }

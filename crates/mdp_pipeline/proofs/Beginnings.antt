@@ -8,12 +8,12 @@ use Rattle.mdp_sbe.specs.Answer.{HasOneAnswer}
 use Rattle.mdp_sbe.specs.Answer.HasOneAnswer.{is_good, is_refused}
 use Rattle.mdp_templates.specs.Incremental.{IsPacket, IsRefusedPacket}
 use Rattle.mdp_templates.specs.Recovery.{AreSnapshots, AreRefusedSnapshots}
-use Rattle.mdp_templates.specs.Refused.{Feed as Kind}
-use Rattle.mdp_templates.specs.Refused.Feed.{incremental, recovery}
+use Rattle.mdp_templates.specs.Refused.{FeedKind as Kind}
+use Rattle.mdp_templates.specs.Refused.FeedKind.{incremental, recovery}
 use Rattle.mdp_templates.specs.declared.instrument.Instrument.{Instrument}
 use Rattle.mdp_templates.proofs.OneAnswer.{one_packet, one_datagram}
 use Rattle.mdp_print.specs.Texts.{last_line}
-use Rattle.mdp_print.specs.declared.feed.Feed.{Feed}
+use Rattle.mdp_templates.specs.declared.feed.Feed.{Feed}
 use Rattle.mdp_capture.specs.Record.{RecordContent, Received, Datagram, Close}
 use Rattle.mdp_arbiter.specs.Accepted.{Event, came, recovered, closed}
 use Rattle.mdp_arbiter.specs.Machine.{Move, state_at, trace, go_on, is_lost}
@@ -48,7 +48,7 @@ says_something recovery (Datagram bytes) = said_of_snapshots bytes (one_datagram
 says_something incremental Close = (brings [], refl)
 says_something recovery Close = (brings (closed ∷ []), refl)
 
-readings_exist : (arrivals : List Arrival) → (readings : List Reading) × AreReadings arrivals readings
+pub readings_exist : (arrivals : List Arrival) → (readings : List Reading) × AreReadings arrivals readings
 readings_exist [] = ([], record { of = refl; each = tt })
 readings_exist (arrival ∷ arrivals) =
     let here = says_something (kind_of arrival.feed) arrival.entry.received in
@@ -60,7 +60,7 @@ each-append : (readings more : List Reading) → AllByRecursion IsReading readin
 each-append [] more each later = later
 each-append (r ∷ readings) more each later = (each.0, each-append readings more each.1 later)
 
-readings-append : (arrivals left : List Arrival) (readings more : List Reading) → AreReadings arrivals readings → AreReadings left more → AreReadings (arrivals ++ left) (readings ++ more)
+pub readings-append : (arrivals left : List Arrival) (readings more : List Reading) → AreReadings arrivals readings → AreReadings left more → AreReadings (arrivals ++ left) (readings ++ more)
 readings-append arrivals left readings more are later = record {
   of =
       map-append (λ (r : Reading). r.arrival) readings more

@@ -1,8 +1,8 @@
 -- Which record comes next in the order of the lines.
 use Rattle.std.proofs.Common.{◌≡◌, ℕ, Bool, true, false, cond, List, [], ◌∷◌, Option, Some, None, refl, sym, ap, ◌∙◌}
 use Rattle.mdp_capture.specs.Record.{RecordContent}
-use Rattle.mdp_print.specs.declared.feed.Feed.{Feed}
-use Rattle.mdp_print.specs.declared.feed.Feed.TheVariants as feeds
+use Rattle.mdp_templates.specs.declared.feed.Feed.{Feed}
+use Rattle.mdp_templates.specs.declared.feed.Feed.TheVariants as feeds
 use Rattle.mdp_pipeline.specs.Merge.{Arrival, arrivals, by_line, in_order, head_line, is_first, first_feed}
 
 -- ---- two lists

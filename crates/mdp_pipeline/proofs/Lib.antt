@@ -3,3 +3,4 @@ pub mod Taking
 pub mod Written
 pub mod Beginnings
 pub mod Merges
+pub mod HandingOver

@@ -9,8 +9,8 @@ use Rattle.std.proofs.lemmas.List.Concat.{flat_map-append}
 use Rattle.mdp_templates.specs.Snapshot.{SnapshotContent}
 use Rattle.mdp_templates.specs.declared.instrument.Instrument.{Instrument}
 use Rattle.mdp_print.specs.Texts.{last_line}
-use Rattle.mdp_print.specs.declared.feed.Feed.{Feed}
-use Rattle.mdp_print.specs.declared.feed.Feed.TheVariants as feeds
+use Rattle.mdp_templates.specs.declared.feed.Feed.{Feed}
+use Rattle.mdp_templates.specs.declared.feed.Feed.TheVariants as feeds
 use Rattle.mdp_capture.specs.Record.{RecordContent}
 use Rattle.mdp_arbiter.specs.Accepted.{Event, recovered}
 use Rattle.mdp_arbiter.specs.Machine.{state_at, trace, is_lost}
@@ -49,14 +49,14 @@ events-push readings reading =
     ∙ ap (λ (t : List Event). events_of readings ++ t) (append-nil (brought_by reading.said))
 
 -- the lines of one feed
-line_if : (reading : Reading) (b : Bool) → refusal_lines (cond b (reading ∷ []) []) ≡ cond b (refusal_text reading.arrival reading.said) []
-line_if reading true = append-nil (refusal_text reading.arrival reading.said)
+line_if : (reading : Reading) (b : Bool) → refusal_lines (cond b (reading ∷ []) []) ≡ cond b (refusal_text reading.arrival.feed reading.arrival.entry.line reading.said) []
+line_if reading true = append-nil (refusal_text reading.arrival.feed reading.arrival.entry.line reading.said)
 line_if reading false = refl
 
-lines-push : (feed : Feed) (readings : List Reading) (reading : Reading) → refusal_lines (readings_on feed (readings ++ reading ∷ [])) ≡ refusal_lines (readings_on feed readings) ++ cond (is_on feed reading.arrival) (refusal_text reading.arrival reading.said) []
+lines-push : (feed : Feed) (readings : List Reading) (reading : Reading) → refusal_lines (readings_on feed (readings ++ reading ∷ [])) ≡ refusal_lines (readings_on feed readings) ++ cond (is_on feed reading.arrival) (refusal_text reading.arrival.feed reading.arrival.entry.line reading.said) []
 lines-push feed readings reading =
     ap refusal_lines (filter-append (λ (r : Reading). is_on feed r.arrival) readings (reading ∷ []))
-    ∙ flat_map-append (λ (r : Reading). refusal_text r.arrival r.said) (readings_on feed readings) (readings_on feed (reading ∷ []))
+    ∙ flat_map-append (λ (r : Reading). refusal_text r.arrival.feed r.arrival.entry.line r.said) (readings_on feed readings) (readings_on feed (reading ∷ []))
     ∙ ap (λ (t : List ℕ). refusal_lines (readings_on feed readings) ++ t) (line_if reading (is_on feed reading.arrival))
 
 nothing_if : (text : List ℕ) (b : Bool) → text ++ cond b [] [] ≡ text

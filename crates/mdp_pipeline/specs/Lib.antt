@@ -7,3 +7,4 @@ pub mod RefusalTexts
 pub mod Running
 pub mod Faults
 pub mod Counted
+pub mod Readers

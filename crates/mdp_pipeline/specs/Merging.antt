@@ -1,9 +1,9 @@
 -- The merges of what three feeds brought: the events of each feed keep their order, whatever stands between them.
 use Rattle.std.specs.Prelude.{◌≡◌, ◌==◌, ℕ, Bool, List, map}
 use Rattle.std.specs.List.{filter, flat_map}
-use Rattle.mdp_print.specs.declared.feed.Feed.{Feed}
-use Rattle.mdp_print.specs.declared.feed.Feed.TheVariants as feeds
-use Rattle.mdp_print.specs.Feed.{feed_letter}
+use Rattle.mdp_templates.specs.declared.feed.Feed.{Feed}
+use Rattle.mdp_templates.specs.declared.feed.Feed.TheVariants as feeds
+use Rattle.mdp_templates.specs.Feed.{feed_letter}
 use Rattle.mdp_capture.specs.Record.{RecordContent}
 use Rattle.mdp_arbiter.specs.Accepted.{Event}
 use Rattle.mdp_pipeline.specs.Merge.{in_order}

@@ -6,12 +6,12 @@ use Rattle.mdp_templates.specs.Packet.{PacketContent}
 use Rattle.mdp_templates.specs.Snapshot.{SnapshotContent}
 use Rattle.mdp_templates.specs.Incremental.{IsPacket}
 use Rattle.mdp_templates.specs.Recovery.{AreSnapshots}
-use Rattle.mdp_templates.specs.Refused.{Feed as Kind, IsRefusedAs}
-use Rattle.mdp_templates.specs.Refused.Feed.{incremental, recovery}
+use Rattle.mdp_templates.specs.Refused.{FeedKind as Kind, IsRefusedAs}
+use Rattle.mdp_templates.specs.Refused.FeedKind.{incremental, recovery}
 use Rattle.mdp_capture.specs.Record.{RecordContent, Received, Datagram, Close}
-use Rattle.mdp_print.specs.declared.feed.Feed.{Feed}
-use Rattle.mdp_print.specs.declared.feed.Feed.TheVariants as feeds
-use Rattle.mdp_print.specs.Feed.{feed_letter}
+use Rattle.mdp_templates.specs.declared.feed.Feed.{Feed}
+use Rattle.mdp_templates.specs.declared.feed.Feed.TheVariants as feeds
+use Rattle.mdp_templates.specs.Feed.{feed_letter}
 use Rattle.mdp_print.specs.Texts.{refusal_line}
 use Rattle.mdp_arbiter.specs.Accepted.{Event, came, recovered, closed}
 use Rattle.mdp_pipeline.specs.Merge.{Arrival, arrivals}
@@ -55,14 +55,14 @@ brought_by (refused refusal) = []
 abbrev pub events_of : List Reading → List Event
 events_of readings = flat_map (λ (r : Reading). brought_by r.said) readings
 
--- the line of a datagram that was refused
-abbrev pub refusal_text : Arrival → Said → List ℕ
-refusal_text arrival (brings events) = []
-refusal_text arrival (refused refusal) = refusal_line arrival.feed arrival.entry.line refusal
+-- the line of a datagram that was refused, which came from this line of the capture
+abbrev pub refusal_text : Feed → ℕ → Said → List ℕ
+refusal_text feed line (brings events) = []
+refusal_text feed line (refused refusal) = refusal_line feed line refusal
 
 -- a line for each datagram that was refused, in order
 abbrev pub refusal_lines : List Reading → List ℕ
-refusal_lines readings = flat_map (λ (r : Reading). refusal_text r.arrival r.said) readings
+refusal_lines readings = flat_map (λ (r : Reading). refusal_text r.arrival.feed r.arrival.entry.line r.said) readings
 
 -- ---- the three feeds
 

@@ -1,13 +1,13 @@
 -- What a run has come to after these readings.
 use Rattle.std.specs.Prelude.{◌≡◌, ℕ, List, [], ◌∷◌, ◌++◌, Bool}
 use Rattle.mdp_templates.specs.declared.instrument.Instrument.{Instrument}
-use Rattle.mdp_print.specs.declared.feed.Feed.{Feed}
-use Rattle.mdp_print.specs.declared.feed.Feed.TheVariants as feeds
+use Rattle.mdp_templates.specs.declared.feed.Feed.{Feed}
+use Rattle.mdp_templates.specs.declared.feed.Feed.TheVariants as feeds
 use Rattle.mdp_arbiter.specs.Channel.{channel_of}
 use Rattle.mdp_arbiter.specs.Accepted.{Event}
 use Rattle.mdp_engine.specs.Engine.{View, Stands}
 use Rattle.mdp_pipeline.specs.Merge.{Arrival}
-use Rattle.mdp_templates.specs.Refused.{Feed as Kind}
+use Rattle.mdp_templates.specs.Refused.{FeedKind as Kind}
 use Rattle.mdp_capture.specs.Record.{Received}
 use Rattle.mdp_pipeline.specs.declared.run.Run.{Run}
 use Rattle.mdp_pipeline.specs.Output.{is_lost_after, next_after, shown_output}

@@ -2,14 +2,13 @@
 
 ghost use Rattle.std.specs.Prelude.{◌≡◌, IfOk};
 ghost use Rattle.mdp_capture.specs.Record.{Close, Datagram};
-ghost use Rattle.mdp_templates.specs.Refused.Feed.{incremental, recovery};
+ghost use Rattle.mdp_templates.specs.Refused.FeedKind.{incremental, recovery};
 ghost use Rattle.mdp_pipeline.specs.Decoding.{said_of};
 ghost use Rattle.mdp_pipeline.specs.Reading.{Says, kind_of};
 
 use mdp_capture::Record;
-use mdp_print::Feed;
 use mdp_sbe::Refusal;
-use mdp_templates::{Fault, Memory, Packet, Snapshot, read_packet, read_snapshots};
+use mdp_templates::{Fault, Feed, Memory, Packet, Snapshot, read_packet, read_snapshots};
 use std::alloc::Allocator;
 
 /// What a record says: what it brings, or why its datagram is refused.

@@ -12,8 +12,7 @@ use crate::decoding::{Decoded, read_record};
 use crate::refusals::Refusals;
 use mdp_capture::Record;
 use mdp_engine::{Engine, Event};
-use mdp_print::Feed;
-use mdp_templates::{Instrument, Memory, Packet, Snapshot};
+use mdp_templates::{Feed, Instrument, Memory, Packet, Snapshot};
 use mdp_window::RingWindow;
 use std::alloc::Allocator;
 

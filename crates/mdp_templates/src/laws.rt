@@ -5,7 +5,7 @@ ghost use Rattle.mdp_sbe.specs.Answer.{HasOneAnswer};
 ghost use Rattle.mdp_templates.specs.Incremental.{IsPacket};
 ghost use Rattle.mdp_templates.specs.Recovery.{AreSnapshots};
 ghost use Rattle.mdp_templates.specs.Refused.{IsRefusedAs};
-ghost use Rattle.mdp_templates.specs.Refused.Feed.{incremental, recovery};
+ghost use Rattle.mdp_templates.specs.Refused.FeedKind.{incremental, recovery};
 
 /// On each feed every text has exactly one value or exactly one refusal, never both.
 pub fn one_answer()

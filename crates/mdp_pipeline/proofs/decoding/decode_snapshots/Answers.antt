@@ -2,7 +2,7 @@ use Rattle.std.proofs.Common.{ap, subst, ◌∙◌}
 use Rattle.mdp_sbe.specs.declared.refusal.Refusal.{Refusal}
 use Rattle.mdp_templates.specs.Answer.{OnRefusal}
 use Rattle.mdp_templates.specs.Refused.{IsRefusedAs}
-use Rattle.mdp_templates.specs.Refused.Feed.{recovery}
+use Rattle.mdp_templates.specs.Refused.FeedKind.{recovery}
 use Rattle.mdp_templates.specs.declared.fault.Fault.{Fault}
 use Rattle.mdp_templates.specs.declared.fault.Fault.TheVariants as faults
 use Rattle.mdp_pipeline.proofs.decoding.decode_snapshots.Goals as goal

@@ -1,5 +1,5 @@
 use Rattle.std.proofs.Common.{drop, ap, ◌∙◌, refl}
-use Rattle.mdp_lanes.specs.declared.tag.Tag.TheVariants.{A, B, S}
+use Rattle.mdp_templates.specs.declared.feed.Feed.TheVariants.{A, B, S}
 use Rattle.std.specs.Prelude.{[]}
 use Rattle.mdp_lanes.specs.Rule.{receiver}
 use Rattle.mdp_lanes.proofs.IntakeSteps.{begins, gives}
