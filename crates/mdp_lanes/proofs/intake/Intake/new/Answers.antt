@@ -1,0 +1,21 @@
+use Rattle.std.proofs.Common.{drop, ap, ◌∙◌, refl}
+use Rattle.mdp_lanes.specs.declared.tag.Tag.TheVariants.{A, B, S}
+use Rattle.std.specs.Prelude.{[]}
+use Rattle.mdp_lanes.specs.Rule.{receiver}
+use Rattle.mdp_lanes.proofs.IntakeSteps.{begins, gives}
+use Rattle.mdp_lanes.proofs.intake.Intake.new.Goals as goal
+
+pub bounded_with-requires-clause-rule : goal.bounded_with-requires-clause-rule
+bounded_with-requires-clause-rule g c = begins _ g.I.Ends.is_end
+
+pub another-a_pass-requires-clause-rule : goal.another-a_pass-requires-clause-rule
+another-a_pass-requires-clause-rule g c = gives g.I.Ends.is_end _ _ A [] _ c.in_ok-channel.ensures.3 (refl, (refl, tt))
+
+pub another-b_pass-requires-clause-rule : goal.another-b_pass-requires-clause-rule
+another-b_pass-requires-clause-rule g c =
+    gives g.I.Ends.is_end _ _ B [] _ (c.another-a_pass.ensures.rule.0 ∙ ap (λ v. receiver v.taken (drop 1 v.rights)) c.in_ok-channel.ensures.3) (refl, tt)
+
+pub another-s_pass-requires-clause-rule : goal.another-s_pass-requires-clause-rule
+another-s_pass-requires-clause-rule g c =
+    gives g.I.Ends.is_end _ _ S [] _
+    (c.another-b_pass.ensures.rule.0 ∙ ap (λ v. receiver v.taken (drop 1 v.rights)) (c.another-a_pass.ensures.rule.0 ∙ ap (λ v. receiver v.taken (drop 1 v.rights)) c.in_ok-channel.ensures.3)) tt
