@@ -8,3 +8,4 @@ pub mod Incremental
 pub mod Recovery
 pub mod Side
 pub mod Refused
+pub mod Framed

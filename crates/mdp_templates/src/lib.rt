@@ -19,7 +19,7 @@ pub use entry::{Action, Entry, Kind, Level};
 pub use fault::{Fault, Memory};
 pub use incremental::read_packet;
 pub use instrument::{Instrument, InstrumentKind, Name, are_fit};
-pub use laws::one_answer;
+pub use laws::{datagrams_are_framed, one_answer};
 pub use packet::{Message, Packet};
 pub use recovery::read_snapshots;
 pub use snapshot::Snapshot;
