@@ -1,19 +1,24 @@
 -- What each line brings to a capture.
-use Rattle.std.proofs.Common.{◌≡◌, ℕ, zero, suc, inl, inr, ◌+◌, ◌<◌, min, Bool, true, false, cond, List, [], ◌∷◌, ◌++◌, length, map, Result, Ok, Err, refl, sym, ap, ◌∙◌, subst, append_assoc, append-nil, length-append, arith}
-use Rattle.std.specs.Prelude.{◌==◌, ◌||◌, nat_lt}
-use Rattle.std.specs.List.{enumerate_from, flat_map}
+use Rattle.std.proofs.Common.{None, ◌≡◌, ℕ, zero, suc, inl, inr, ◌+◌, ◌<◌, min, Bool, true, false, cond, List, [], ◌∷◌, ◌++◌, length, map, Result, Ok, Err, refl, sym, ap, ◌∙◌, subst, append_assoc, append-nil, length-append, arith, get_or}
+use Rattle.std.specs.Prelude.{◌==◌, ◌||◌, nat_lt, ◌≢◌, is_some, AllPairs}
+use Rattle.std.specs.List.{enumerate_from, flat_map, list_any}
 use Rattle.std.specs.Str.Lines.{lines}
-use Rattle.std.proofs.lemmas.Bool.{cases_Bool}
+use Rattle.std.proofs.lemmas.Bool.{cases_Bool, or_parts}
 use Rattle.std.proofs.lemmas.Bool.Decides.{nat_tests}
 use Rattle.std.proofs.lemmas.List.{length_push}
+use Rattle.mdp_templates.specs.declared.instrument.Instrument.{Instrument}
 use Rattle.mdp_capture.specs.Line.{LineContent, Blank, Listing, Packet, Closing, Skipped, line_of}
-use Rattle.mdp_capture.specs.Capture.{CaptureContent, RefusedLine, add_line, add_lines, and_then, capture_of, has_record, needs_instrument, next_line, no_capture, refusal_of}
+use Rattle.mdp_capture.specs.Capture.{CaptureContent, RefusedLine, add_line, add_lines, and_then, capture_of, has_record, kind_with_id, needs_instrument, next_line, no_capture, refusal_of}
 use Rattle.mdp_capture.specs.Lines.{NumberedLine, numbered, instruments_of, records_on, skipped_of, InstrumentsFirst, IsCaptureOf}
 use Rattle.mdp_capture.specs.declared.fault.CaptureRefusal.TheVariants.{NoInstrument}
 use Rattle.mdp_capture.specs.declared.line.Feed.{Feed}
 use Rattle.mdp_capture.specs.declared.line.Feed.TheVariants as feeds
 use Rattle.mdp_capture.proofs.Accepted.{accepted}
-use Rattle.mdp_capture.proofs.Fit.{unrefused}
+use Rattle.mdp_capture.proofs.Fit.{unrefused, line_keeps_fit, whole_is_fit}
+use Rattle.mdp_capture.specs.Draft.{AreFitSoFar}
+use Rattle.std.proofs.lemmas.Slice.Eq.{bytes_eq-Decides}
+use Rattle.std.proofs.lemmas.List.Quantifiers.{all_pairs_push}
+use Rattle.std.specs.Str.{bytes_eq}
 
 -- these lines bring to a capture what makes the new one of it
 record Adds (lines : List NumberedLine) (old new : CaptureContent) : Type 0 where
@@ -183,6 +188,55 @@ instruments_first place (text ∷ rest) old new is =
     (none_behind (place + 1) rest steps.middle new on)
     (instruments_first (place + 1) rest steps.middle new on)
 
+-- ---- the instruments fit, and their names differ
+
+abbrev NamesDiffer : List Instrument → Type 0
+NamesDiffer = AllPairs (λ earlier later. earlier.name ≢ later.name)
+
+-- a name that no instrument is found under is no instrument's
+other_name : (xs : List Instrument) (name : List ℕ) → list_any (λ other. bytes_eq other.name name) xs ≡ false → (k : ℕ) (d : Instrument) → k < length xs → (get_or xs k d).name ≢ name
+other_name [] name none k d below = absurd (omega arith)
+other_name (x ∷ xs) name none zero d below = λ same.
+    let found = (bytes_eq-Decides x.name name).1 same in
+    let other = (or_parts (bytes_eq x.name name) (list_any (λ other. bytes_eq other.name name) xs) none).0 in
+    absurd (cc)
+other_name (x ∷ xs) name none (suc k) d below =
+    other_name xs name (or_parts (bytes_eq x.name name) (list_any (λ other. bytes_eq other.name name) xs) none).1 k d (omega arith)
+
+named_more : (capture : CaptureContent) (instrument : Instrument) → refusal_of capture instrument ≡ None → NamesDiffer capture.instruments → NamesDiffer (capture.instruments ++ instrument ∷ [])
+named_more capture instrument is differ =
+    let has_id = is_some (kind_with_id capture.instruments instrument.id) in
+    let has_name = list_any (λ other. bytes_eq other.name instrument.name) capture.instruments in
+    all_pairs_push (λ earlier later. earlier.name ≢ later.name) capture.instruments instrument differ
+    (other_name capture.instruments instrument.name (or_parts has_id has_name (accepted capture instrument is).unlisted).1)
+
+abbrev Named : CaptureContent → Type 0
+Named capture = NamesDiffer capture.instruments
+
+named_line : (n : ℕ) (content : LineContent) (old new : CaptureContent) → add_line n content old ≡ Ok new → Named old → Named new
+named_line n Blank old new is differ = subst Named (same_capture _ new is) differ
+named_line n (Listing instrument) old new is differ =
+    let taken = unrefused n (refusal_of old instrument) (record old { instruments = old.instruments ++ instrument ∷ [] }) new is in
+    subst Named taken.1 (named_more old instrument taken.0 differ)
+named_line n (Packet feeds.A bytes) old new is differ = subst Named (same_capture _ new is) differ
+named_line n (Packet feeds.B bytes) old new is differ = subst Named (same_capture _ new is) differ
+named_line n (Packet feeds.S bytes) old new is differ = subst Named (same_capture _ new is) differ
+named_line n Closing old new is differ = subst Named (same_capture _ new is) differ
+named_line n (Skipped skip) old new is differ = subst Named (same_capture _ new is) differ
+
+-- what each line keeps, all lines keep
+all_keep : (P : CaptureContent → Type 0) → ((n : ℕ) (content : LineContent) (old new : CaptureContent) → add_line n content old ≡ Ok new → P old → P new) → (line : ℕ) (texts : List (List ℕ)) (old new : CaptureContent) → add_lines line texts old ≡ Ok new → P old → P new
+all_keep P keeps line [] old new is held = subst P (same_capture old new is) held
+all_keep P keeps line (text ∷ rest) old new is held =
+    let steps = both_steps (add_line line (line_of text) old) (add_lines (next_line line) rest) new is in
+    all_keep P keeps (next_line line) rest steps.middle new steps.goes_on (keeps line (line_of text) old steps.middle steps.taken held)
+
+fit_at_first : AreFitSoFar []
+fit_at_first = record { few = omega arith; each = λ place d below. absurd (omega (arith, below)) }
+
+named_at_first : NamesDiffer []
+named_at_first i j d above below = absurd (omega (arith, below))
+
 -- ---- the capture of a text
 
 -- a capture with an instrument
@@ -210,5 +264,6 @@ holds_its_lines text capture is =
     record {
       brings = record { instruments = adds.instruments; a = adds.a; b = adds.b; s = adds.s; skipped = adds.skipped };
       first = instruments_first 1 (lines text) no_capture capture found.same;
-      some = found.some;
+      fit = whole_is_fit capture.instruments found.some (all_keep (λ (c : CaptureContent). AreFitSoFar c.instruments) line_keeps_fit 1 (lines text) no_capture capture found.same fit_at_first);
+      names_differ = all_keep Named named_line 1 (lines text) no_capture capture found.same named_at_first;
     }

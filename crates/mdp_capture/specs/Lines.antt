@@ -1,7 +1,8 @@
 -- What the lines of a capture's text bring: each list of a capture is what its lines bring to it, in their order.
-use Rattle.std.specs.Prelude.{◌≡◌, ◌<◌, ℕ, min, List, [], ◌∷◌, ◌++◌, length, map}
+use Rattle.std.specs.Prelude.{◌≡◌, ◌≢◌, ℕ, min, List, [], ◌∷◌, ◌++◌, map, AllPairs}
 use Rattle.std.specs.List.{enumerate_from, flat_map}
 use Rattle.std.specs.Str.Lines.{lines}
+use Rattle.mdp_templates.specs.Instrument.{AreFit}
 use Rattle.mdp_templates.specs.declared.instrument.Instrument.{Instrument}
 use Rattle.mdp_capture.specs.Capture.{CaptureContent}
 use Rattle.mdp_capture.specs.Line.{LineContent, Blank, Listing, Packet, Closing, Skipped, line_of}
@@ -91,8 +92,9 @@ pub record InstrumentsFirst (lines : List NumberedLine) : Type 0 where
   pub no_record : (feed : Feed) → flat_map (records_on feed) front ≡ []
   pub no_instrument : flat_map instruments_of back ≡ []
 
--- the capture of a text
+-- a text has this capture: 1 to 512 instruments of different ids and names, the legs of each calendar earlier among them
 pub record IsCaptureOf (text : List ℕ) (capture : CaptureContent) : Type 0 where
   pub brings : Brings (numbered_lines text) capture
   pub first : InstrumentsFirst (numbered_lines text)
-  pub some : 0 < length capture.instruments
+  pub fit : AreFit capture.instruments
+  pub names_differ : AllPairs (λ earlier later. earlier.name ≢ later.name) capture.instruments
