@@ -69,7 +69,7 @@ one_more capture instrument is so_far = record {
   each = fit_push capture.instruments instrument so_far.each (accepted_fits capture instrument is);
 }
 
-unrefused : (n : ℕ) (o : Option CaptureRefusal) (next new : CaptureContent) → unless_refused n o next ≡ Ok new → (o ≡ None) × (next ≡ new)
+pub unrefused : (n : ℕ) (o : Option CaptureRefusal) (next new : CaptureContent) → unless_refused n o next ≡ Ok new → (o ≡ None) × (next ≡ new)
 unrefused n None next new is = (refl, cc)
 unrefused n (Some refusal) next new is = absurd (cc)
 

@@ -5,3 +5,4 @@ pub mod Accepted
 pub mod Pieces
 pub mod Fit
 pub mod Following
+pub mod Bringing

@@ -6,3 +6,4 @@ pub mod Capture
 pub mod Parsed
 pub mod Draft
 pub mod Reading
+pub mod Lines

@@ -6,6 +6,7 @@ mod capture;
 mod draft;
 mod fault;
 mod field;
+mod laws;
 mod line;
 mod reader;
 mod reading;
@@ -14,6 +15,7 @@ mod skip;
 
 pub use capture::Capture;
 pub use fault::{CaptureFault, CaptureRefusal};
+pub use laws::captures_hold_their_lines;
 pub use reader::{CountedRead, CountingReader};
 pub use reading::read_capture;
 pub use record::Record;

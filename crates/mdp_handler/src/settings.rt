@@ -11,7 +11,7 @@ use std::alloc::{AllocError, Global};
 /// What the command line asks for.
 #[derive(Clone, Copy, Debug, PartialEq, Eq)]
 pub struct Settings {
-    /// How many packet numbers can be ahead of the next one before packets count as lost, from 1 to 65536.
+    /// A packet this many numbers or more ahead of the next one gives the next one up, from 1 to 65536.
     pub window: u32,
     /// How many threads keep books, from 1 to 16.
     pub workers: u8,
@@ -33,20 +33,22 @@ Instruments come first. A datagram has at most 2,048 bytes. Of the two copies of
 packet the one that comes first is used. Records are taken in the order of their
 lines, by one thread so far, whatever the options say.
 
-At each event end these lines are printed for each security that it names, where
-K.J is the packet's number and the message's place in it:
+At each event end these lines are printed for each security that it names, and after
+a jump for each security at the first event end past its snapshot. K.J is the
+packet's number and the message's place in it:
   D K.J NAME B QUOTES O QUOTES  direct book, QUOTES being PRICExSIZE, best first
   I K.J NAME B QUOTES O QUOTES  implied book
   C K.J NAME B QUOTES O QUOTES  both, added up by price
   F K.J NAME PLACE              no book: the first entry that had no place in it
-and then, for each calendar spread of which the spread or a leg was printed:
+and then, for each calendar spread of which the spread or a leg was printed, if all
+three are past their snapshots and none has a fault:
   A K.J NAME bid VERDICT offer VERDICT
                                 its implied quotes against what its legs make
 Where packets are lost and snapshots of all securities make up for them, J OLD NEW
 is printed: packet OLD would have come next, and now it is packet NEW.
 After these comes X FEED LINE NUMBER NAME for each refused datagram, and at the
-end Z NEXT live, or Z NEXT lost where packets are lost that nothing has made up
-for, NEXT being the number of the packet that would come next.
+end Z NEXT live, or Z NEXT lost where a packet came --window or more ahead of NEXT,
+which is the number of the packet that would come next.
 Prices are in units of 10^-9.
 
 Example, which begins with a bid of 5 at a price of 100:
@@ -87,7 +89,7 @@ fn window_arg<'a>(alloc: Global) -> Arg<'a>
     ensures own { result.global ≡ false }
 {
     let range = value_parser!(u32).range(1..=65536);
-    let help = "Packet numbers that can be ahead of the next, 1 to 65536";
+    let help = "A packet N or more ahead of the next gives the next up, 1 to 65536";
     number_arg(alloc, "window", range, "1024", help)
 }
 

@@ -3,3 +3,4 @@ pub mod Messages
 pub mod Sides
 pub mod OneAnswer
 pub mod Fits
+pub mod Framed
