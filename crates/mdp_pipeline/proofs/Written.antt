@@ -27,7 +27,7 @@ use Rattle.mdp_pipeline.specs.Output.{is_lost_after, moves_of, next_after}
 use Rattle.mdp_pipeline.specs.RefusalTexts.{RefusalTexts}
 use Rattle.mdp_pipeline.specs.Running.{BeginsAll, EndsAs, EndsEarly, GoesOn, HasRun, HasShown, PrintsAll, TakesAs, Writes, after_said, joined_texts, refusals_of}
 use Rattle.mdp_pipeline.proofs.Ending.{begins_all, prints_all, writes_shown}
-use Rattle.mdp_pipeline.proofs.Taking.{goes_more}
+use Rattle.mdp_pipeline.proofs.Going.{goes_more}
 
 -- ---- a reading more
 
