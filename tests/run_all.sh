@@ -1,6 +1,7 @@
 #!/usr/bin/env bash
 # Proves everything from nothing and runs all tests: the merge gate, then the examples and the rows on the program
-# that the gate has built. The last line is 'N passed, M failed', over all of them. The exit status is 1 if any failed.
+# that the gate has built, and a look at the names in docs/DEFINITIONS.md. The last line is 'N passed, M failed', over
+# all of them. The exit status is 1 if any failed.
 set -u
 
 cd "$(dirname "$(realpath "$0")")/.." || exit 2
@@ -49,5 +50,6 @@ run_examples() {
 run_part "rt ci" rt ci
 run_part "the examples" run_examples
 run_part "the rows" tests/run_rows.sh "$program"
+run_part "the definitions" tests/check_definitions.sh
 echo "$passed passed, $failed failed"
 [ "$failed" -eq 0 ]

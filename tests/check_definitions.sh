@@ -1,0 +1,50 @@
+#!/usr/bin/env bash
+# Checks that each definition that docs/DEFINITIONS.md names stands where it says: in the first column of its tables each name in
+# backticks must be defined in a file of definitions (crates/*/specs) that the row's third column names, or be an enum or a
+# struct of a crate. Tells each that isn't, and then 'N passed, M failed'. The exit status is 1 if any failed.
+set -u
+
+cd "$(dirname "$(realpath "$0")")/.." || exit 2
+text=docs/DEFINITIONS.md
+
+awk '
+    # The name behind the last word `pub` of a definition of the outermost level or of a `module _` block.
+    FILENAME ~ /\.antt$/ {
+        if ($0 !~ /^ *(abbrev|unfoldable) pub / && $0 !~ /^ *pub (record|data) /) next
+        base = FILENAME
+        sub(/.*\//, "", base)
+        sub(/\.antt$/, "", base)
+        defined[base, $3] = 1
+        next
+    }
+
+    FILENAME ~ /\.rt$/ {
+        if (match($0, /^pub(\([a-z]+\))? (enum|struct) [A-Za-z0-9_]+/)) {
+            split(substr($0, RSTART, RLENGTH), words, " ")
+            types[words[3]] = 1
+        }
+        next
+    }
+
+    # A row of a table: its names, and the files that it names.
+    /^\| `/ {
+        split($0, cells, " *[|] *")
+        count = split(cells[4], files, /[ ,]+/)
+        names = cells[2]
+        while (match(names, /`[^`]+`/)) {
+            name = substr(names, RSTART + 1, RLENGTH - 2)
+            names = substr(names, RSTART + RLENGTH)
+            found = name in types
+            for (n = 1; n <= count; n++) if ((files[n], name) in defined) found = 1
+            if (found) { passed++; continue }
+            failed++
+            printf "%s:%d: %s is not defined in %s\n", FILENAME, FNR, name, cells[4]
+        }
+    }
+
+    END {
+        if (passed + failed == 0) failed++
+        printf "%d passed, %d failed\n", passed, failed
+        exit failed > 0
+    }
+' crates/*/specs/*.antt crates/*/src/*.rt "$text"
