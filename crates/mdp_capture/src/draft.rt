@@ -1,4 +1,4 @@
-//! A capture as far as its lines were read.
+//! A capture under construction.
 
 ghost use Rattle.std.specs.Prelude.{◌≡◌, ◌≢◌, ◌++◌, ◌∷◌, [], OnOk, IfOk, IfErr};
 ghost use Rattle.std.specs.Ordering.{int_eq};

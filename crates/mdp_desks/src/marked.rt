@@ -1,4 +1,4 @@
-//! Which desks are marked, in a small place of their own, where an event end finds them soon.
+//! Which desks have lines due at the next event end, kept apart from the desks so that one scan is cheap.
 
 ghost use Rattle.std.specs.Prelude.{◌≡◌, ◌<◌, ◌≤◌, ℕ, IfOk, false, get_or, length, replicate, set};
 

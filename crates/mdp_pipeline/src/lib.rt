@@ -1,4 +1,5 @@
-//! Runs over the records of a channel's feeds: what is printed is what the complete feed defines.
+//! Runs over the records of a channel's feeds: what is printed is what the recovery machine's moves show, and what every
+//! complete feed defines that agrees with the records.
 #![tactic(auto)]
 
 mod batch;

@@ -7,7 +7,7 @@ use thiserror::Error;
 pub struct Summary {
     /// The number of the packet that comes next, from 1 to 4294967296.
     pub next: u64,
-    /// Whether packets were lost that nothing has made up for.
+    /// Whether that packet is given up: one came the window or more past it.
     pub lost: bool,
     /// How many bytes were written.
     pub written: u64,

@@ -77,6 +77,6 @@ unfoldable pub refusal_line : Feed → ℕ → Refusal → List ℕ
 refusal_line feed line refusal =
     codes "X " ++ (feed_letter feed ∷ []) ++ codes " " ++ decimal line ++ codes " " ++ decimal (refusal_number refusal) ++ codes " " ++ refusal_name refusal ++ codes "\n"
 
--- Z NEXT STATE, the number of the next packet at the end, and whether packets were lost
+-- Z NEXT STATE, the number of the next packet at the end, and whether that packet is given up
 unfoldable pub last_line : ℕ → Bool → List ℕ
 last_line next lost = codes "Z " ++ decimal next ++ codes " " ++ (if lost then codes "lost" else codes "live") ++ codes "\n"

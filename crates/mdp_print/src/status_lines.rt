@@ -106,7 +106,7 @@ pub fn put_refusal<A: Allocator>(
     put(out, text.as_slice())
 }
 
-/// Appends the `Z` line of the end: the number of the next packet, and whether packets were lost. Where
+/// Appends the `Z` line of the end: the number of the next packet, and whether that packet is given up. Where
 /// memory runs out the vector is as before.
 #[tactic(auto, unfolding(crate::specs::Texts::last_line))]
 pub fn put_last<A: Allocator>(out: &mut Vec<u8, A>, next: u64, lost: bool) -> Result<(), Memory>
