@@ -13,7 +13,8 @@ use Rattle.mdp_pipeline.specs.declared.run.Run.{Run}
 use Rattle.mdp_pipeline.specs.declared.summary.RunFault.{RunFault}
 use Rattle.mdp_pipeline.specs.Collecting.{HasTakenMore, ShowsMore, StopsWithin, events_taken}
 use Rattle.mdp_pipeline.specs.Readers.{batch_events}
-use Rattle.mdp_pipeline.specs.Running.{EndsEarly, GoesOn, HandsOn, HasShown}
+use Rattle.mdp_pipeline.specs.RefusalTexts.{RefusalTexts}
+use Rattle.mdp_pipeline.specs.Running.{EndsEarly, GoesOn, HandsOn, HasRun, HasShown}
 use Rattle.mdp_pipeline.proofs.Ending.{early, shown_on}
 
 -- ---- events
@@ -26,6 +27,18 @@ shown_goes listed room events more start taken engine held engine' held' goes so
   stands = goes.stands listed events so_far.sent so_far.stands;
   drained = goes.drained so_far.drained;
   channel = goes.channel ∙ so_far.channel;
+}
+
+-- ---- the start
+
+-- a run that has taken nothing has shown nothing
+pub shown_nothing : (listed : List Instrument) (room : ℕ) (start : List ℕ) (engine : View) (held : List ℕ) (refusals : RefusalTexts) → held ≡ [] → HasRun listed room [] engine [] refusals → HasShown listed room [] start start engine held
+shown_nothing listed room start engine held refusals none run = record {
+  sent = [];
+  taken_is = sym (append-nil start);
+  stands = subst (λ (t : List ℕ). Stands listed [] t engine) (sym none) run.stands;
+  drained = run.drained;
+  channel = run.channel;
 }
 
 module _ {A : Type 0} where
@@ -41,13 +54,12 @@ module _ {A : Type 0} where
   takes_none r = ([], ap (λ (t : List (Feed × Batch A)). record r { taken = t }) (sym (append-nil r.taken)))
 
   pub takes_more : (first now last : IntakeReceiverView (Batch A)) → HasTakenMore first now → HasTakenMore now last → HasTakenMore first last
-  takes_more first now last one two =
-      (
-        one.0 ++ two.0,
-        two.1
+  takes_more first now last one two = (
+    one.0 ++ two.0,
+    two.1
         ∙ ap (λ (r : IntakeReceiverView (Batch A)). record r { taken = r.taken ++ two.0 }) one.1
         ∙ ap (λ (t : List (Feed × Batch A)). record first { taken = t }) (append_assoc first.taken one.0 two.0),
-      )
+  )
 
   -- ---- what is shown of it
 

@@ -133,18 +133,17 @@ writes_shown listed room arrivals start taken engine held refusals so_far = reco
 pub prints_all : (listed : List Instrument) (room : ℕ) (arrivals : List Arrival) (start taken taken' : List ℕ) (engine : View) (held : List ℕ) (refusals : RefusalTexts) (next : ℕ) (lost : Bool)
     → (so_far : Writes listed room arrivals start taken engine held refusals) → EndsAs listed room (events_of so_far.over.readings) (joined_texts refusals) start taken' next lost
     → (text : List ℕ) × (taken' ≡ start ++ text) × PrintsAll listed room arrivals text next lost
-prints_all listed room arrivals start taken taken' engine held refusals next lost so_far ends =
-    (
-      ends.text,
-      ends.taken_is,
-      record {
-        readings = so_far.over.readings;
-        are = so_far.over.are;
-        next_is = ends.next_is;
-        lost_is = ends.lost_is;
-        shown = ends.shown ∙ ap (λ (t : RefusalTexts). shown_output listed room (joined_texts t) (events_of so_far.over.readings)) so_far.over.run.refusals_are;
-      },
-    )
+prints_all listed room arrivals start taken taken' engine held refusals next lost so_far ends = (
+  ends.text,
+  ends.taken_is,
+  record {
+    readings = so_far.over.readings;
+    are = so_far.over.are;
+    next_is = ends.next_is;
+    lost_is = ends.lost_is;
+    shown = ends.shown ∙ ap (λ (t : RefusalTexts). shown_output listed room (joined_texts t) (events_of so_far.over.readings)) so_far.over.run.refusals_are;
+  },
+)
 
 pub begins_all : (listed : List Instrument) (room : ℕ) (arrivals : List Arrival) (start taken taken' : List ℕ) (engine : View) (held : List ℕ) (refusals : RefusalTexts)
     → (so_far : Writes listed room arrivals start taken engine held refusals) → EndsEarly listed room (events_of so_far.over.readings) (joined_texts refusals) start taken'

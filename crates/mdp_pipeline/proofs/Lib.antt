@@ -6,3 +6,4 @@ pub mod Merges
 pub mod HandingOver
 pub mod Ending
 pub mod Collecting
+pub mod Joining

@@ -61,6 +61,13 @@ pub record Begins (listed : List Instrument) (room : ℕ) (a b s : List RecordCo
   pub taken_is : taken ≡ start ++ sent
   pub whole : text ≡ sent ++ rest
 
+-- the same of some merge
+abbrev pub PrintsMerge : List Instrument → ℕ → List RecordContent → List RecordContent → List RecordContent → List ℕ → ℕ → Bool → Type 0
+PrintsMerge listed room a b s text next lost = (merge : List Tagged) × Prints listed room a b s merge text next lost
+
+abbrev pub BeginsMerge : List Instrument → ℕ → List RecordContent → List RecordContent → List RecordContent → List ℕ → List ℕ → Type 0
+BeginsMerge listed room a b s start taken = (merge : List Tagged) × Begins listed room a b s merge start taken
+
 -- the same of the one merge that follows the capture's lines
 abbrev pub PrintsByLine : List Instrument → ℕ → List RecordContent → List RecordContent → List RecordContent → List ℕ → ℕ → Bool → Type 0
 PrintsByLine listed room a b s text next lost = (merge : List Tagged) × IsByLine a b s merge × Prints listed room a b s merge text next lost

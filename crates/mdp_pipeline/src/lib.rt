@@ -10,10 +10,13 @@ mod merge;
 mod reader;
 mod refusals;
 mod run;
+mod settling;
 mod summary;
 mod taking;
+mod threads;
 
 pub use decoding::{Decoded, read_record};
 pub use gate::{Gate, Open};
 pub use in_order::run_in_order;
 pub use summary::{RunFault, Summary};
+pub use threads::run;

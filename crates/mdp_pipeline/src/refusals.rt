@@ -40,6 +40,13 @@ impl<A: Allocator + Copy> Refusals<A> {
         }
     }
 
+    /// These lines of the three feeds.
+    pub fn of(a: Vec<u8, A>, b: Vec<u8, A>, s: Vec<u8, A>) -> Refusals<A>
+        ensures { result ≡ record { a = a.items; b = b.items; s = s.items } }
+    {
+        Refusals { a, b, s }
+    }
+
     /// Appends the line of a datagram of a feed.
     pub fn put(&mut self, feed: Feed, line: u32, refusal: Refusal) -> Result<(), Memory>
         ensures { OnOk result (self.new ≡ with_refusal feed line refusal self.old) }

@@ -1,0 +1,330 @@
+-- What was taken of three readers, with what they did not hand over, is a merge of what their records bring.
+use Rattle.std.proofs.Common.{◌≡◌, ℕ, Bool, true, false, cond, List, [], ◌∷◌, ◌++◌, map, refl, sym, ap, subst, ◌∙◌, append_assoc}
+use Rattle.std.specs.Prelude.{Result, Ok, Err, IfOk, IfErr, ◌==◌}
+use Rattle.std.specs.List.{filter, flat_map}
+use Rattle.std.proofs.lemmas.List.{append-nil, map-append}
+use Rattle.std.proofs.lemmas.List.Elements.{filter-append}
+use Rattle.mdp_templates.specs.declared.feed.Feed.{Feed}
+use Rattle.mdp_templates.specs.declared.feed.Feed.TheVariants as feeds
+use Rattle.mdp_templates.specs.Feed.{feed_letter}
+use Rattle.mdp_templates.specs.declared.instrument.Instrument.{Instrument}
+use Rattle.mdp_capture.specs.Record.{RecordContent}
+use Rattle.mdp_arbiter.specs.Accepted.{Event}
+use Rattle.mdp_arbiter.specs.Channel.{channel_of}
+use Rattle.mdp_engine.specs.Engine.{View}
+use Rattle.mdp_engine.proofs.Agreeing.{shows_what_is_owed}
+use Rattle.mdp_engine.proofs.Honesty.{honest_moves_agree}
+use Rattle.mdp_lanes.specs.Items.{is_same, items_of}
+use Rattle.mdp_lanes.specs.Queues.{IntakeReceiverView, IntakeSenderView, IsFreshSenderOf}
+use Rattle.mdp_pipeline.specs.declared.batch.Batch.{Batch}
+use Rattle.mdp_pipeline.specs.declared.reader.ReaderOutcome.{ReaderOutcome}
+use Rattle.mdp_pipeline.specs.declared.summary.RunFault.{RunFault}
+use Rattle.mdp_pipeline.specs.declared.summary.Summary.{Summary}
+use Rattle.mdp_pipeline.specs.Collecting.{HasReadFor, HasTakenMore, events_taken, tagged_as, tagged_taken}
+use Rattle.mdp_pipeline.specs.Merge.{arrivals}
+use Rattle.mdp_pipeline.specs.Merging.{Tagged, IsMerge, events_from, events_in, is_from}
+use Rattle.mdp_pipeline.specs.Output.{Begins, BeginsMerge, Prints, PrintsMerge, end_lines, is_lost_after, moves_of, next_after, shown_output}
+use Rattle.mdp_pipeline.specs.Reading.{Reading, Readings, AreReadingsOf, events_of, refusals_text}
+use Rattle.mdp_pipeline.specs.Readers.{HasRead, all_events, batch_events}
+use Rattle.mdp_pipeline.specs.Running.{EndsAs, EndsEarly, HasShown}
+use Rattle.mdp_pipeline.proofs.Beginnings.{readings_exist}
+use Rattle.mdp_pipeline.proofs.Ending.{early}
+
+-- ---- one feed's events among those with feeds
+
+untagged : (feed : Feed) (es : List Event) → events_in (tagged_as feed es) ≡ es
+untagged feed [] = refl
+untagged feed (e ∷ es) = ap (λ (t : List Event). e ∷ t) (untagged feed es)
+
+from_all : (feed from : Feed) (es : List Event) (b : Bool) → (feed_letter from == feed_letter feed) ≡ b → events_from feed (tagged_as from es) ≡ cond b es []
+from_all feed from [] true is = refl
+from_all feed from [] false is = refl
+from_all feed from (e ∷ es) true is =
+    let t : Tagged = record { feed = from; event = e } in
+    let rest : List Tagged = filter (is_from feed) (tagged_as from es) in
+    ap (λ (b : Bool). events_in (cond b (t ∷ rest) rest)) is ∙ ap (λ (x : List Event). e ∷ x) (from_all feed from es true is)
+from_all feed from (e ∷ es) false is =
+    let t : Tagged = record { feed = from; event = e } in
+    let rest : List Tagged = filter (is_from feed) (tagged_as from es) in
+    ap (λ (b : Bool). events_in (cond b (t ∷ rest) rest)) is ∙ from_all feed from es false is
+
+from-append : (feed : Feed) (xs ys : List Tagged) → events_from feed (xs ++ ys) ≡ events_from feed xs ++ events_from feed ys
+from-append feed xs ys = ap events_in (filter-append (is_from feed) xs ys) ∙ map-append (λ (t : Tagged). t.event) (filter (is_from feed) xs) (filter (is_from feed) ys)
+
+same_letter : (feed from : Feed) → (feed_letter from == feed_letter feed) ≡ is_same feed from
+same_letter feeds.A feeds.A = refl
+same_letter feeds.A feeds.B = refl
+same_letter feeds.A feeds.S = refl
+same_letter feeds.B feeds.A = refl
+same_letter feeds.B feeds.B = refl
+same_letter feeds.B feeds.S = refl
+same_letter feeds.S feeds.A = refl
+same_letter feeds.S feeds.B = refl
+same_letter feeds.S feeds.S = refl
+
+-- ---- events that were not handed over
+
+abbrev rests : List Event → List Event → List Event → List Tagged
+rests a b s = tagged_as feeds.A a ++ (tagged_as feeds.B b ++ tagged_as feeds.S s)
+
+rests_in : (a b s : List Event) → events_in (rests a b s) ≡ a ++ (b ++ s)
+rests_in a b s =
+    map-append (λ (t : Tagged). t.event) (tagged_as feeds.A a) (tagged_as feeds.B b ++ tagged_as feeds.S s)
+    ∙ ap (λ (t : List Event). t ++ events_in (tagged_as feeds.B b ++ tagged_as feeds.S s)) (untagged feeds.A a)
+    ∙ ap (λ (t : List Event). a ++ t)
+    (map-append (λ (t : Tagged). t.event) (tagged_as feeds.B b) (tagged_as feeds.S s)
+    ∙ ap (λ (t : List Event). t ++ events_in (tagged_as feeds.S s)) (untagged feeds.B b)
+    ∙ ap (λ (t : List Event). b ++ t) (untagged feeds.S s))
+
+rests_from : (feed : Feed) (a b s : List Event) → events_from feed (rests a b s) ≡ events_from feed (tagged_as feeds.A a) ++ (events_from feed (tagged_as feeds.B b) ++ events_from feed (tagged_as feeds.S s))
+rests_from feed a b s =
+    from-append feed (tagged_as feeds.A a) (tagged_as feeds.B b ++ tagged_as feeds.S s)
+    ∙ ap (λ (t : List Event). events_from feed (tagged_as feeds.A a) ++ t) (from-append feed (tagged_as feeds.B b) (tagged_as feeds.S s))
+
+from_a : (a b s : List Event) → events_from feeds.A (rests a b s) ≡ a
+from_a a b s =
+    rests_from feeds.A a b s
+    ∙ ap (λ (t : List Event). t ++ (events_from feeds.A (tagged_as feeds.B b) ++ events_from feeds.A (tagged_as feeds.S s))) (from_all feeds.A feeds.A a true refl)
+    ∙ ap (λ (t : List Event). a ++ (t ++ events_from feeds.A (tagged_as feeds.S s))) (from_all feeds.A feeds.B b false refl)
+    ∙ ap (λ (t : List Event). a ++ t) (from_all feeds.A feeds.S s false refl)
+    ∙ append-nil a
+
+from_b : (a b s : List Event) → events_from feeds.B (rests a b s) ≡ b
+from_b a b s =
+    rests_from feeds.B a b s
+    ∙ ap (λ (t : List Event). t ++ (events_from feeds.B (tagged_as feeds.B b) ++ events_from feeds.B (tagged_as feeds.S s))) (from_all feeds.B feeds.A a false refl)
+    ∙ ap (λ (t : List Event). t ++ events_from feeds.B (tagged_as feeds.S s)) (from_all feeds.B feeds.B b true refl)
+    ∙ ap (λ (t : List Event). b ++ t) (from_all feeds.B feeds.S s false refl)
+    ∙ append-nil b
+
+from_s : (a b s : List Event) → events_from feeds.S (rests a b s) ≡ s
+from_s a b s =
+    rests_from feeds.S a b s
+    ∙ ap (λ (t : List Event). t ++ (events_from feeds.S (tagged_as feeds.B b) ++ events_from feeds.S (tagged_as feeds.S s))) (from_all feeds.S feeds.A a false refl)
+    ∙ ap (λ (t : List Event). t ++ events_from feeds.S (tagged_as feeds.S s)) (from_all feeds.S feeds.B b false refl)
+    ∙ from_all feeds.S feeds.S s true refl
+
+-- whatever the records say, nothing of its text went out
+pub begins_nothing : (listed : List Instrument) (room : ℕ) (a b s : List RecordContent) (start : List ℕ) → BeginsMerge listed room a b s start start
+begins_nothing listed room a b s start =
+    let read_a = readings_exist (arrivals feeds.A a) in
+    let read_b = readings_exist (arrivals feeds.B b) in
+    let read_s = readings_exist (arrivals feeds.S s) in
+    let ea = events_of read_a.0 in
+    let eb = events_of read_b.0 in
+    let es = events_of read_s.0 in
+    let readings : Readings = record { a = read_a.0; b = read_b.0; s = read_s.0 } in
+    let merge = rests ea eb es in
+    let text = shown_output listed room (refusals_text readings) (events_in merge) in (
+      merge,
+      record {
+        text = text;
+        next = next_after listed room (events_in merge);
+        lost = is_lost_after listed room (events_in merge);
+        prints = record {
+          readings = readings;
+          are = record { a_are = read_a.1; b_are = read_b.1; s_are = read_s.1 };
+          merges = record { a = from_a ea eb es; b = from_b ea eb es; s = from_s ea eb es };
+          next_is = refl;
+          lost_is = refl;
+          shown = refl;
+          owed = λ feed honest. ap (λ (t : List ℕ). t ++ end_lines listed room (refusals_text readings) (events_in merge)) (shows_what_is_owed listed feed (moves_of listed room (events_in merge)) honest.complete (honest_moves_agree listed feed room (events_in merge) honest));
+        };
+        sent = [];
+        rest = text;
+        taken_is = sym (append-nil start);
+        whole = refl;
+      },
+    )
+
+-- ---- results
+
+pub map_ok : {T E : Type 0} (result : Result T E) (P Q : T → Type 0) → ((x : T) → P x → Q x) → IfOk result P → IfOk result Q
+map_ok (Ok x) P Q f is = f x is
+map_ok (Err e) P Q f is = tt
+
+pub map_err : {T E : Type 0} (result : Result T E) (P Q : E → Type 0) → ((e : E) → P e → Q e) → IfErr result P → IfErr result Q
+map_err (Ok x) P Q f is = tt
+map_err (Err e) P Q f is = f e is
+
+-- ---- the refusals of the three feeds
+
+pub told_all : {a b s x y z : List ℕ} → a ≡ x → b ≡ y → s ≡ z → a ++ (b ++ s) ≡ x ++ (y ++ z)
+told_all {a} {b} {s} {x} {y} {z} p q r = ap (λ (t : List ℕ). t ++ (b ++ s)) p ∙ ap (λ (t : List ℕ). x ++ (t ++ s)) q ∙ ap (λ (t : List ℕ). x ++ (y ++ t)) r
+
+-- ---- what was taken
+
+module _ {A : Type 0} where
+  taken_in : (taken : List (Feed × Batch A)) → events_in (tagged_taken taken) ≡ events_taken taken
+  taken_in [] = refl
+  taken_in (m ∷ taken) =
+      map-append (λ (t : Tagged). t.event) (tagged_as m.0 (batch_events m.1)) (tagged_taken taken)
+      ∙ ap (λ (t : List Event). t ++ events_in (tagged_taken taken)) (untagged m.0 (batch_events m.1))
+      ∙ ap (λ (t : List Event). batch_events m.1 ++ t) (taken_in taken)
+
+  -- the events of one feed are those of its batches
+  taken_from : (feed : Feed) (taken : List (Feed × Batch A)) → events_from feed (tagged_taken taken) ≡ all_events (items_of feed taken)
+  taken_from feed [] = refl
+  taken_from feed (m ∷ taken) =
+      from-append feed (tagged_as m.0 (batch_events m.1)) (tagged_taken taken)
+      ∙ ap (λ (t : List Event). t ++ events_from feed (tagged_taken taken)) (from_all feed m.0 (batch_events m.1) (is_same feed m.0) (same_letter feed m.0))
+      ∙ ap (λ (t : List Event). cond (is_same feed m.0) (batch_events m.1) [] ++ t) (taken_from feed taken)
+      ∙ by_feed (is_same feed m.0)
+    where
+      by_feed : (b : Bool) → cond b (batch_events m.1) [] ++ all_events (items_of feed taken) ≡ all_events (cond b (m.1 ∷ items_of feed taken) (items_of feed taken))
+      by_feed true = refl
+      by_feed false = refl
+
+  -- ---- the merge
+
+  -- a receiver that has taken more is of the same intake
+  pub read_for : (first last : IntakeReceiverView (Batch A)) (feed : Feed) (records : List RecordContent) (before : IntakeSenderView (Batch A)) (outcome : ReaderOutcome A)
+      → HasTakenMore first last → IsFreshSenderOf first feed before → HasRead feed records before outcome → HasReadFor last feed records outcome
+  read_for first last feed records before outcome more fresh read = (before, (fresh.0 ∙ sym (ap (λ r. r.intake) more.1), fresh.1, fresh.2), read)
+
+  -- what the sender of a feed has put, where all of it was taken
+  put_all : (receiver : IntakeReceiverView (Batch A)) (feed : Feed) (records : List RecordContent) (outcome : ReaderOutcome A) → (read : HasReadFor receiver feed records outcome) → items_of feed receiver.taken ≡ outcome.sender.sent
+      → items_of feed receiver.taken ≡ read.2.over.batches
+  put_all receiver feed records outcome read all =
+      all ∙ ap (λ s. s.sent) read.2.over.put ∙ ap (λ (t : List (Batch A)). t ++ read.2.over.batches) read.1.2
+
+  -- the events of a feed, where all of its sender's batches were taken and these are the rest
+  all_of : (receiver : IntakeReceiverView (Batch A)) (feed : Feed) (records : List RecordContent) (outcome : ReaderOutcome A) (others : List Tagged) → (read : HasReadFor receiver feed records outcome) → items_of feed receiver.taken ≡ outcome.sender.sent
+      → events_from feed others ≡ read.2.over.rest → events_from feed (tagged_taken receiver.taken ++ others) ≡ events_of read.2.over.readings
+  all_of receiver feed records outcome others read all rest =
+      from-append feed (tagged_taken receiver.taken) others
+      ∙ ap (λ (t : List Event). t ++ events_from feed others) (taken_from feed receiver.taken ∙ ap all_events (put_all receiver feed records outcome read all))
+      ∙ ap (λ (t : List Event). all_events read.2.over.batches ++ t) rest
+      ∙ sym read.2.over.front
+
+  -- what the three readers have read, and what was taken of them
+  pub record Joined (receiver : IntakeReceiverView (Batch A)) (a b s : List RecordContent) (left_a left_b left_s : ReaderOutcome A) : Type 0 where
+    pub read_a : HasReadFor receiver feeds.A a left_a
+    pub read_b : HasReadFor receiver feeds.B b left_b
+    pub read_s : HasReadFor receiver feeds.S s left_s
+    pub all_a : items_of feeds.A receiver.taken ≡ left_a.sender.sent
+    pub all_b : items_of feeds.B receiver.taken ≡ left_b.sender.sent
+    pub all_s : items_of feeds.S receiver.taken ≡ left_s.sender.sent
+
+  abbrev pub readings_in : {receiver : IntakeReceiverView (Batch A)} {a b s : List RecordContent} {left_a left_b left_s : ReaderOutcome A} → Joined receiver a b s left_a left_b left_s → Readings
+  readings_in joined = record { a = joined.read_a.2.over.readings; b = joined.read_b.2.over.readings; s = joined.read_s.2.over.readings }
+
+  abbrev pub rest_in : {receiver : IntakeReceiverView (Batch A)} {a b s : List RecordContent} {left_a left_b left_s : ReaderOutcome A} → Joined receiver a b s left_a left_b left_s → List Event
+  rest_in joined = joined.read_a.2.over.rest ++ (joined.read_b.2.over.rest ++ joined.read_s.2.over.rest)
+
+  abbrev merge_in : {receiver : IntakeReceiverView (Batch A)} {a b s : List RecordContent} {left_a left_b left_s : ReaderOutcome A} → Joined receiver a b s left_a left_b left_s → List Tagged
+  merge_in {receiver} joined = tagged_taken receiver.taken ++ rests joined.read_a.2.over.rest joined.read_b.2.over.rest joined.read_s.2.over.rest
+
+  is_merge : (receiver : IntakeReceiverView (Batch A)) (a b s : List RecordContent) (left_a left_b left_s : ReaderOutcome A) (joined : Joined receiver a b s left_a left_b left_s) → IsMerge (readings_in joined) (merge_in joined)
+  is_merge receiver a b s left_a left_b left_s joined =
+      let ra = joined.read_a.2.over.rest in
+      let rb = joined.read_b.2.over.rest in
+      let rs = joined.read_s.2.over.rest in
+      record {
+        a = all_of receiver feeds.A a left_a (rests ra rb rs) joined.read_a joined.all_a (from_a ra rb rs);
+        b = all_of receiver feeds.B b left_b (rests ra rb rs) joined.read_b joined.all_b (from_b ra rb rs);
+        s = all_of receiver feeds.S s left_s (rests ra rb rs) joined.read_s joined.all_s (from_s ra rb rs);
+      }
+
+  merge_events : (receiver : IntakeReceiverView (Batch A)) (a b s : List RecordContent) (left_a left_b left_s : ReaderOutcome A) (joined : Joined receiver a b s left_a left_b left_s) → events_in (merge_in joined) ≡ events_taken receiver.taken ++ rest_in joined
+  merge_events receiver a b s left_a left_b left_s joined =
+      let ra = joined.read_a.2.over.rest in
+      let rb = joined.read_b.2.over.rest in
+      let rs = joined.read_s.2.over.rest in
+      map-append (λ (t : Tagged). t.event) (tagged_taken receiver.taken) (rests ra rb rs)
+      ∙ ap (λ (t : List Event). t ++ events_in (rests ra rb rs)) (taken_in receiver.taken)
+      ∙ ap (λ (t : List Event). events_taken receiver.taken ++ t) (rests_in ra rb rs)
+
+  -- the text of the merge
+  prints : (receiver : IntakeReceiverView (Batch A)) (a b s : List RecordContent) (left_a left_b left_s : ReaderOutcome A) (joined : Joined receiver a b s left_a left_b left_s) (listed : List Instrument) (room : ℕ)
+      → Prints listed room a b s (merge_in joined) (shown_output listed room (refusals_text (readings_in joined)) (events_in (merge_in joined))) (next_after listed room (events_in (merge_in joined))) (is_lost_after listed room (events_in (merge_in joined)))
+  prints receiver a b s left_a left_b left_s joined listed room =
+      let es = events_in (merge_in joined) in
+      record {
+        readings = readings_in joined;
+        are = record { a_are = joined.read_a.2.over.are; b_are = joined.read_b.2.over.are; s_are = joined.read_s.2.over.are };
+        merges = is_merge receiver a b s left_a left_b left_s joined;
+        next_is = refl;
+        lost_is = refl;
+        shown = refl;
+        owed = λ feed honest. ap (λ (t : List ℕ). t ++ end_lines listed room (refusals_text (readings_in joined)) es) (shows_what_is_owed listed feed (moves_of listed room es) honest.complete (honest_moves_agree listed feed room es honest));
+      }
+
+  pub begins_merge : (receiver : IntakeReceiverView (Batch A)) (a b s : List RecordContent) (left_a left_b left_s : ReaderOutcome A) (joined : Joined receiver a b s left_a left_b left_s) (listed : List Instrument) (room : ℕ) (start taken : List ℕ)
+      → EndsEarly listed room (events_taken receiver.taken ++ rest_in joined) (refusals_text (readings_in joined)) start taken → BeginsMerge listed room a b s start taken
+  begins_merge receiver a b s left_a left_b left_s joined listed room start taken ends =
+      let es = events_in (merge_in joined) in (
+        merge_in joined,
+        record {
+          text = shown_output listed room (refusals_text (readings_in joined)) es;
+          next = next_after listed room es;
+          lost = is_lost_after listed room es;
+          prints = prints receiver a b s left_a left_b left_s joined listed room;
+          sent = ends.sent;
+          rest = ends.rest;
+          taken_is = ends.taken_is;
+          whole = ap (shown_output listed room (refusals_text (readings_in joined))) (merge_events receiver a b s left_a left_b left_s joined) ∙ ends.whole;
+        },
+      )
+
+  pub prints_merge : (receiver : IntakeReceiverView (Batch A)) (a b s : List RecordContent) (left_a left_b left_s : ReaderOutcome A) (joined : Joined receiver a b s left_a left_b left_s) (listed : List Instrument) (room : ℕ) (refusals start taken : List ℕ) (next : ℕ) (lost : Bool)
+      → rest_in joined ≡ [] → refusals ≡ refusals_text (readings_in joined) → EndsAs listed room (events_taken receiver.taken) refusals start taken next lost
+      → (text : List ℕ) × (taken ≡ start ++ text) × PrintsMerge listed room a b s text next lost
+  unfolding prints
+  prints_merge receiver a b s left_a left_b left_s joined listed room refusals start taken next lost none told ends =
+      let es = events_in (merge_in joined) in
+      let all : events_taken receiver.taken ≡ es = sym (append-nil (events_taken receiver.taken)) ∙ ap (λ (t : List Event). events_taken receiver.taken ++ t) (sym none) ∙ sym (merge_events receiver a b s left_a left_b left_s joined) in
+      let is = prints receiver a b s left_a left_b left_s joined listed room in
+      let text_is : ends.text ≡ shown_output listed room (refusals_text (readings_in joined)) es = ends.shown ∙ ap (λ (r : List ℕ). shown_output listed room r (events_taken receiver.taken)) told ∙ ap (shown_output listed room (refusals_text (readings_in joined))) all in (
+        ends.text,
+        ends.taken_is,
+        (
+          merge_in joined,
+          record {
+            readings = is.readings;
+            are = is.are;
+            merges = is.merges;
+            next_is = ends.next_is ∙ ap (next_after listed room) all;
+            lost_is = ends.lost_is ∙ ap (is_lost_after listed room) all;
+            shown = text_is;
+            owed = λ feed honest. text_is ∙ is.owed feed honest;
+          },
+        ),
+      )
+
+  -- ---- what the end of a run answers
+
+  -- memory sufficed in all readers
+  pub none_left : (receiver : IntakeReceiverView (Batch A)) (a b s : List RecordContent) (left_a left_b left_s : ReaderOutcome A) (joined : Joined receiver a b s left_a left_b left_s)
+      → joined.read_a.2.over.rest ≡ [] → joined.read_b.2.over.rest ≡ [] → joined.read_s.2.over.rest ≡ [] → rest_in joined ≡ []
+  none_left receiver a b s left_a left_b left_s joined ra rb rs =
+      ap (λ (t : List Event). t ++ (joined.read_b.2.over.rest ++ joined.read_s.2.over.rest)) ra
+      ∙ ap (λ (t : List Event). t ++ joined.read_s.2.over.rest) rb
+      ∙ rs
+
+  pub ends_well : (receiver : IntakeReceiverView (Batch A)) (a b s : List RecordContent) (left_a left_b left_s : ReaderOutcome A) (joined : Joined receiver a b s left_a left_b left_s)
+      (taken after : List ℕ) (engine : View) (held : List ℕ) (refusals : List ℕ) (result : Result Summary RunFault) → rest_in joined ≡ [] → refusals ≡ refusals_text (readings_in joined)
+      → IfOk result (λ (summary : Summary). (listed : List Instrument) (room : ℕ) (events : List Event) (start : List ℕ) → HasShown listed room events start taken engine held → EndsAs listed room events refusals start after summary.next summary.lost)
+      → IfOk result (λ (summary : Summary). (listed : List Instrument) (room : ℕ) (start : List ℕ) → HasShown listed room (events_taken receiver.taken) start taken engine held
+      → (text : List ℕ) × (after ≡ start ++ text) × PrintsMerge listed room a b s text summary.next summary.lost)
+  ends_well receiver a b s left_a left_b left_s joined taken after engine held refusals (Ok summary) none told ends = λ listed room start shown.
+      prints_merge receiver a b s left_a left_b left_s joined listed room refusals start after summary.next summary.lost none told (ends listed room (events_taken receiver.taken) start shown)
+  ends_well receiver a b s left_a left_b left_s joined taken after engine held refusals (Err fault) none told ends = tt
+
+  pub ends_early : (receiver : IntakeReceiverView (Batch A)) (a b s : List RecordContent) (left_a left_b left_s : ReaderOutcome A) (joined : Joined receiver a b s left_a left_b left_s)
+      (taken after : List ℕ) (engine : View) (held : List ℕ) (refusals : List ℕ) (result : Result Summary RunFault) → rest_in joined ≡ [] → refusals ≡ refusals_text (readings_in joined)
+      → IfErr result (λ (fault : RunFault). (listed : List Instrument) (room : ℕ) (events : List Event) (start : List ℕ) → HasShown listed room events start taken engine held → EndsEarly listed room events refusals start after)
+      → IfErr result (λ (fault : RunFault). (listed : List Instrument) (room : ℕ) (start : List ℕ) → HasShown listed room (events_taken receiver.taken) start taken engine held → BeginsMerge listed room a b s start after)
+  ends_early receiver a b s left_a left_b left_s joined taken after engine held refusals (Ok summary) none told ends = tt
+  ends_early receiver a b s left_a left_b left_s joined taken after engine held refusals (Err fault) none told ends = λ listed room start shown.
+      begins_merge receiver a b s left_a left_b left_s joined listed room start after
+      (subst (λ (r : List ℕ). EndsEarly listed room (events_taken receiver.taken ++ rest_in joined) r start after) told
+      (subst (λ (es : List Event). EndsEarly listed room es refusals start after) (sym (append-nil (events_taken receiver.taken)) ∙ ap (λ (t : List Event). events_taken receiver.taken ++ t) (sym none))
+      (ends listed room (events_taken receiver.taken) start shown)))
+
+  -- a reader met want of memory
+  pub ends_unread : (receiver : IntakeReceiverView (Batch A)) (a b s : List RecordContent) (left_a left_b left_s : ReaderOutcome A) → Joined receiver a b s left_a left_b left_s
+      → (taken : List ℕ) (engine : View) (held : List ℕ) (listed : List Instrument) (room : ℕ) (start : List ℕ) → HasShown listed room (events_taken receiver.taken) start taken engine held → BeginsMerge listed room a b s start taken
+  ends_unread receiver a b s left_a left_b left_s joined taken engine held listed room start shown =
+      begins_merge receiver a b s left_a left_b left_s joined listed room start taken
+      (early listed room (events_taken receiver.taken) (rest_in joined) (refusals_text (readings_in joined)) start taken taken engine held 0 (sym (append-nil taken)) shown)

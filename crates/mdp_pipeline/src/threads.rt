@@ -1,0 +1,304 @@
+//! A run over threads: three readers, and the caller's thread that takes what they hand over.
+
+ghost use Rattle.std.specs.Prelude.{◌≡◌, ◌≤◌, ◌<◌, ◌^◌, ◌-◌, ◌++◌, ℕ, List, IfErr, IfOk, MatchResult, false};
+ghost use Rattle.mdp_capture.specs.Record.{RecordContent};
+ghost use Rattle.mdp_lanes.specs.Queues.{IntakeSenderView};
+ghost use Rattle.mdp_templates.specs.Instrument.{AreFit};
+ghost use Rattle.mdp_pipeline.specs.declared.batch.Batch.{Batch};
+ghost use Rattle.mdp_pipeline.specs.Counted.{HasCounted, written_before};
+ghost use Rattle.mdp_pipeline.specs.Faults.{FailsBy};
+ghost use Rattle.mdp_pipeline.specs.Output.{BeginsMerge, PrintsMerge};
+ghost use Rattle.mdp_pipeline.specs.Readers.{HasRead, has_ended};
+
+use crate::batch::Batch;
+use crate::gate::Gate;
+use crate::reader::{ReaderOutcome, read_feed};
+use crate::run::Run;
+use crate::settling::{Readers, settle_alone, settle_and_finish};
+use crate::summary::{RunFault, Summary};
+use crate::taking::{Taker, collect};
+use mdp_capture::Record;
+use mdp_lanes::{Intake, IntakeSender};
+use mdp_print::CountedWrite;
+use mdp_templates::{Feed, Instrument};
+use std::alloc::Allocator;
+use std::snapshot::Snapshot;
+use std::sync::{OnceLock, Wait};
+use std::thread;
+use std::thread::{Promise, PromisedHandle, Scope, Threads};
+
+/// How many batches the readers' queue has room for.
+const INTAKE_ROOM: usize = 256;
+
+/// Which threads may be started.
+pub trait Starts {
+    /// Whether the thread of this number may be started; the readers of A, B and S are 0, 1 and 2.
+    fn may_start(&self, thread: usize) -> bool;
+}
+
+/// Any thread may be started.
+#[derive(Clone, Copy)]
+pub struct Always;
+
+impl Starts for Always {
+    fn may_start(&self, _thread: usize) -> bool {
+        true
+    }
+}
+
+/// A reader's promise: it has read these records of a feed, and put its last batch.
+#[derive(Drop)]
+pub struct ReadsFeed<'a, A: Allocator + Copy> {
+    feed: Feed,
+    records: Snapshot<&'a [Record<A>]>,
+    before: Snapshot<IntakeSender<Batch<A>, A>>,
+}
+
+impl<'a, A: Allocator + Copy> Promise<ReaderOutcome<A>> for ReadsFeed<'a, A> {
+    ghost kept_by = { λ p outcome. HasRead p.feed p.records.value.now p.before.value outcome };
+}
+
+/// What is left to know of a reader: its thread, or what it left where its thread couldn't be started.
+type Begun<'s, A> = Result<PromisedHandle<ReaderOutcome<A>, ReadsFeed<'s, A>>, ReaderOutcome<A>>;
+
+// Starts a reader's thread. Where it can't be started all readers are told to stop, and this one is called here.
+fn begin_reader<'s, E, R, S, G, A>(
+    rt: &'s R,
+    scope: &'s Scope<'s, E>,
+    go: &'s OnceLock<bool>,
+    starts: &S,
+    thread: usize,
+    alloc: A,
+    gate: &'s G,
+    feed: Feed,
+    records: &'s [Record<A>],
+    sender: IntakeSender<Batch<A>, A>,
+) -> Begun<'s, A>
+where
+    R: Threads + Wait + Sync,
+    S: Starts,
+    G: Gate + Sync,
+    A: Allocator + Copy + Send + Sync,
+    A: 's,
+    requires { has_ended sender ≡ false }
+    ensures { MatchResult result
+        (λ h. (h.promise.feed ≡ feed) × (h.promise.records.value.now ≡ records.entry.now) × (h.promise.before.value ≡ sender))
+        (λ outcome. HasRead feed records.entry.now sender outcome) }
+{
+    if !starts.may_start(thread) {
+        let _ = go.set(rt, false);
+        return Err(read_feed(rt, go, alloc, gate, feed, records, sender));
+    }
+    let promise = ReadsFeed {
+        feed,
+        records: Snapshot::of(&records),
+        before: Snapshot::of(&sender),
+    };
+    match scope.spawn_with(
+        promise,
+        move || read_feed(rt, go, alloc, gate, feed, records, sender),
+    ) {
+        Ok(handle) => Ok(handle),
+        Err(refused) => {
+            let _ = go.set(rt, false);
+            Err((refused.value)())
+        }
+    }
+}
+
+// Waits for a reader to end.
+fn join_reader<'s, R: Threads + Wait, A: Allocator + Copy>(
+    rt: &R,
+    begun: Begun<'s, A>,
+) -> ReaderOutcome<A>
+    ensures { (feed : Feed) (records : List RecordContent) (before : IntakeSenderView (Batch A)) →
+        MatchResult begun.entry
+        (λ h. (h.promise.feed ≡ feed) × (h.promise.records.value.now ≡ records) × (h.promise.before.value ≡ before))
+        (λ outcome. HasRead feed records before outcome) → HasRead feed records before result }
+{
+    match begun {
+        Ok(handle) => handle.join(rt),
+        Err(outcome) => outcome,
+    }
+}
+
+// Starts the readers, takes what they hand over, joins them and settles.
+fn run_in<'s, E, R, S, G, W, A>(
+    rt: &'s R,
+    scope: &'s Scope<'s, E>,
+    go: &'s OnceLock<bool>,
+    starts: &S,
+    alloc: A,
+    instruments: &[Instrument],
+    a: &'s [Record<A>],
+    b: &'s [Record<A>],
+    s: &'s [Record<A>],
+    window: u32,
+    gate: &'s G,
+    writer: &mut W,
+) -> Result<Summary, RunFault>
+where
+    R: Threads + Wait + Sync,
+    S: Starts,
+    G: Gate + Sync,
+    W: CountedWrite,
+    A: Allocator + Copy + Send + Sync,
+    A: 's,
+    requires sound { W.failed writer.old < 2 ^ 64 - 1 }
+    requires fit { AreFit instruments.now }
+    requires least { 1 ≤ window }
+    requires most { window ≤ 65536 }
+    ensures text { IfOk result (λ summary. (text : List ℕ) × (W.taken writer.new ≡ W.taken writer.old ++ text)
+        × PrintsMerge instruments.now window a.entry.now b.entry.now s.entry.now text summary.next summary.lost) }
+    ensures begins { IfErr result (λ _. BeginsMerge instruments.now window a.entry.now b.entry.now s.entry.now (W.taken writer.old) (W.taken writer.new)) }
+    ensures written { IfOk result (λ summary. HasCounted (W.taken writer.old) (W.taken writer.new) summary.written) }
+    ensures told { IfErr result (λ fault. HasCounted (W.taken writer.old) (W.taken writer.new) (written_before fault)) }
+    ensures failed { FailsBy result (W.failed writer.old) (W.failed writer.new) }
+{
+    let Ok(run) = Run::new(alloc, instruments, window) else {
+        return Err(RunFault::Memory { written: 0 });
+    };
+    let Ok((to_a, to_b, to_s, mut receiver)) = Intake::new(alloc, INTAKE_ROOM) else {
+        return Err(RunFault::Memory { written: 0 });
+    };
+    let reads_a = begin_reader(rt, scope, go, starts, 0, alloc, gate, Feed::A, a, to_a);
+    let reads_b = begin_reader(rt, scope, go, starts, 1, alloc, gate, Feed::B, b, to_b);
+    let reads_s = begin_reader(rt, scope, go, starts, 2, alloc, gate, Feed::S, s, to_s);
+    let _ = go.set(rt, true);
+    let taker = Taker {
+        run,
+        written: 0,
+        step: 0,
+    };
+    let collected = collect(rt, &mut receiver, taker, gate, writer);
+    let readers = Readers {
+        a: join_reader(rt, reads_a),
+        b: join_reader(rt, reads_b),
+        s: join_reader(rt, reads_s),
+    };
+    match collected {
+        Ok(taker) => settle_and_finish(writer, receiver, taker, readers, a, b, s),
+        Err(fault) => {
+            settle_alone(receiver, readers, a, b, s);
+            Err(fault)
+        }
+    }
+}
+
+/// Runs as [`run`] does; a thread that may not start is one that can't be started.
+pub(crate) fn run_where<R, S, G, W, A>(
+    rt: &R,
+    starts: &S,
+    alloc: A,
+    instruments: &[Instrument],
+    a: &[Record<A>],
+    b: &[Record<A>],
+    s: &[Record<A>],
+    window: u32,
+    gate: &G,
+    writer: &mut W,
+) -> Result<Summary, RunFault>
+where
+    R: Threads + Wait + Sync,
+    S: Starts + Sync,
+    G: Gate + Sync,
+    W: CountedWrite,
+    A: Allocator + Copy + Send + Sync,
+    requires sound { W.failed writer.old < 2 ^ 64 - 1 }
+    requires fit { AreFit instruments.now }
+    requires least { 1 ≤ window }
+    requires most { window ≤ 65536 }
+    ensures text { IfOk result (λ summary. (text : List ℕ) × (W.taken writer.new ≡ W.taken writer.old ++ text)
+        × PrintsMerge instruments.now window a.now b.now s.now text summary.next summary.lost) }
+    ensures begins { IfErr result (λ _. BeginsMerge instruments.now window a.now b.now s.now (W.taken writer.old) (W.taken writer.new)) }
+    ensures written { IfOk result (λ summary. HasCounted (W.taken writer.old) (W.taken writer.new) summary.written) }
+    ensures told { IfErr result (λ fault. HasCounted (W.taken writer.old) (W.taken writer.new) (written_before fault)) }
+    ensures failed { FailsBy result (W.failed writer.old) (W.failed writer.new) }
+{
+    let lock = OnceLock::new();
+    let go = &lock;
+    let (back, outcome) = thread::scope(
+        thread::scope_env(),
+        rt,
+        move |scope| -> (&mut W, Result<Summary, RunFault>)
+            requires { (W.failed writer.now < 2 ^ 64 - 1) × AreFit instruments.now × (1 ≤ window) × (window ≤ 65536) }
+            ensures same { result.0.ghost_name ≡ writer.entry.ghost_name }
+            ensures text { IfOk result.1 (λ summary. (text : List ℕ) × (W.taken result.0.now ≡ W.taken writer.entry.now ++ text)
+                × PrintsMerge instruments.entry.now window a.entry.now b.entry.now s.entry.now text summary.next summary.lost) }
+            ensures begins { IfErr result.1 (λ _. BeginsMerge instruments.entry.now window a.entry.now b.entry.now s.entry.now (W.taken writer.entry.now) (W.taken result.0.now)) }
+            ensures written { IfOk result.1 (λ summary. HasCounted (W.taken writer.entry.now) (W.taken result.0.now) summary.written) }
+            ensures told { IfErr result.1 (λ fault. HasCounted (W.taken writer.entry.now) (W.taken result.0.now) (written_before fault)) }
+            ensures failed { FailsBy result.1 (W.failed writer.entry.now) (W.failed result.0.now) }
+        {
+            let outcome = run_in(
+                rt,
+                scope,
+                go,
+                starts,
+                alloc,
+                instruments,
+                a,
+                b,
+                s,
+                window,
+                gate,
+                writer,
+            );
+            (writer, outcome)
+        },
+    );
+    let _ = &*back;
+    outcome
+}
+
+/// Runs over the records of the feeds with a thread of its own for each, which decodes them; the caller's thread takes what they
+/// hand over, in the order in which it comes, and writes what is owed. The number of workers is 1 to 16 and changes nothing so
+/// far; the window covers 1 to 65536 packet numbers. Which merge of the feeds' events comes about, the threads decide.
+///
+/// The gate is told of each event before worker 0, the caller's thread, takes it, and of each record before its reader reads it.
+///
+/// # Errors
+///
+/// `Output` exactly where a write failed, else `Memory`, also where a thread can't be started. The bytes that went out before are
+/// a beginning of what the whole run prints for some merge.
+pub fn run<R, G, W, A>(
+    rt: &R,
+    alloc: A,
+    instruments: &[Instrument],
+    a: &[Record<A>],
+    b: &[Record<A>],
+    s: &[Record<A>],
+    _workers: u32,
+    window: u32,
+    gate: &G,
+    writer: &mut W,
+) -> Result<Summary, RunFault>
+where
+    R: Threads + Wait + Sync,
+    G: Gate + Sync,
+    W: CountedWrite,
+    A: Allocator + Copy + Send + Sync,
+    requires sound { W.failed writer.old < 2 ^ 64 - 1 }
+    requires fit { AreFit instruments.now }
+    requires least { 1 ≤ window }
+    requires most { window ≤ 65536 }
+    ensures text { IfOk result (λ summary. (text : List ℕ) × (W.taken writer.new ≡ W.taken writer.old ++ text)
+        × PrintsMerge instruments.now window a.now b.now s.now text summary.next summary.lost) }
+    ensures begins { IfErr result (λ _. BeginsMerge instruments.now window a.now b.now s.now (W.taken writer.old) (W.taken writer.new)) }
+    ensures written { IfOk result (λ summary. HasCounted (W.taken writer.old) (W.taken writer.new) summary.written) }
+    ensures told { IfErr result (λ fault. HasCounted (W.taken writer.old) (W.taken writer.new) (written_before fault)) }
+    ensures failed { FailsBy result (W.failed writer.old) (W.failed writer.new) }
+{
+    run_where(
+        rt,
+        &Always,
+        alloc,
+        instruments,
+        a,
+        b,
+        s,
+        window,
+        gate,
+        writer,
+    )
+}
