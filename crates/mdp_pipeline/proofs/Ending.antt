@@ -9,7 +9,7 @@ use Rattle.mdp_arbiter.specs.Machine.{Move, go_on, is_lost, state_at, trace}
 use Rattle.mdp_arbiter.proofs.Runs.{law_of_fronts}
 use Rattle.mdp_desks.specs.Shown.{showed, shown_after, shown_lines}
 use Rattle.mdp_engine.specs.Engine.{View, Stands}
-use Rattle.mdp_pipeline.specs.declared.run.Run.{Run}
+use Rattle.mdp_pipeline.specs.declared.progress.Run.{Run}
 use Rattle.mdp_pipeline.specs.Merge.{Arrival}
 use Rattle.mdp_pipeline.specs.Output.{end_lines, is_lost_after, moves_of, next_after, shown_output}
 use Rattle.mdp_pipeline.specs.Reading.{by_feed, events_of, refusals_text}
