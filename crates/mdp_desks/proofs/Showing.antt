@@ -30,12 +30,12 @@ behind-unheard : (base : ℕ) (since : List Sent) (m : Sent) → nat_lt base m.p
 behind-unheard base since m under = behind-push base since m ∙ ap (λ (b : Bool). cond b (behind base since ++ m ∷ []) (behind base since)) under
 
 -- the book after a message that is heard
-book_heard : (since : List Sent) (i : Start) (m : Sent) (d : Desk) → nat_lt i.base m.packet ≡ true → DeskShows since i d → book_after d.instrument.id d.book m ≡ book_since i (since ++ m ∷ [])
+book_heard : (since : List Sent) (i : Start) (m : Sent) (d : Desk) → nat_lt i.base m.packet ≡ true → DeskShows since i d → book_after d.instrument d.book m ≡ book_since i (since ++ m ∷ [])
 book_heard since i m d over so_far =
-    ap (λ (j : Instrument). book_after j.id d.book m) so_far.instrument
-    ∙ ap (λ (b : Book). book_after i.instrument.id b m) so_far.book
-    ∙ sym (book_from-push i.instrument.id i.book (behind i.base since) m)
-    ∙ sym (ap (book_from i.instrument.id i.book) (behind-heard i.base since m over))
+    ap (λ (j : Instrument). book_after j d.book m) so_far.instrument
+    ∙ ap (λ (b : Book). book_after i.instrument b m) so_far.book
+    ∙ sym (book_from-push i.instrument i.book (behind i.base since) m)
+    ∙ sym (ap (book_from i.instrument i.book) (behind-heard i.base since m over))
 
 marked_here : (since : List Sent) (i : Start) (m : Sent) (d : Desk) → DeskShows since i d → (d.marked || is_named_in d.instrument.id m) ≡ (is_due i (behind i.base since) || is_named_in i.instrument.id m)
 marked_here since i m d so_far =
@@ -52,7 +52,7 @@ after_case since i m d true over so_far =
     }
 after_case since i m d false under so_far =
     let same = behind-unheard i.base since m under in
-    record { instrument = so_far.instrument; base = so_far.base; book = so_far.book ∙ sym (ap (book_from i.instrument.id i.book) same); marked = so_far.marked ∙ sym (ap (is_due i) same) }
+    record { instrument = so_far.instrument; base = so_far.base; book = so_far.book ∙ sym (ap (book_from i.instrument i.book) same); marked = so_far.marked ∙ sym (ap (is_due i) same) }
 
 after_shows : (since : List Sent) (i : Start) (m : Sent) (d : Desk) → DeskShows since i d → DeskShows (since ++ m ∷ []) i (desk_after m d)
 after_shows since i m d so_far =
@@ -62,19 +62,19 @@ abbrev seen_as : Instrument → Bool → Book → Option Seen
 seen_as instrument printed book = Some (record { instrument = instrument; printed = printed; book = book })
 
 seen_case : (since : List Sent) (i : Start) (m : Sent) (d : Desk) (e b : Bool) → nat_lt i.base m.packet ≡ b → DeskShows since i d
-    → cond (e && b) (seen_as d.instrument (d.marked || is_named_in d.instrument.id m) (book_after d.instrument.id d.book m)) None
+    → cond (e && b) (seen_as d.instrument (d.marked || is_named_in d.instrument.id m) (book_after d.instrument d.book m)) None
     ≡ cond (e && b) (seen_as i.instrument (is_shown i (behind i.base since) m) (book_since i (since ++ m ∷ []))) None
 seen_case since i m d false b over so_far = refl
 seen_case since i m d true false under so_far = refl
 seen_case since i m d true true over so_far =
-    let book : Book = book_after d.instrument.id d.book m in
+    let book : Book = book_after d.instrument d.book m in
     ap (λ (b : Bool). seen_as d.instrument b book) (marked_here since i m d so_far ∙ sym (is_shown-due i (behind i.base since) m))
     ∙ ap (λ (j : Instrument). seen_as j (is_shown i (behind i.base since) m) book) so_far.instrument
     ∙ ap (λ (b : Book). seen_as i.instrument (is_shown i (behind i.base since) m) b) (book_heard since i m d over so_far)
 
 seen_same : (since : List Sent) (i : Start) (m : Sent) (d : Desk) → DeskShows since i d → desk_seen m d ≡ shown_seen since m i
 seen_same since i m d so_far =
-    ap (λ (k : ℕ). cond (m.end && nat_lt k m.packet) (seen_as d.instrument (d.marked || is_named_in d.instrument.id m) (book_after d.instrument.id d.book m)) None) so_far.base
+    ap (λ (k : ℕ). cond (m.end && nat_lt k m.packet) (seen_as d.instrument (d.marked || is_named_in d.instrument.id m) (book_after d.instrument d.book m)) None) so_far.base
     ∙ seen_case since i m d m.end (nat_lt i.base m.packet) refl so_far
 
 -- ---- all desks, message by message

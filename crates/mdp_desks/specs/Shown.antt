@@ -43,7 +43,7 @@ shown listed moves = fold (shown_through listed) (record { starts = opening list
 
 -- A security hears the messages behind its base. Its book is the snapshot's after what it heard.
 abbrev pub book_since : Start → List Sent → Book
-book_since i since = book_from i.instrument.id i.book (behind i.base since)
+book_since i since = book_from i.instrument i.book (behind i.base since)
 
 -- Whether it is to be printed at the next event end that it hears: an entry named it since the last one, or there was
 -- a jump and none yet.

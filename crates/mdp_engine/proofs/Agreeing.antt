@@ -90,9 +90,8 @@ heard_more a b more i same = behind-append i.base a more ∙ ap (λ (t : List Se
 
 same_seen : (a b : List Sent) (m : Sent) (i : Start) → SameHeard a b i → shown_seen a m i ≡ shown_seen b m i
 same_seen a b m i same =
-    let id = i.instrument.id in
-    ap (λ (h : List Sent). cond (m.end && nat_lt i.base m.packet) (seen_as i.instrument (is_shown i h m) (book_from id i.book (behind i.base (a ++ m ∷ [])))) None) same
-    ∙ ap (λ (h : List Sent). cond (m.end && nat_lt i.base m.packet) (seen_as i.instrument (is_shown i (behind i.base b) m) (book_from id i.book h)) None) (heard_more a b (m ∷ []) i same)
+    ap (λ (h : List Sent). cond (m.end && nat_lt i.base m.packet) (seen_as i.instrument (is_shown i h m) (book_from i.instrument i.book (behind i.base (a ++ m ∷ [])))) None) same
+    ∙ ap (λ (h : List Sent). cond (m.end && nat_lt i.base m.packet) (seen_as i.instrument (is_shown i (behind i.base b) m) (book_from i.instrument i.book h)) None) (heard_more a b (m ∷ []) i same)
 
 all_same : (a b : List Sent) (m : Sent) (starts : List Start) → AllByRecursion (SameHeard a b) starts → map (shown_seen a m) starts ≡ map (shown_seen b m) starts
 all_same a b m [] is = refl
@@ -120,7 +119,7 @@ pub record Agrees (feed : List PacketContent) (next : ℕ) (fs : List Footing) (
   pub same : AllByRecursion (SameHeard sh.since (sent (take (next - 1) feed))) sh.starts
 
 abbrev AllJumped : List PacketContent → ℕ → List Instrument → List SnapshotContent → Type 0
-AllJumped feed to listed snapshots = AllZip (λ (i : Instrument) (s : SnapshotContent). IsJumpedTo feed to i.id s) listed snapshots
+AllJumped feed to listed snapshots = AllZip (λ (i : Instrument) (s : SnapshotContent). IsJumpedTo feed to i s) listed snapshots
 
 abbrev lasts : List SnapshotContent → List ℕ
 lasts snapshots = map (λ (s : SnapshotContent). s.last) snapshots
@@ -132,7 +131,7 @@ jump_starts feed to (i ∷ listed) [] is = elim is [ ]
 jump_starts feed to (i ∷ listed) (s ∷ snapshots) is =
     let make : Book → Start = λ book. record { instrument = i; base = s.last; jumped = true; book = book } in
     ap (λ (book : Book). make book ∷ started listed snapshots) is.0.is.book
-    ∙ ap (λ (t : List Start). make (book_at i.id (sent (take s.last feed))) ∷ t) (jump_starts feed to listed snapshots is.1)
+    ∙ ap (λ (t : List Start). make (book_at i (sent (take s.last feed))) ∷ t) (jump_starts feed to listed snapshots is.1)
 
 jump_same : (feed : List PacketContent) (to : ℕ) (listed : List Instrument) (snapshots : List SnapshotContent) → IsFeed feed → AllJumped feed to listed snapshots → AllByRecursion (SameHeard [] (sent (take (to - 1) feed))) (started listed snapshots)
 jump_same feed to [] [] fed is = tt

@@ -52,7 +52,7 @@ start_listed : (listed : List Instrument) → instruments (at_start listed) ≡ 
 start_listed [] = refl
 start_listed (i ∷ listed) = ap (λ (t : List Instrument). i ∷ t) (start_listed listed)
 
-footed_listed : (feed : List PacketContent) (new : ℕ) (listed : List Instrument) (snapshots : List SnapshotContent) → AllZip (λ (i : Instrument) (s : SnapshotContent). IsJumpedTo feed new i.id s) listed snapshots
+footed_listed : (feed : List PacketContent) (new : ℕ) (listed : List Instrument) (snapshots : List SnapshotContent) → AllZip (λ (i : Instrument) (s : SnapshotContent). IsJumpedTo feed new i s) listed snapshots
     → instruments (footed listed (map (λ (s : SnapshotContent). s.last) snapshots)) ≡ listed
 footed_listed feed new [] snapshots is = refl
 footed_listed feed new (i ∷ listed) [] is = elim is [ ]
@@ -71,12 +71,12 @@ record Parted (feed : List PacketContent) (n : ℕ) (i : Footing) : Type 0 where
   pub head : List Sent
   pub parts : sent (take n feed) ≡ head ++ behind i.base (sent (take n feed))
   pub opening : i.jumped ≡ false → head ≡ []
-  pub book : book_at i.instrument.id (sent (take (max n i.base) feed)) ≡ book_from i.instrument.id (book_at i.instrument.id (sent (take i.base feed))) (behind i.base (sent (take n feed)))
+  pub book : book_at i.instrument (sent (take (max n i.base) feed)) ≡ book_from i.instrument (book_at i.instrument (sent (take i.base feed))) (behind i.base (sent (take n feed)))
 
 parted : (feed : List PacketContent) (n : ℕ) (i : Footing) → IsFeed feed → Opening i → Parted feed n i
 parted feed n i fed opening = elim (leb_tells i.base n) [
   | inl under ↦
-      let id = i.instrument.id in
+      let listed = i.instrument in
       let front = sent (take n feed) in
       let split : front ≡ sent (take i.base feed) ++ behind i.base front = sent-split feed i.base n fed under.1 in
       let most : max n i.base ≡ n = omega (arith, under.1) in
@@ -84,10 +84,10 @@ parted feed n i fed opening = elim (leb_tells i.base n) [
         head = sent (take i.base feed);
         parts = split;
         opening = λ still. ap (λ (k : ℕ). sent (take k feed)) (opening still);
-        book = ap (λ (k : ℕ). book_at id (sent (take k feed))) most ∙ ap (book_at id) split ∙ book_at-append id (sent (take i.base feed)) (behind i.base front);
+        book = ap (λ (k : ℕ). book_at listed (sent (take k feed))) most ∙ ap (book_at listed) split ∙ book_at-append listed (sent (take i.base feed)) (behind i.base front);
       }
   | inr over ↦
-      let id = i.instrument.id in
+      let listed = i.instrument in
       let front = sent (take n feed) in
       let none : behind i.base front ≡ [] = behind-front feed i.base n fed (omega (arith, over.1)) in
       let most : max n i.base ≡ i.base = omega (arith, over.1) in
@@ -95,12 +95,12 @@ parted feed n i fed opening = elim (leb_tells i.base n) [
         head = front;
         parts = sym (append-nil front) ∙ ap (λ (t : List Sent). front ++ t) (sym none);
         opening = λ still. absurd (omega (arith, over.1, opening still));
-        book = ap (λ (k : ℕ). book_at id (sent (take k feed))) most ∙ ap (book_from id (book_at id (sent (take i.base feed)))) (sym none);
+        book = ap (λ (k : ℕ). book_at listed (sent (take k feed))) most ∙ ap (book_from listed (book_at listed (sent (take i.base feed)))) (sym none);
       }
 ]
 
-book_alike : (feed : List PacketContent) (n : ℕ) (i : Footing) (since : List Sent) → Parted feed n i → SameHeard since (sent (take n feed)) (start_of feed i) → book_since (start_of feed i) since ≡ book_at i.instrument.id (sent (take (max n i.base) feed))
-book_alike feed n i since parted same = ap (book_from i.instrument.id (book_at i.instrument.id (sent (take i.base feed)))) same ∙ sym parted.book
+book_alike : (feed : List PacketContent) (n : ℕ) (i : Footing) (since : List Sent) → Parted feed n i → SameHeard since (sent (take n feed)) (start_of feed i) → book_since (start_of feed i) since ≡ book_at i.instrument (sent (take (max n i.base) feed))
+book_alike feed n i since parted same = ap (book_from i.instrument (book_at i.instrument (sent (take i.base feed)))) same ∙ sym parted.book
 
 mark_alike : (feed : List PacketContent) (n : ℕ) (i : Footing) (since : List Sent) → Parted feed n i → SameHeard since (sent (take n feed)) (start_of feed i) → is_due (start_of feed i) (behind i.base since) ≡ is_owed i (sent (take n feed))
 mark_alike feed n i since parted same =
@@ -169,7 +169,7 @@ record Ends (listed : List Instrument) (feed : List PacketContent) (next : ℕ) 
 listed_channel : (listed : List Instrument) (channel : Channel) → channel.ids ≡ ids_of listed → channel ≡ channel_of listed channel.room
 listed_channel listed channel is = ap (λ (ids : List ℤ). record { room = channel.room; ids = ids }) is
 
-ends : (listed : List Instrument) (feed : List PacketContent) (es : List Event) (v : View) → IsHonest (ids_of listed) feed es → IsSettled listed es v.arbiter → Ends listed feed v.arbiter.next (trace v.arbiter.channel es)
+ends : (listed : List Instrument) (feed : List PacketContent) (es : List Event) (v : View) → IsHonest listed feed es → IsSettled listed es v.arbiter → Ends listed feed v.arbiter.next (trace v.arbiter.channel es)
 ends listed feed es v honest settled =
     let moves = trace v.arbiter.channel es in
     let are : AreOf listed feed 1 moves =
@@ -185,7 +185,7 @@ ends listed feed es v honest settled =
       text = shows_what_is_owed listed feed moves honest.complete are;
     }
 
-stands_under : (listed : List Instrument) (feed : List PacketContent) (es : List Event) (drained : List ℕ) (v : View) → IsHonest (ids_of listed) feed es → Stands listed es drained v → StandsUnder listed feed es drained v
+stands_under : (listed : List Instrument) (feed : List PacketContent) (es : List Event) (drained : List ℕ) (v : View) → IsHonest listed feed es → Stands listed es drained v → StandsUnder listed feed es drained v
 stands_under listed feed es drained v honest stands =
     let moves = trace v.arbiter.channel es in
     let fs = footings listed (steps_of moves) in
@@ -198,7 +198,7 @@ stands_under listed feed es drained v honest stands =
       text = stands.shows.text_is ∙ at.text;
     }
 
-stands_shown : (listed : List Instrument) (feed : List PacketContent) (es : List Event) (drained : List ℕ) (v : View) → IsHonest (ids_of listed) feed es → StandsUnder listed feed es drained v → Stands listed es drained v
+stands_shown : (listed : List Instrument) (feed : List PacketContent) (es : List Event) (drained : List ℕ) (v : View) → IsHonest listed feed es → StandsUnder listed feed es drained v → Stands listed es drained v
 stands_shown listed feed es drained v honest stands =
     let moves = trace v.arbiter.channel es in
     let fs = footings listed (steps_of moves) in

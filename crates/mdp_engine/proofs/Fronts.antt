@@ -122,23 +122,23 @@ behind-heard : (base : ℕ) (before : List Sent) (m : Sent) → nat_lt base m.pa
 behind-heard base before m over = behind-push base before m ∙ ap (λ (b : Bool). cond b (behind base before ++ m ∷ []) (behind base before)) over
 
 seen_case : (feed : List PacketContent) (before : List Sent) (m : Sent) (i : Footing) (e b : Bool) → nat_lt i.base m.packet ≡ b → Heard feed m.packet before i
-    → cond (e && b) (seen_as i.instrument (is_printed i before m) (book_at i.instrument.id (before ++ m ∷ []))) None
+    → cond (e && b) (seen_as i.instrument (is_printed i before m) (book_at i.instrument (before ++ m ∷ []))) None
     ≡ cond (e && b) (seen_as i.instrument (is_shown (start_of feed i) (behind i.base before) m) (book_since (start_of feed i) (before ++ m ∷ []))) None
 seen_case feed before m i false b over is = refl
 seen_case feed before m i true false under is = refl
 seen_case feed before m i true true over is =
-    let id = i.instrument.id in
+    let listed = i.instrument in
     let head = sent (take i.base feed) in
     let h = behind i.base before in
     let parts : before ≡ head ++ h = is.parts over in
     let mark : is_printed i before m ≡ is_shown (start_of feed i) h m =
-    ap (λ (t : List Sent). touches id (since_end t ++ m ∷ []) || (i.jumped && not (has_end h))) parts ∙ same_mark id head h (m ∷ []) i.jumped (no_head feed i is.opening) in
-    let book : book_at id (before ++ m ∷ []) ≡ book_since (start_of feed i) (before ++ m ∷ []) =
-    ap (λ (t : List Sent). book_at id (t ++ m ∷ [])) parts
-    ∙ ap (book_at id) (append_assoc head h (m ∷ []))
-    ∙ book_at-append id head (h ++ m ∷ [])
-    ∙ ap (book_from id (book_at id head)) (sym (behind-heard i.base before m over)) in
-    ap (λ (b : Bool). seen_as i.instrument b (book_at id (before ++ m ∷ []))) mark ∙ ap (λ (k : Book). seen_as i.instrument (is_shown (start_of feed i) h m) k) book
+    ap (λ (t : List Sent). touches listed.id (since_end t ++ m ∷ []) || (i.jumped && not (has_end h))) parts ∙ same_mark listed.id head h (m ∷ []) i.jumped (no_head feed i is.opening) in
+    let book : book_at listed (before ++ m ∷ []) ≡ book_since (start_of feed i) (before ++ m ∷ []) =
+    ap (λ (t : List Sent). book_at listed (t ++ m ∷ [])) parts
+    ∙ ap (book_at listed) (append_assoc head h (m ∷ []))
+    ∙ book_at-append listed head (h ++ m ∷ [])
+    ∙ ap (book_from listed (book_at listed head)) (sym (behind-heard i.base before m over)) in
+    ap (λ (b : Bool). seen_as listed b (book_at listed (before ++ m ∷ []))) mark ∙ ap (λ (k : Book). seen_as listed (is_shown (start_of feed i) h m) k) book
 
 all_seen : (feed : List PacketContent) (before : List Sent) (m : Sent) (fs : List Footing) → AllByRecursion (Heard feed m.packet before) fs → map (seen_at before m) fs ≡ map (shown_seen before m) (map (start_of feed) fs)
 all_seen feed before m [] is = refl

@@ -59,7 +59,7 @@ kept_told packet message seen kept less = kept_from packet message seen [] kept 
 
 pub record KeptHeard (heard : List Sent) (i : Start) (kept : Option Best) : Type 0 where
   pub waits : i.jumped ≡ true → has_end heard ≡ false → kept ≡ None
-  pub stays : is_due i heard ≡ false → kept ≡ best_of (book_from i.instrument.id i.book heard)
+  pub stays : is_due i heard ≡ false → kept ≡ best_of (book_from i.instrument i.book heard)
 
 abbrev pub KeptShows : List Sent → Start → Option Best → Type 0
 KeptShows since i kept = KeptHeard (behind i.base since) i kept
@@ -78,12 +78,12 @@ neither true b none = absurd cc
 neither false b none = (refl, none)
 
 -- a message that doesn't name the security leaves its book
-same_book : (i : Start) (h : List Sent) (m : Sent) → is_named_in i.instrument.id m ≡ false → book_from i.instrument.id i.book (h ++ m ∷ []) ≡ book_from i.instrument.id i.book h
+same_book : (i : Start) (h : List Sent) (m : Sent) → is_named_in i.instrument.id m ≡ false → book_from i.instrument i.book (h ++ m ∷ []) ≡ book_from i.instrument i.book h
 same_book i h m unnamed =
-    book_from-push i.instrument.id i.book h m
-    ∙ entered_from-others i.instrument.id m.packet m.message 1 m.entries (book_from i.instrument.id i.book h) unnamed
+    book_from-push i.instrument i.book h m
+    ∙ entered_from-others i.instrument m.packet m.message 1 m.entries (book_from i.instrument i.book h) unnamed
 
-stays_so : (i : Start) (h : List Sent) (m : Sent) (b : Option Best) → KeptHeard h i b → is_shown i h m ≡ false → b ≡ best_of (book_from i.instrument.id i.book (h ++ m ∷ []))
+stays_so : (i : Start) (h : List Sent) (m : Sent) (b : Option Best) → KeptHeard h i b → is_shown i h m ≡ false → b ≡ best_of (book_from i.instrument i.book (h ++ m ∷ []))
 stays_so i h m b so_far silent =
     let both = neither (is_due i h) (is_named_in i.instrument.id m) (sym (is_shown-due i h m) ∙ silent) in
     so_far.stays both.0 ∙ ap best_of (sym (same_book i h m both.1))
@@ -103,7 +103,7 @@ or-true true = refl
 or-true false = refl
 
 -- one more that is heard and ends an event
-heard_end : (i : Start) (h : List Sent) (m : Sent) (b new : Option Best) → m.end ≡ true → new ≡ best_of (book_from i.instrument.id i.book (h ++ m ∷ [])) → KeptHeard (h ++ m ∷ []) i new
+heard_end : (i : Start) (h : List Sent) (m : Sent) (b new : Option Best) → m.end ≡ true → new ≡ best_of (book_from i.instrument i.book (h ++ m ∷ [])) → KeptHeard (h ++ m ∷ []) i new
 heard_end i h m b new is right =
     let ends : has_end (h ++ m ∷ []) ≡ true = has_end-push h m ∙ ap (λ (e : Bool). has_end h || e) is ∙ or-true (has_end h) in
     record { waits = λ jumped none. let apart : true ≡ false = sym ends ∙ none in absurd cc; stays = λ still. right }
@@ -120,7 +120,7 @@ right_there since m i b over so_far = by_printed (is_shown i (behind i.base sinc
   where
     by_printed : (p : Bool) → is_shown i (behind i.base since) m ≡ p → cond p (best_of (book_since i (since ++ m ∷ []))) b ≡ best_of (book_since i (since ++ m ∷ []))
     by_printed true is = refl
-    by_printed false is = stays_so i (behind i.base since) m b so_far is ∙ ap (λ (h : List Sent). best_of (book_from i.instrument.id i.book h)) (sym (heard_more i.base since m over))
+    by_printed false is = stays_so i (behind i.base since) m b so_far is ∙ ap (λ (h : List Sent). best_of (book_from i.instrument i.book h)) (sym (heard_more i.base since m over))
 
 keeps_case : (since : List Sent) (m : Sent) (i : Start) (b : Option Best) (e o : Bool) → m.end ≡ e → nat_lt i.base m.packet ≡ o → KeptShows since i b
     → KeptShows (since ++ m ∷ []) i (cond e (kept_one (cond (e && o) (Some (there_of since m i)) None) b) b)
@@ -128,7 +128,7 @@ keeps_case since m i b true true ends over so_far =
     let same = heard_more i.base since m over in
     let right = right_there since m i b over so_far in
     subst (λ (h : List Sent). KeptHeard h i (kept_one (Some (there_of since m i)) b)) (sym same)
-    (heard_end i (behind i.base since) m b (kept_one (Some (there_of since m i)) b) ends (right ∙ ap (λ (h : List Sent). best_of (book_from i.instrument.id i.book h)) same))
+    (heard_end i (behind i.base since) m b (kept_one (Some (there_of since m i)) b) ends (right ∙ ap (λ (h : List Sent). best_of (book_from i.instrument i.book h)) same))
 keeps_case since m i b true false ends under so_far = subst (λ (h : List Sent). KeptHeard h i b) (sym (unheard_more i.base since m under)) so_far
 keeps_case since m i b false true on over so_far = subst (λ (h : List Sent). KeptHeard h i b) (sym (heard_more i.base since m over)) (heard_on i (behind i.base since) m b on so_far)
 keeps_case since m i b false false on under so_far = subst (λ (h : List Sent). KeptHeard h i b) (sym (unheard_more i.base since m under)) so_far

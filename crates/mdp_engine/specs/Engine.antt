@@ -54,7 +54,7 @@ is_owed i before = touches i.instrument.id (since_end before) || (i.jumped && no
 pub record DeskStands (feed : List PacketContent) (next : ℕ) (i : Footing) (desk : Desk) : Type 0 where
   pub instrument : desk.instrument ≡ i.instrument
   pub base : desk.base ≡ i.base
-  pub book : desk.book ≡ book_at i.instrument.id (sent (take (max (next - 1) i.base) feed))
+  pub book : desk.book ≡ book_at i.instrument (sent (take (max (next - 1) i.base) feed))
   pub marked : desk.marked ≡ is_owed i (sent (take (next - 1) feed))
 
 -- An engine stands at these events under a complete feed, of which this text was drained: its desks are the feed's,
@@ -66,7 +66,7 @@ pub record StandsUnder (listed : List Instrument) (feed : List PacketContent) (e
 
 -- Under a complete feed that the events agree with, what the moves show is what the feed has, and the other way round.
 abbrev pub StandsAlike : Type 0
-StandsAlike = (listed : List Instrument) (feed : List PacketContent) (es : List Event) (drained : List ℕ) (v : View) → IsHonest (ids_of listed) feed es
+StandsAlike = (listed : List Instrument) (feed : List PacketContent) (es : List Event) (drained : List ℕ) (v : View) → IsHonest listed feed es
     → (Stands listed es drained v → StandsUnder listed feed es drained v) × (StandsUnder listed feed es drained v → Stands listed es drained v)
 
 -- ---- moves one after another

@@ -45,7 +45,7 @@ is_printed i before m = touches i.instrument.id (since_end before ++ m ∷ []) |
 
 -- none where m ends no event, or doesn't stand behind the security's base
 abbrev pub seen_at : List Sent → Sent → Footing → Option Seen
-seen_at before m i = if m.end && nat_lt i.base m.packet then Some (record { instrument = i.instrument; printed = is_printed i before m; book = book_at i.instrument.id (before ++ m ∷ []) }) else None
+seen_at before m i = if m.end && nat_lt i.base m.packet then Some (record { instrument = i.instrument; printed = is_printed i before m; book = book_at i.instrument (before ++ m ∷ []) }) else None
 
 abbrev pub lines_at : List Footing → List Sent → Sent → List ℕ
 lines_at listed before m = lines_of m (map (seen_at before m) listed)
