@@ -9,7 +9,8 @@ use Rattle.mdp_books.specs.Feed.{Sent, sent_in, behind}
 use Rattle.mdp_arbiter.specs.Machine.{Move}
 use Rattle.mdp_arbiter.specs.Machine.Move.{passed, jumped}
 use Rattle.mdp_desks.specs.Lines.{Seen, text_of, audit_text, lines_as}
-use Rattle.mdp_desks.specs.Shown.{Start, shown, is_shown, book_since, shown_seen, shown_at, shown_from, showed, shown_after}
+use Rattle.mdp_desks.specs.Shown.{Start, shown, book_since, shown_seen, shown_at, shown_from, showed, shown_after}
+use Rattle.mdp_desks.specs.Due.{is_printed}
 use Rattle.mdp_print.specs.Texts.{jump_line}
 use Rattle.mdp_desks.specs.Moments.{ended, moment_text, moment_at, moments_from, moments_of, moments_after}
 use Rattle.mdp_desks.specs.ShareLaws.{LawOfMoments}
@@ -28,7 +29,7 @@ no_lines packet message starts =
     ∙ nothing (audit_text packet message (unseen starts)) starts refl
 
 abbrev there : List Sent → Sent → Start → Option Seen
-there since m i = Some (record { instrument = i.instrument; printed = is_shown i (behind i.base since) m; book = book_since i (since ++ m ∷ []) })
+there since m i = Some (record { instrument = i.instrument; printed = is_printed i.instrument.id i.jumped (behind i.base since) m; book = book_since i (since ++ m ∷ []) })
 
 -- a message that ends no event shows nothing
 pub none_seen : (starts : List Start) (since : List Sent) (m : Sent) → m.end ≡ false → map (shown_seen since m) starts ≡ unseen starts

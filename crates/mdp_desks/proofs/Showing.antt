@@ -14,12 +14,13 @@ use Rattle.mdp_print.specs.Texts.{jump_line}
 use Rattle.mdp_desks.specs.declared.desk.Desk.{Desk}
 use Rattle.mdp_desks.specs.Lines.{Seen, lines_of}
 use Rattle.mdp_arbiter.specs.Machine.{Move}
-use Rattle.mdp_desks.specs.Shown.{Start, Shown, opening, shown, shown_through, started, book_since, is_due, is_shown, shown_seen, shown_at, shown_from, showed, shown_after, shown_lines}
+use Rattle.mdp_desks.specs.Shown.{Start, Shown, opening, shown, shown_through, started, book_since, shown_seen, shown_at, shown_from, showed, shown_after, shown_lines}
+use Rattle.mdp_desks.specs.Due.{is_due, is_printed}
 use Rattle.mdp_arbiter.specs.Machine.Move.{passed, jumped}
 use Rattle.mdp_desks.specs.Desks.{desk_at_start, heard, desk_after, desk_seen, desks_after, desks_text, passed_desks, passed_text, desk_jumped, rebased_desks}
 use Rattle.mdp_desks.specs.Standing.{DeskShows, Shows}
 use Rattle.mdp_desks.specs.Beside.{listed_in}
-use Rattle.mdp_desks.proofs.Marks.{is_due-push, is_shown-due}
+use Rattle.mdp_desks.proofs.Marks.{is_due-push}
 
 -- ---- one desk and one message
 
@@ -37,10 +38,10 @@ book_heard since i m d over so_far =
     ∙ sym (book_from-push i.instrument i.book (behind i.base since) m)
     ∙ sym (ap (book_from i.instrument i.book) (behind-heard i.base since m over))
 
-marked_here : (since : List Sent) (i : Start) (m : Sent) (d : Desk) → DeskShows since i d → (d.marked || is_named_in d.instrument.id m) ≡ (is_due i (behind i.base since) || is_named_in i.instrument.id m)
+marked_here : (since : List Sent) (i : Start) (m : Sent) (d : Desk) → DeskShows since i d → (d.marked || is_named_in d.instrument.id m) ≡ (is_due i.instrument.id i.jumped (behind i.base since) || is_named_in i.instrument.id m)
 marked_here since i m d so_far =
     ap (λ (b : Bool). b || is_named_in d.instrument.id m) so_far.marked
-    ∙ ap (λ (j : Instrument). is_due i (behind i.base since) || is_named_in j.id m) so_far.instrument
+    ∙ ap (λ (j : Instrument). is_due i.instrument.id i.jumped (behind i.base since) || is_named_in j.id m) so_far.instrument
 
 after_case : (since : List Sent) (i : Start) (m : Sent) (d : Desk) (b : Bool) → nat_lt i.base m.packet ≡ b → DeskShows since i d → DeskShows (since ++ m ∷ []) i (cond b (heard m d) d)
 after_case since i m d true over so_far =
@@ -48,11 +49,11 @@ after_case since i m d true over so_far =
       instrument = so_far.instrument;
       base = so_far.base;
       book = book_heard since i m d over so_far;
-      marked = ap (λ (b : Bool). not m.end && b) (marked_here since i m d so_far) ∙ sym (is_due-push i (behind i.base since) m) ∙ sym (ap (is_due i) (behind-heard i.base since m over));
+      marked = ap (λ (b : Bool). not m.end && b) (marked_here since i m d so_far) ∙ sym (is_due-push i.instrument.id i.jumped (behind i.base since) m) ∙ sym (ap (is_due i.instrument.id i.jumped) (behind-heard i.base since m over));
     }
 after_case since i m d false under so_far =
     let same = behind-unheard i.base since m under in
-    record { instrument = so_far.instrument; base = so_far.base; book = so_far.book ∙ sym (ap (book_from i.instrument i.book) same); marked = so_far.marked ∙ sym (ap (is_due i) same) }
+    record { instrument = so_far.instrument; base = so_far.base; book = so_far.book ∙ sym (ap (book_from i.instrument i.book) same); marked = so_far.marked ∙ sym (ap (is_due i.instrument.id i.jumped) same) }
 
 after_shows : (since : List Sent) (i : Start) (m : Sent) (d : Desk) → DeskShows since i d → DeskShows (since ++ m ∷ []) i (desk_after m d)
 after_shows since i m d so_far =
@@ -63,14 +64,14 @@ seen_as instrument printed book = Some (record { instrument = instrument; printe
 
 seen_case : (since : List Sent) (i : Start) (m : Sent) (d : Desk) (e b : Bool) → nat_lt i.base m.packet ≡ b → DeskShows since i d
     → cond (e && b) (seen_as d.instrument (d.marked || is_named_in d.instrument.id m) (book_after d.instrument d.book m)) None
-    ≡ cond (e && b) (seen_as i.instrument (is_shown i (behind i.base since) m) (book_since i (since ++ m ∷ []))) None
+    ≡ cond (e && b) (seen_as i.instrument (is_printed i.instrument.id i.jumped (behind i.base since) m) (book_since i (since ++ m ∷ []))) None
 seen_case since i m d false b over so_far = refl
 seen_case since i m d true false under so_far = refl
 seen_case since i m d true true over so_far =
     let book : Book = book_after d.instrument d.book m in
-    ap (λ (b : Bool). seen_as d.instrument b book) (marked_here since i m d so_far ∙ sym (is_shown-due i (behind i.base since) m))
-    ∙ ap (λ (j : Instrument). seen_as j (is_shown i (behind i.base since) m) book) so_far.instrument
-    ∙ ap (λ (b : Book). seen_as i.instrument (is_shown i (behind i.base since) m) b) (book_heard since i m d over so_far)
+    ap (λ (b : Bool). seen_as d.instrument b book) (marked_here since i m d so_far)
+    ∙ ap (λ (j : Instrument). seen_as j (is_printed i.instrument.id i.jumped (behind i.base since) m) book) so_far.instrument
+    ∙ ap (λ (b : Book). seen_as i.instrument (is_printed i.instrument.id i.jumped (behind i.base since) m) b) (book_heard since i m d over so_far)
 
 seen_same : (since : List Sent) (i : Start) (m : Sent) (d : Desk) → DeskShows since i d → desk_seen m d ≡ shown_seen since m i
 seen_same since i m d so_far =

@@ -1,12 +1,13 @@
 -- What the moves themselves show, with no complete feed: a packet that passes bears its messages, a jump its snapshots.
-use Rattle.std.specs.Prelude.{Option, Some, None, ℕ, List, [], ◌∷◌, ◌++◌, Bool, true, false, not, ◌&&◌, ◌||◌, if◌then◌else◌, fold, map, nat_lt}
+use Rattle.std.specs.Prelude.{Option, Some, None, ℕ, List, [], ◌∷◌, ◌++◌, Bool, true, false, ◌&&◌, if◌then◌else◌, fold, map, nat_lt}
 use Rattle.mdp_templates.specs.Snapshot.{SnapshotContent}
 use Rattle.mdp_templates.specs.declared.instrument.Instrument.{Instrument}
 use Rattle.mdp_books.specs.declared.book.Book.{Book}
 use Rattle.mdp_books.specs.Book.{empty_book, book_of_snapshot}
-use Rattle.mdp_books.specs.Feed.{Sent, sent_in, book_from, since_end, touches, has_end, behind}
+use Rattle.mdp_books.specs.Feed.{Sent, sent_in, book_from, behind}
 use Rattle.mdp_print.specs.Texts.{jump_line}
 use Rattle.mdp_desks.specs.Lines.{Seen, lines_of}
+use Rattle.mdp_desks.specs.Due.{is_printed}
 use Rattle.mdp_arbiter.specs.Machine.{Move}
 use Rattle.mdp_arbiter.specs.Machine.Move.{passed, jumped}
 
@@ -45,16 +46,8 @@ shown listed moves = fold (shown_through listed) (record { starts = opening list
 abbrev pub book_since : Start → List Sent → Book
 book_since i since = book_from i.instrument i.book (behind i.base since)
 
--- Whether it is to be printed at the next event end that it hears: an entry named it since the last one, or there was
--- a jump and none yet.
-abbrev pub is_due : Start → List Sent → Bool
-is_due i heard = touches i.instrument.id (since_end heard) || (i.jumped && not (has_end heard))
-
-abbrev pub is_shown : Start → List Sent → Sent → Bool
-is_shown i heard m = touches i.instrument.id (since_end heard ++ m ∷ []) || (i.jumped && not (has_end heard))
-
 abbrev pub shown_seen : List Sent → Sent → Start → Option Seen
-shown_seen since m i = if m.end && nat_lt i.base m.packet then Some (record { instrument = i.instrument; printed = is_shown i (behind i.base since) m; book = book_since i (since ++ m ∷ []) }) else None
+shown_seen since m i = if m.end && nat_lt i.base m.packet then Some (record { instrument = i.instrument; printed = is_printed i.instrument.id i.jumped (behind i.base since) m; book = book_since i (since ++ m ∷ []) }) else None
 
 abbrev pub shown_at : List Start → List Sent → Sent → List ℕ
 shown_at starts since m = lines_of m (map (shown_seen since m) starts)

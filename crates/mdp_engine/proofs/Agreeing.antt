@@ -18,44 +18,21 @@ use Rattle.mdp_desks.specs.Lines.{Seen, lines_of}
 use Rattle.mdp_engine.specs.Owed.{Step, Footing, footed, at_start, footings_through, footings, lines_from, owed, lines_after}
 use Rattle.mdp_engine.specs.Owed.Step.{pass, jump}
 use Rattle.mdp_arbiter.specs.Machine.{Move}
-use Rattle.mdp_desks.specs.Shown.{Start, Shown, started, shown, shown_through, is_shown, shown_seen, shown_at, shown_from, showed, shown_after, opening}
+use Rattle.mdp_desks.specs.Shown.{Start, Shown, started, shown, shown_through, shown_seen, shown_at, shown_from, showed, shown_after, opening}
+use Rattle.mdp_desks.specs.Due.{is_printed}
 use Rattle.mdp_engine.specs.Owed.{step_of, steps_of}
 use Rattle.mdp_arbiter.specs.Machine.Move.{passed, jumped}
 use Rattle.mdp_engine.specs.Agreed.{start_of, AreOf, ShowsWhatIsOwed}
 use Rattle.mdp_desks.proofs.Showing.{shown-push}
 use Rattle.mdp_engine.proofs.Fronts.{Heard, sent-split, behind-front, lines_shown}
 
--- ---- what the steps bear
+-- ---- what the listed securities hear
 
--- before the first jump a base is 0
-abbrev pub Opening : Footing → Type 0
-Opening i = i.jumped ≡ false → i.base ≡ 0
-
-opening_start : (listed : List Instrument) → AllByRecursion Opening (at_start listed)
-opening_start [] = tt
-opening_start (i ∷ is) = (λ still. refl, opening_start is)
-
-opening_footed : (listed : List Instrument) (bases : List ℕ) → AllByRecursion Opening (footed listed bases)
-opening_footed [] bases = tt
-opening_footed (i ∷ is) [] = tt
-opening_footed (i ∷ is) (base ∷ bases) = (λ still. absurd cc, opening_footed is bases)
-
-opening_from : (listed : List Instrument) (fs : List Footing) (steps : List Step) → AllByRecursion Opening fs → AllByRecursion Opening (fold (footings_through listed) fs steps)
-opening_from listed fs [] is = is
-opening_from listed fs (pass k ∷ steps) is = opening_from listed fs steps is
-opening_from listed fs (jump old new bases ∷ steps) is = opening_from listed (footed listed bases) steps (opening_footed listed bases)
-
-pub all_opening : (listed : List Instrument) (steps : List Step) → AllByRecursion Opening (footings listed steps)
-all_opening listed steps = opening_from listed (at_start listed) steps (opening_start listed)
-
-pub all_heard : (feed : List PacketContent) (next : ℕ) (fs : List Footing) → 1 ≤ next → IsFeed feed → AllByRecursion Opening fs → AllByRecursion (Heard feed next (sent (take (next - 1) feed))) fs
-all_heard feed next [] first is opening = tt
-all_heard feed next (i ∷ fs) first is opening =
-    let here : Heard feed next (sent (take (next - 1) feed)) i = record {
-      opening = opening.0;
-      parts = λ over. let less : suc i.base ≤ next = grind (arith, nat_tests, over) in sent-split feed i.base (next - 1) is (omega arith);
-    } in
-    (here, all_heard feed next fs first is opening.1)
+pub all_heard : (feed : List PacketContent) (next : ℕ) (fs : List Footing) → 1 ≤ next → IsFeed feed → AllByRecursion (Heard feed next (sent (take (next - 1) feed))) fs
+all_heard feed next [] first is = tt
+all_heard feed next (i ∷ fs) first is =
+    let here : Heard feed next (sent (take (next - 1) feed)) i = λ over. let less : suc i.base ≤ next = grind (arith, nat_tests, over) in sent-split feed i.base (next - 1) is (omega arith) in
+    (here, all_heard feed next fs first is)
 
 -- ---- the feed's next packet
 
@@ -90,8 +67,8 @@ heard_more a b more i same = behind-append i.base a more ∙ ap (λ (t : List Se
 
 same_seen : (a b : List Sent) (m : Sent) (i : Start) → SameHeard a b i → shown_seen a m i ≡ shown_seen b m i
 same_seen a b m i same =
-    ap (λ (h : List Sent). cond (m.end && nat_lt i.base m.packet) (seen_as i.instrument (is_shown i h m) (book_from i.instrument i.book (behind i.base (a ++ m ∷ [])))) None) same
-    ∙ ap (λ (h : List Sent). cond (m.end && nat_lt i.base m.packet) (seen_as i.instrument (is_shown i (behind i.base b) m) (book_from i.instrument i.book h)) None) (heard_more a b (m ∷ []) i same)
+    ap (λ (h : List Sent). cond (m.end && nat_lt i.base m.packet) (seen_as i.instrument (is_printed i.instrument.id i.jumped h m) (book_from i.instrument i.book (behind i.base (a ++ m ∷ [])))) None) same
+    ∙ ap (λ (h : List Sent). cond (m.end && nat_lt i.base m.packet) (seen_as i.instrument (is_printed i.instrument.id i.jumped (behind i.base b) m) (book_from i.instrument i.book h)) None) (heard_more a b (m ∷ []) i same)
 
 all_same : (a b : List Sent) (m : Sent) (starts : List Start) → AllByRecursion (SameHeard a b) starts → map (shown_seen a m) starts ≡ map (shown_seen b m) starts
 all_same a b m [] is = refl
@@ -161,7 +138,7 @@ pass_owed listed feed before p fed at agrees =
     let here : sent (take 1 (drop (k - 1) feed)) ≡ sent_in p = ap sent (one_at feed (k - 1) p at.place) ∙ append-nil (sent_in p) in
     same_from (sent_in p) (shown listed before).since front (shown listed before).starts agrees.same
     ∙ ap (λ (starts : List Start). shown_from starts front (sent_in p)) agrees.starts
-    ∙ sym (lines_shown feed fs k 1 front p.messages (all_heard feed k fs at.first fed (all_opening listed (steps_of before))))
+    ∙ sym (lines_shown feed fs k 1 front p.messages (all_heard feed k fs at.first fed))
     ∙ ap (lines_from fs front) (sym here)
 
 pub pass_agrees : (listed : List Instrument) (feed : List PacketContent) (before : List Move) (p : PacketContent) → IsIn feed p → Agrees feed p.number (footings listed (steps_of before)) (shown listed before) → Agrees feed (p.number + 1) (footings listed (steps_of (before ++ passed p ∷ []))) (shown listed (before ++ passed p ∷ []))

@@ -1,13 +1,13 @@
 -- What the moves show at their end, and what the complete feed has there.
-use Rattle.std.proofs.Common.{◌≡◌, ℤ, ℕ, ◌+◌, ◌-◌, Bool, false, List, [], ◌∷◌, ◌++◌, map, take, refl, sym, ap, subst, ◌∙◌, append_assoc, arith, inl, inr}
-use Rattle.std.specs.Prelude.{◌||◌, ◌&&◌, not, max, fold}
+use Rattle.std.proofs.Common.{◌≡◌, ℤ, ℕ, ◌+◌, ◌-◌, List, [], ◌∷◌, ◌++◌, map, take, refl, sym, ap, subst, ◌∙◌, append_assoc, arith, inl, inr}
+use Rattle.std.specs.Prelude.{max, fold}
 use Rattle.std.specs.List.{AllZip, AllByRecursion}
 use Rattle.std.proofs.lemmas.Bool.Decides.{leb_tells}
 use Rattle.std.proofs.lemmas.List.{append-nil}
 use Rattle.mdp_templates.specs.Packet.{PacketContent}
 use Rattle.mdp_templates.specs.Snapshot.{SnapshotContent}
 use Rattle.mdp_templates.specs.declared.instrument.Instrument.{Instrument}
-use Rattle.mdp_books.specs.Feed.{Sent, sent, book_from, book_at, since_end, touches, has_end, behind}
+use Rattle.mdp_books.specs.Feed.{Sent, sent, book_from, book_at, behind}
 use Rattle.mdp_books.proofs.Feeds.{book_at-append}
 use Rattle.mdp_arbiter.specs.Accepted.{Event}
 use Rattle.mdp_arbiter.specs.Machine.{Move, State, start, after, after_all, trace, state_at}
@@ -16,14 +16,15 @@ use Rattle.mdp_arbiter.specs.Channel.{Channel, ids_of, channel_of}
 use Rattle.mdp_desks.specs.declared.desk.Desk.{Desk}
 use Rattle.mdp_engine.specs.Feed.{IsFeed, IsJumpedTo}
 use Rattle.mdp_engine.specs.Owed.{Footing, footed, at_start, footings_through, footings, lines}
-use Rattle.mdp_desks.specs.Shown.{Start, shown, shown_lines, opening, book_since, is_due}
+use Rattle.mdp_desks.specs.Shown.{Start, shown, shown_lines, opening, book_since}
+use Rattle.mdp_desks.specs.Due.{is_due}
 use Rattle.mdp_engine.specs.Owed.{steps_of}
 use Rattle.mdp_engine.specs.Agreed.{start_of, AreOf}
 use Rattle.mdp_desks.specs.Standing.{DeskShows}
 use Rattle.mdp_engine.specs.Honest.{IsHonest}
-use Rattle.mdp_engine.specs.Engine.{View, IsSettled, Stands, is_owed, DeskStands, StandsUnder, StandsAlike}
-use Rattle.mdp_engine.proofs.Fronts.{same_mark, sent-split, behind-front}
-use Rattle.mdp_engine.proofs.Agreeing.{Opening, all_opening, SameHeard, Agrees, pass_agrees, jump_agrees, start_starts, start_same, shows_what_is_owed}
+use Rattle.mdp_engine.specs.Engine.{View, IsSettled, Stands, DeskStands, StandsUnder, StandsAlike}
+use Rattle.mdp_engine.proofs.Fronts.{sent-split, behind-front}
+use Rattle.mdp_engine.proofs.Agreeing.{SameHeard, Agrees, pass_agrees, jump_agrees, start_starts, start_same, shows_what_is_owed}
 use Rattle.mdp_engine.proofs.Honesty.{honest_moves_agree}
 
 -- ---- the end of the moves
@@ -66,87 +67,59 @@ listed_on listed feed next fs (jumped old new snapshots ∷ moves) same (is, lat
 
 -- ---- one security
 
--- the front of the feed is a head that changes no mark, and what stands behind the base
-record Parted (feed : List PacketContent) (n : ℕ) (i : Footing) : Type 0 where
-  pub head : List Sent
-  pub parts : sent (take n feed) ≡ head ++ behind i.base (sent (take n feed))
-  pub opening : i.jumped ≡ false → head ≡ []
-  pub book : book_at i.instrument (sent (take (max n i.base) feed)) ≡ book_from i.instrument (book_at i.instrument (sent (take i.base feed))) (behind i.base (sent (take n feed)))
-
-parted : (feed : List PacketContent) (n : ℕ) (i : Footing) → IsFeed feed → Opening i → Parted feed n i
-parted feed n i fed opening = elim (leb_tells i.base n) [
+-- its book of the feed, by what stands behind its base
+book_behind : (feed : List PacketContent) (n : ℕ) (i : Footing) → IsFeed feed
+    → book_at i.instrument (sent (take (max n i.base) feed)) ≡ book_from i.instrument (book_at i.instrument (sent (take i.base feed))) (behind i.base (sent (take n feed)))
+book_behind feed n i fed = elim (leb_tells i.base n) [
   | inl under ↦
       let listed = i.instrument in
       let front = sent (take n feed) in
       let split : front ≡ sent (take i.base feed) ++ behind i.base front = sent-split feed i.base n fed under.1 in
       let most : max n i.base ≡ n = omega (arith, under.1) in
-      record {
-        head = sent (take i.base feed);
-        parts = split;
-        opening = λ still. ap (λ (k : ℕ). sent (take k feed)) (opening still);
-        book = ap (λ (k : ℕ). book_at listed (sent (take k feed))) most ∙ ap (book_at listed) split ∙ book_at-append listed (sent (take i.base feed)) (behind i.base front);
-      }
+      ap (λ (k : ℕ). book_at listed (sent (take k feed))) most ∙ ap (book_at listed) split ∙ book_at-append listed (sent (take i.base feed)) (behind i.base front)
   | inr over ↦
       let listed = i.instrument in
-      let front = sent (take n feed) in
-      let none : behind i.base front ≡ [] = behind-front feed i.base n fed (omega (arith, over.1)) in
+      let none : behind i.base (sent (take n feed)) ≡ [] = behind-front feed i.base n fed (omega (arith, over.1)) in
       let most : max n i.base ≡ i.base = omega (arith, over.1) in
-      record {
-        head = front;
-        parts = sym (append-nil front) ∙ ap (λ (t : List Sent). front ++ t) (sym none);
-        opening = λ still. absurd (omega (arith, over.1, opening still));
-        book = ap (λ (k : ℕ). book_at listed (sent (take k feed))) most ∙ ap (book_from listed (book_at listed (sent (take i.base feed)))) (sym none);
-      }
+      ap (λ (k : ℕ). book_at listed (sent (take k feed))) most ∙ ap (book_from listed (book_at listed (sent (take i.base feed)))) (sym none)
 ]
 
-book_alike : (feed : List PacketContent) (n : ℕ) (i : Footing) (since : List Sent) → Parted feed n i → SameHeard since (sent (take n feed)) (start_of feed i) → book_since (start_of feed i) since ≡ book_at i.instrument (sent (take (max n i.base) feed))
-book_alike feed n i since parted same = ap (book_from i.instrument (book_at i.instrument (sent (take i.base feed)))) same ∙ sym parted.book
+book_alike : (feed : List PacketContent) (n : ℕ) (i : Footing) (since : List Sent) → IsFeed feed → SameHeard since (sent (take n feed)) (start_of feed i) → book_since (start_of feed i) since ≡ book_at i.instrument (sent (take (max n i.base) feed))
+book_alike feed n i since fed same = ap (book_from i.instrument (book_at i.instrument (sent (take i.base feed)))) same ∙ sym (book_behind feed n i fed)
 
-mark_alike : (feed : List PacketContent) (n : ℕ) (i : Footing) (since : List Sent) → Parted feed n i → SameHeard since (sent (take n feed)) (start_of feed i) → is_due (start_of feed i) (behind i.base since) ≡ is_owed i (sent (take n feed))
-mark_alike feed n i since parted same =
-    let id = i.instrument.id in
-    let front = sent (take n feed) in
-    let h = behind i.base front in
-    let owes : List Sent → Bool = λ t. touches id t || (i.jumped && not (has_end h)) in
-    ap (is_due (start_of feed i)) same
-    ∙ sym (ap owes (append-nil (since_end h)))
-    ∙ sym (same_mark id parted.head h [] i.jumped parted.opening)
-    ∙ ap owes (append-nil (since_end (parted.head ++ h)))
-    ∙ ap (λ (t : List Sent). owes (since_end t)) (sym parted.parts)
-
-desk_stands : (feed : List PacketContent) (next : ℕ) (i : Footing) (since : List Sent) (desk : Desk) → Parted feed (next - 1) i → SameHeard since (sent (take (next - 1) feed)) (start_of feed i) → DeskShows since (start_of feed i) desk → DeskStands feed next i desk
-desk_stands feed next i since desk parted same shows = record {
+desk_stands : (feed : List PacketContent) (next : ℕ) (i : Footing) (since : List Sent) (desk : Desk) → IsFeed feed → SameHeard since (sent (take (next - 1) feed)) (start_of feed i) → DeskShows since (start_of feed i) desk → DeskStands feed next i desk
+desk_stands feed next i since desk fed same shows = record {
   instrument = shows.instrument;
   base = shows.base;
-  book = shows.book ∙ book_alike feed (next - 1) i since parted same;
-  marked = shows.marked ∙ mark_alike feed (next - 1) i since parted same;
+  book = shows.book ∙ book_alike feed (next - 1) i since fed same;
+  marked = shows.marked ∙ ap (is_due i.instrument.id i.jumped) same;
 }
 
-desk_shows : (feed : List PacketContent) (next : ℕ) (i : Footing) (since : List Sent) (desk : Desk) → Parted feed (next - 1) i → SameHeard since (sent (take (next - 1) feed)) (start_of feed i) → DeskStands feed next i desk → DeskShows since (start_of feed i) desk
-desk_shows feed next i since desk parted same stands = record {
+desk_shows : (feed : List PacketContent) (next : ℕ) (i : Footing) (since : List Sent) (desk : Desk) → IsFeed feed → SameHeard since (sent (take (next - 1) feed)) (start_of feed i) → DeskStands feed next i desk → DeskShows since (start_of feed i) desk
+desk_shows feed next i since desk fed same stands = record {
   instrument = stands.instrument;
   base = stands.base;
-  book = stands.book ∙ sym (book_alike feed (next - 1) i since parted same);
-  marked = stands.marked ∙ sym (mark_alike feed (next - 1) i since parted same);
+  book = stands.book ∙ sym (book_alike feed (next - 1) i since fed same);
+  marked = stands.marked ∙ sym (ap (is_due i.instrument.id i.jumped) same);
 }
 
 -- ---- all securities
 
-all_stand : (feed : List PacketContent) (next : ℕ) (since : List Sent) (fs : List Footing) (desks : List Desk) → IsFeed feed → AllByRecursion Opening fs → AllByRecursion (SameHeard since (sent (take (next - 1) feed))) (map (start_of feed) fs)
+all_stand : (feed : List PacketContent) (next : ℕ) (since : List Sent) (fs : List Footing) (desks : List Desk) → IsFeed feed → AllByRecursion (SameHeard since (sent (take (next - 1) feed))) (map (start_of feed) fs)
     → AllZip (DeskShows since) (map (start_of feed) fs) desks → AllZip (DeskStands feed next) fs desks
-all_stand feed next since [] [] fed opening same is = tt
-all_stand feed next since [] (d ∷ desks) fed opening same is = elim is [ ]
-all_stand feed next since (i ∷ fs) [] fed opening same is = elim is [ ]
-all_stand feed next since (i ∷ fs) (d ∷ desks) fed opening same is =
-    (desk_stands feed next i since d (parted feed (next - 1) i fed opening.0) same.0 is.0, all_stand feed next since fs desks fed opening.1 same.1 is.1)
+all_stand feed next since [] [] fed same is = tt
+all_stand feed next since [] (d ∷ desks) fed same is = elim is [ ]
+all_stand feed next since (i ∷ fs) [] fed same is = elim is [ ]
+all_stand feed next since (i ∷ fs) (d ∷ desks) fed same is =
+    (desk_stands feed next i since d fed same.0 is.0, all_stand feed next since fs desks fed same.1 is.1)
 
-all_show : (feed : List PacketContent) (next : ℕ) (since : List Sent) (fs : List Footing) (desks : List Desk) → IsFeed feed → AllByRecursion Opening fs → AllByRecursion (SameHeard since (sent (take (next - 1) feed))) (map (start_of feed) fs)
+all_show : (feed : List PacketContent) (next : ℕ) (since : List Sent) (fs : List Footing) (desks : List Desk) → IsFeed feed → AllByRecursion (SameHeard since (sent (take (next - 1) feed))) (map (start_of feed) fs)
     → AllZip (DeskStands feed next) fs desks → AllZip (DeskShows since) (map (start_of feed) fs) desks
-all_show feed next since [] [] fed opening same is = tt
-all_show feed next since [] (d ∷ desks) fed opening same is = elim is [ ]
-all_show feed next since (i ∷ fs) [] fed opening same is = elim is [ ]
-all_show feed next since (i ∷ fs) (d ∷ desks) fed opening same is =
-    (desk_shows feed next i since d (parted feed (next - 1) i fed opening.0) same.0 is.0, all_show feed next since fs desks fed opening.1 same.1 is.1)
+all_show feed next since [] [] fed same is = tt
+all_show feed next since [] (d ∷ desks) fed same is = elim is [ ]
+all_show feed next since (i ∷ fs) [] fed same is = elim is [ ]
+all_show feed next since (i ∷ fs) (d ∷ desks) fed same is =
+    (desk_shows feed next i since d fed same.0 is.0, all_show feed next since fs desks fed same.1 is.1)
 
 desks_listed : (feed : List PacketContent) (next : ℕ) (fs : List Footing) (desks : List Desk) → AllZip (DeskStands feed next) fs desks → map (λ (d : Desk). d.instrument) desks ≡ instruments fs
 desks_listed feed next [] [] is = refl
@@ -194,7 +167,7 @@ stands_under listed feed es drained v honest stands =
     let each : AllZip (DeskShows since) (map (start_of feed) fs) v.desks = subst (λ (starts : List Start). AllZip (DeskShows since) starts v.desks) at.agrees.starts stands.shows.each in
     record {
       settled = stands.settled;
-      desks = all_stand feed v.arbiter.next since fs v.desks at.fed (all_opening listed (steps_of moves)) at.same each;
+      desks = all_stand feed v.arbiter.next since fs v.desks at.fed at.same each;
       text = stands.shows.text_is ∙ at.text;
     }
 
@@ -204,7 +177,7 @@ stands_shown listed feed es drained v honest stands =
     let fs = footings listed (steps_of moves) in
     let since = (shown listed moves).since in
     let at = ends listed feed es v honest stands.settled in
-    let each = all_show feed v.arbiter.next since fs v.desks at.fed (all_opening listed (steps_of moves)) at.same stands.desks in
+    let each = all_show feed v.arbiter.next since fs v.desks at.fed at.same stands.desks in
     record {
       settled = stands.settled;
       shows = record {

@@ -1,43 +1,19 @@
 -- The complete feed and its moves: where the one prints, the other does.
-use Rattle.std.proofs.Common.{◌≡◌, ◌≤◌, ◌<◌, ℕ, ℤ, zero, suc, ◌+◌, Bool, true, false, cond, List, [], ◌∷◌, ◌++◌, map, take, refl, sym, ap, ◌∙◌, append_assoc, arith}
-use Rattle.std.specs.Prelude.{Option, Some, None, ◌||◌, ◌&&◌, not, nat_lt, fold}
+use Rattle.std.proofs.Common.{◌≡◌, ◌≤◌, ◌<◌, ℕ, zero, suc, ◌+◌, Bool, true, false, cond, List, [], ◌∷◌, ◌++◌, map, take, refl, sym, ap, ◌∙◌, append_assoc, arith}
+use Rattle.std.specs.Prelude.{Option, Some, None, ◌&&◌, nat_lt}
 use Rattle.std.specs.List.{AllByRecursion}
-use Rattle.std.proofs.lemmas.List.Sums.{fold-append}
 use Rattle.std.proofs.lemmas.Bool.Decides.{nat_tests}
 use Rattle.mdp_templates.specs.Packet.{PacketContent, MessageContent}
 use Rattle.mdp_templates.specs.declared.instrument.Instrument.{Instrument}
 use Rattle.mdp_books.specs.declared.book.Book.{Book}
-use Rattle.mdp_books.specs.Feed.{Sent, sent_as, sent_from, sent_in, sent, book_from, book_at, since_end, touches, has_end, behind}
+use Rattle.mdp_books.specs.Feed.{Sent, sent_as, sent_from, sent_in, sent, book_from, book_at, behind}
 use Rattle.mdp_books.proofs.Feeds.{behind-append, behind-push, book_at-append}
 use Rattle.mdp_engine.specs.Feed.{NumberedFrom, IsFeed}
 use Rattle.mdp_desks.specs.Lines.{Seen, lines_of}
-use Rattle.mdp_engine.specs.Owed.{Footing, is_printed, seen_at, lines_at, lines_from}
-use Rattle.mdp_desks.specs.Shown.{book_since, is_shown, shown_seen, shown_at, shown_from}
+use Rattle.mdp_engine.specs.Owed.{Footing, seen_at, lines_at, lines_from}
+use Rattle.mdp_desks.specs.Shown.{book_since, shown_seen, shown_at, shown_from}
+use Rattle.mdp_desks.specs.Due.{is_printed}
 use Rattle.mdp_engine.specs.Agreed.{start_of}
-use Rattle.mdp_desks.proofs.Marks.{or-true}
-
--- ---- marks
-
-abbrev pending_after : List Sent → Sent → List Sent
-pending_after pending m = cond m.end [] (pending ++ m ∷ [])
-
--- what stands behind the last event end doesn't depend on what stood before one
-forgets_more : (h a b : List Sent) (m : Sent) (e : Bool) → ((x y : List Sent) → has_end h ≡ true → fold pending_after x h ≡ fold pending_after y h) → (e || has_end h) ≡ true → fold pending_after (cond e [] (a ++ m ∷ [])) h ≡ fold pending_after (cond e [] (b ++ m ∷ [])) h
-forgets_more h a b m true later is = refl
-forgets_more h a b m false later is = later (a ++ m ∷ []) (b ++ m ∷ []) is
-
-end_forgets : (h a b : List Sent) → has_end h ≡ true → fold pending_after a h ≡ fold pending_after b h
-end_forgets [] a b has = absurd cc
-end_forgets (m ∷ h) a b has = forgets_more h a b m m.end (end_forgets h) has
-
--- what stood before the base changes no mark: an event end was heard since, or the first one after the jump is owed
-pub same_mark : (id : ℤ) (head h more : List Sent) (jumped : Bool) → (jumped ≡ false → head ≡ []) → (touches id (since_end (head ++ h) ++ more) || (jumped && not (has_end h))) ≡ (touches id (since_end h ++ more) || (jumped && not (has_end h)))
-same_mark id head h more jumped opening = by_end (has_end h) refl jumped opening
-  where
-    by_end : (e : Bool) → has_end h ≡ e → (j : Bool) → (j ≡ false → head ≡ []) → (touches id (since_end (head ++ h) ++ more) || (j && not e)) ≡ (touches id (since_end h ++ more) || (j && not e))
-    by_end true has j start = ap (λ (t : List Sent). touches id (t ++ more) || (j && false)) (fold-append pending_after [] head h ∙ end_forgets h (fold pending_after [] head) [] has)
-    by_end false has true start = or-true (touches id (since_end (head ++ h) ++ more)) ∙ sym (or-true (touches id (since_end h ++ more)))
-    by_end false has false start = ap (λ (t : List Sent). touches id (since_end (t ++ h) ++ more) || false) (start refl)
 
 -- ---- fronts of the feed
 
@@ -107,13 +83,9 @@ behind-front feed base n is le =
 
 -- ---- the lines of one packet
 
--- before the first jump every base is 0; a security that hears has heard all that stands behind its base
-pub record Heard (feed : List PacketContent) (k : ℕ) (before : List Sent) (i : Footing) : Type 0 where
-  pub opening : i.jumped ≡ false → i.base ≡ 0
-  pub parts : nat_lt i.base k ≡ true → before ≡ sent (take i.base feed) ++ behind i.base before
-
-no_head : (feed : List PacketContent) (i : Footing) → (i.jumped ≡ false → i.base ≡ 0) → i.jumped ≡ false → sent (take i.base feed) ≡ []
-no_head feed i opening still = ap (λ (z : ℕ). sent (take z feed)) (opening still)
+-- a security that hears a packet has heard all that stands behind its base
+abbrev pub Heard : List PacketContent → ℕ → List Sent → Footing → Type 0
+Heard feed k before i = nat_lt i.base k ≡ true → before ≡ sent (take i.base feed) ++ behind i.base before
 
 abbrev seen_as : Instrument → Bool → Book → Option Seen
 seen_as instrument printed book = Some (record { instrument = instrument; printed = printed; book = book })
@@ -122,23 +94,20 @@ behind-heard : (base : ℕ) (before : List Sent) (m : Sent) → nat_lt base m.pa
 behind-heard base before m over = behind-push base before m ∙ ap (λ (b : Bool). cond b (behind base before ++ m ∷ []) (behind base before)) over
 
 seen_case : (feed : List PacketContent) (before : List Sent) (m : Sent) (i : Footing) (e b : Bool) → nat_lt i.base m.packet ≡ b → Heard feed m.packet before i
-    → cond (e && b) (seen_as i.instrument (is_printed i before m) (book_at i.instrument (before ++ m ∷ []))) None
-    ≡ cond (e && b) (seen_as i.instrument (is_shown (start_of feed i) (behind i.base before) m) (book_since (start_of feed i) (before ++ m ∷ []))) None
+    → cond (e && b) (seen_as i.instrument (is_printed i.instrument.id i.jumped (behind i.base before) m) (book_at i.instrument (before ++ m ∷ []))) None
+    ≡ cond (e && b) (seen_as i.instrument (is_printed i.instrument.id i.jumped (behind i.base before) m) (book_since (start_of feed i) (before ++ m ∷ []))) None
 seen_case feed before m i false b over is = refl
 seen_case feed before m i true false under is = refl
 seen_case feed before m i true true over is =
     let listed = i.instrument in
     let head = sent (take i.base feed) in
     let h = behind i.base before in
-    let parts : before ≡ head ++ h = is.parts over in
-    let mark : is_printed i before m ≡ is_shown (start_of feed i) h m =
-    ap (λ (t : List Sent). touches listed.id (since_end t ++ m ∷ []) || (i.jumped && not (has_end h))) parts ∙ same_mark listed.id head h (m ∷ []) i.jumped (no_head feed i is.opening) in
     let book : book_at listed (before ++ m ∷ []) ≡ book_since (start_of feed i) (before ++ m ∷ []) =
-    ap (λ (t : List Sent). book_at listed (t ++ m ∷ [])) parts
+    ap (λ (t : List Sent). book_at listed (t ++ m ∷ [])) (is over)
     ∙ ap (book_at listed) (append_assoc head h (m ∷ []))
     ∙ book_at-append listed head (h ++ m ∷ [])
     ∙ ap (book_from listed (book_at listed head)) (sym (behind-heard i.base before m over)) in
-    ap (λ (b : Bool). seen_as listed b (book_at listed (before ++ m ∷ []))) mark ∙ ap (λ (k : Book). seen_as listed (is_shown (start_of feed i) h m) k) book
+    ap (λ (k : Book). seen_as listed (is_printed listed.id i.jumped h m) k) book
 
 all_seen : (feed : List PacketContent) (before : List Sent) (m : Sent) (fs : List Footing) → AllByRecursion (Heard feed m.packet before) fs → map (seen_at before m) fs ≡ map (shown_seen before m) (map (start_of feed) fs)
 all_seen feed before m [] is = refl
@@ -152,13 +121,10 @@ lines_case feed before m fs is = ap (lines_of m) (all_seen feed before m fs is)
 heard_more : (feed : List PacketContent) (before : List Sent) (m : Sent) (fs : List Footing) → AllByRecursion (Heard feed m.packet before) fs → AllByRecursion (Heard feed m.packet (before ++ m ∷ [])) fs
 heard_more feed before m [] is = tt
 heard_more feed before m (i ∷ fs) is =
-    let more : Heard feed m.packet (before ++ m ∷ []) i = record {
-      opening = is.0.opening;
-      parts = λ over.
-          ap (λ (t : List Sent). t ++ m ∷ []) (is.0.parts over)
-          ∙ append_assoc (sent (take i.base feed)) (behind i.base before) (m ∷ [])
-          ∙ ap (λ (t : List Sent). sent (take i.base feed) ++ t) (sym (behind-heard i.base before m over));
-    } in
+    let more : Heard feed m.packet (before ++ m ∷ []) i = λ over.
+        ap (λ (t : List Sent). t ++ m ∷ []) (is.0 over)
+        ∙ append_assoc (sent (take i.base feed)) (behind i.base before) (m ∷ [])
+        ∙ ap (λ (t : List Sent). sent (take i.base feed) ++ t) (sym (behind-heard i.base before m over)) in
     (more, heard_more feed before m fs is.1)
 
 pub lines_shown : (feed : List PacketContent) (fs : List Footing) (k j : ℕ) (before : List Sent) (ms : List MessageContent) → AllByRecursion (Heard feed k before) fs → lines_from fs before (sent_from k j ms) ≡ shown_from (map (start_of feed) fs) before (sent_from k j ms)

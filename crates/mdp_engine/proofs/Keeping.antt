@@ -10,8 +10,9 @@ use Rattle.mdp_books.proofs.Feeds.{behind-push, book_from-push, has_end-push, en
 use Rattle.mdp_quotes.specs.declared.best.Best.{Best}
 use Rattle.mdp_quotes.specs.Best.{best_of}
 use Rattle.mdp_desks.specs.Lines.{Seen}
-use Rattle.mdp_desks.specs.Shown.{Start, is_due, is_shown, book_since, shown_seen}
-use Rattle.mdp_desks.proofs.Marks.{is_due-push, is_shown-due}
+use Rattle.mdp_desks.specs.Shown.{Start, book_since, shown_seen}
+use Rattle.mdp_desks.specs.Due.{is_due, is_printed}
+use Rattle.mdp_desks.proofs.Marks.{is_due-push}
 use Rattle.mdp_desks.specs.Reports.{told_of, told_there, told_from}
 use Rattle.mdp_engine.specs.Rounds.{kept_with, kept_after}
 
@@ -59,7 +60,7 @@ kept_told packet message seen kept less = kept_from packet message seen [] kept 
 
 pub record KeptHeard (heard : List Sent) (i : Start) (kept : Option Best) : Type 0 where
   pub waits : i.jumped ≡ true → has_end heard ≡ false → kept ≡ None
-  pub stays : is_due i heard ≡ false → kept ≡ best_of (book_from i.instrument i.book heard)
+  pub stays : is_due i.instrument.id i.jumped heard ≡ false → kept ≡ best_of (book_from i.instrument i.book heard)
 
 abbrev pub KeptShows : List Sent → Start → Option Best → Type 0
 KeptShows since i kept = KeptHeard (behind i.base since) i kept
@@ -83,9 +84,9 @@ same_book i h m unnamed =
     book_from-push i.instrument i.book h m
     ∙ entered_from-others i.instrument m.packet m.message 1 m.entries (book_from i.instrument i.book h) unnamed
 
-stays_so : (i : Start) (h : List Sent) (m : Sent) (b : Option Best) → KeptHeard h i b → is_shown i h m ≡ false → b ≡ best_of (book_from i.instrument i.book (h ++ m ∷ []))
+stays_so : (i : Start) (h : List Sent) (m : Sent) (b : Option Best) → KeptHeard h i b → is_printed i.instrument.id i.jumped h m ≡ false → b ≡ best_of (book_from i.instrument i.book (h ++ m ∷ []))
 stays_so i h m b so_far silent =
-    let both = neither (is_due i h) (is_named_in i.instrument.id m) (sym (is_shown-due i h m) ∙ silent) in
+    let both = neither (is_due i.instrument.id i.jumped h) (is_named_in i.instrument.id m) silent in
     so_far.stays both.0 ∙ ap best_of (sym (same_book i h m both.1))
 
 -- one more that is heard and ends no event
@@ -94,8 +95,8 @@ heard_on i h m b on so_far =
     record {
       waits = λ jumped none. so_far.waits jumped (neither (has_end h) m.end (sym (has_end-push h m) ∙ none)).0;
       stays = λ still.
-          let due : (is_due i h || is_named_in i.instrument.id m) ≡ false = ap (λ (e : Bool). not e && (is_due i h || is_named_in i.instrument.id m)) (sym on) ∙ sym (is_due-push i h m) ∙ still in
-          stays_so i h m b so_far (is_shown-due i h m ∙ due);
+          let due : (is_due i.instrument.id i.jumped h || is_named_in i.instrument.id m) ≡ false = ap (λ (e : Bool). not e && (is_due i.instrument.id i.jumped h || is_named_in i.instrument.id m)) (sym on) ∙ sym (is_due-push i.instrument.id i.jumped h m) ∙ still in
+          stays_so i h m b so_far due;
     }
 
 or-true : (b : Bool) → (b || true) ≡ true
@@ -109,16 +110,16 @@ heard_end i h m b new is right =
     record { waits = λ jumped none. let apart : true ≡ false = sym ends ∙ none in absurd cc; stays = λ still. right }
 
 abbrev pub there_of : List Sent → Sent → Start → Seen
-there_of since m i = record { instrument = i.instrument; printed = is_shown i (behind i.base since) m; book = book_since i (since ++ m ∷ []) }
+there_of since m i = record { instrument = i.instrument; printed = is_printed i.instrument.id i.jumped (behind i.base since) m; book = book_since i (since ++ m ∷ []) }
 
 -- what is kept behind a message
 abbrev pub kept_at : List Sent → Sent → Start → Option Best → Option Best
 kept_at since m i b = cond m.end (kept_one (shown_seen since m i) b) b
 
 right_there : (since : List Sent) (m : Sent) (i : Start) (b : Option Best) → nat_lt i.base m.packet ≡ true → KeptShows since i b → kept_one (Some (there_of since m i)) b ≡ best_of (book_since i (since ++ m ∷ []))
-right_there since m i b over so_far = by_printed (is_shown i (behind i.base since) m) refl
+right_there since m i b over so_far = by_printed (is_printed i.instrument.id i.jumped (behind i.base since) m) refl
   where
-    by_printed : (p : Bool) → is_shown i (behind i.base since) m ≡ p → cond p (best_of (book_since i (since ++ m ∷ []))) b ≡ best_of (book_since i (since ++ m ∷ []))
+    by_printed : (p : Bool) → is_printed i.instrument.id i.jumped (behind i.base since) m ≡ p → cond p (best_of (book_since i (since ++ m ∷ []))) b ≡ best_of (book_since i (since ++ m ∷ []))
     by_printed true is = refl
     by_printed false is = stays_so i (behind i.base since) m b so_far is ∙ ap (λ (h : List Sent). best_of (book_from i.instrument i.book h)) (sym (heard_more i.base since m over))
 

@@ -19,7 +19,8 @@ use Rattle.mdp_engine.specs.Spreads.{shown_there, spread_line}
 use Rattle.mdp_desks.specs.Beside.{listed_in}
 use Rattle.mdp_engine.specs.Spreads.{spreads_from}
 use Rattle.mdp_desks.specs.Lines.{Seen, text_of, audit_text, lines_as, verdicts_text, spread_text, book_lines}
-use Rattle.mdp_desks.specs.Shown.{Start, is_shown, book_since, shown_seen}
+use Rattle.mdp_desks.specs.Shown.{Start, book_since, shown_seen}
+use Rattle.mdp_desks.specs.Due.{is_printed}
 use Rattle.mdp_engine.proofs.Auditing.{audits_are}
 use Rattle.mdp_desks.specs.Reports.{Told, told_of, told_there, told_from}
 use Rattle.mdp_engine.specs.Rounds.{best_kept, is_told, name_of, kept_line, told_text}
@@ -194,7 +195,7 @@ spread_same packet message listed seen kept spread agree named =
 -- ---- desks that show the same
 
 abbrev desk_of : List Sent → Sent → Start → Desk
-desk_of since m i = record { instrument = i.instrument; base = i.base; book = book_since i (since ++ m ∷ []); marked = is_shown i (behind i.base since) m }
+desk_of since m i = record { instrument = i.instrument; base = i.base; book = book_since i (since ++ m ∷ []); marked = is_printed i.instrument.id i.jumped (behind i.base since) m }
 
 abbrev desks_of : List Sent → Sent → List Start → List Desk
 desks_of since m starts = map (desk_of since m) starts

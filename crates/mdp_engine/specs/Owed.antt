@@ -1,14 +1,15 @@
 -- Which lines a run owes, read off the complete feed: at each event end the books of the securities that it names, and the
 -- verdicts on their calendar spreads.
-use Rattle.std.specs.Prelude.{ℕ, ◌-◌, List, [], ◌∷◌, ◌++◌, Bool, true, false, not, ◌&&◌, ◌||◌, if◌then◌else◌, fold, map, take, drop, nat_lt, Option, Some, None}
+use Rattle.std.specs.Prelude.{ℕ, ◌-◌, List, [], ◌∷◌, ◌++◌, Bool, true, false, ◌&&◌, if◌then◌else◌, fold, map, take, drop, nat_lt, Option, Some, None}
 use Rattle.mdp_templates.specs.Packet.{PacketContent}
 use Rattle.mdp_templates.specs.Snapshot.{SnapshotContent}
 use Rattle.mdp_templates.specs.declared.instrument.Instrument.{Instrument}
-use Rattle.mdp_books.specs.Feed.{Sent, sent, book_at, since_end, touches, has_end, behind}
+use Rattle.mdp_books.specs.Feed.{Sent, sent, book_at, behind}
 use Rattle.mdp_print.specs.Texts.{jump_line}
 use Rattle.mdp_arbiter.specs.Machine.{Move}
 use Rattle.mdp_arbiter.specs.Machine.Move.{passed, jumped}
 use Rattle.mdp_desks.specs.Lines.{Seen, lines_of}
+use Rattle.mdp_desks.specs.Due.{is_printed}
 
 -- a step of a run: a packet passes, or recovery jumps from one number to a later one and sets each listed security's base
 pub data Step : Type 0 where
@@ -37,15 +38,10 @@ footings_through listed so_far (jump old new bases) = footed listed bases
 abbrev pub footings : List Instrument → List Step → List Footing
 footings listed steps = fold (footings_through listed) (at_start listed) steps
 
--- Whether a security is printed at message m, which ends an event behind its base and comes after the messages
--- `before`: an entry has named it since the event end before, or there was a jump and m is the first event end
--- behind the base.
-abbrev pub is_printed : Footing → List Sent → Sent → Bool
-is_printed i before m = touches i.instrument.id (since_end before ++ m ∷ []) || (i.jumped && not (has_end (behind i.base before)))
-
--- none where m ends no event, or doesn't stand behind the security's base
+-- What message m, which comes after the messages `before`, shows of a security, which hears what stands behind its base:
+-- none where m ends no event, or doesn't stand behind that base.
 abbrev pub seen_at : List Sent → Sent → Footing → Option Seen
-seen_at before m i = if m.end && nat_lt i.base m.packet then Some (record { instrument = i.instrument; printed = is_printed i before m; book = book_at i.instrument (before ++ m ∷ []) }) else None
+seen_at before m i = if m.end && nat_lt i.base m.packet then Some (record { instrument = i.instrument; printed = is_printed i.instrument.id i.jumped (behind i.base before) m; book = book_at i.instrument (before ++ m ∷ []) }) else None
 
 abbrev pub lines_at : List Footing → List Sent → Sent → List ℕ
 lines_at listed before m = lines_of m (map (seen_at before m) listed)
