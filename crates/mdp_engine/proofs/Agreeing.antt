@@ -1,6 +1,6 @@
 -- The moves show what the complete feed owes.
-use Rattle.std.proofs.Common.{Bool, ◌≡◌, ◌≤◌, ℕ, suc, zero, ◌+◌, ◌-◌, true, false, cond, List, [], ◌∷◌, ◌++◌, map, take, drop, refl, sym, ap, subst, ◌∙◌, arith}
-use Rattle.std.specs.Prelude.{Option, Some, None, ◌&&◌, nat_lt, slice_get, fold}
+use Rattle.std.proofs.Common.{Bool, ◌≡◌, ◌≤◌, ℕ, suc, zero, ◌+◌, ◌-◌, true, cond, List, [], ◌∷◌, ◌++◌, map, take, drop, refl, sym, ap, subst, ◌∙◌, arith}
+use Rattle.std.specs.Prelude.{Option, Some, None, ◌&&◌, nat_lt, slice_get}
 use Rattle.std.specs.List.{AllZip, AllByRecursion}
 use Rattle.std.proofs.lemmas.List.{append-nil, map-append}
 use Rattle.std.proofs.lemmas.List.Sums.{fold_push}
@@ -16,7 +16,7 @@ use Rattle.mdp_print.specs.Texts.{jump_line}
 use Rattle.mdp_engine.specs.Feed.{IsFeed, IsIn, IsJumpedTo}
 use Rattle.mdp_desks.specs.Lines.{Seen, lines_of}
 use Rattle.mdp_engine.specs.Owed.{Step, Footing, footed, at_start, footings_through, footings, lines_from, owed, lines_after}
-use Rattle.mdp_engine.specs.Owed.Step.{pass, jump}
+use Rattle.mdp_engine.specs.Owed.Step.{pass}
 use Rattle.mdp_arbiter.specs.Machine.{Move}
 use Rattle.mdp_desks.specs.Shown.{Start, Shown, started, shown, shown_through, shown_seen, shown_at, shown_from, showed, shown_after, opening}
 use Rattle.mdp_desks.specs.Due.{is_printed}
