@@ -19,12 +19,18 @@ kind_of n = if n == 48 then Ok kinds.Bid else (if n == 49 then Ok kinds.Offer el
 abbrev pub action_of : ℕ → Result Action Refusal
 action_of n = if n == 0 then Ok actions.New else (if n == 1 then Ok actions.Change else (if n == 2 then Ok actions.Delete else Err refusals.Action))
 
--- how many levels a side has at most: ten where it is direct, two where it is implied
+-- how many levels a side has at most, where it is direct and where it is implied
+abbrev pub direct_depth : ℕ
+direct_depth = 10
+
+abbrev pub implied_depth : ℕ
+implied_depth = 2
+
 abbrev pub depth_of : Kind → ℕ
-depth_of kinds.Bid = 10
-depth_of kinds.Offer = 10
-depth_of kinds.ImpliedBid = 2
-depth_of kinds.ImpliedOffer = 2
+depth_of kinds.Bid = direct_depth
+depth_of kinds.Offer = direct_depth
+depth_of kinds.ImpliedBid = implied_depth
+depth_of kinds.ImpliedOffer = implied_depth
 
 abbrev pub level_of : Kind → ℕ → Result ℕ Refusal
 level_of kind n = if n == 0 then Err refusals.Level else (if nat_lt (depth_of kind) n then Err refusals.Level else Ok n)

@@ -6,6 +6,12 @@ ghost use Rattle.mdp_templates.specs.Entry.{kind_of, action_of, level_of, quote_
 use crate::layout::GroupEntry;
 use mdp_sbe::{Refusal, i32_at, i64_at};
 
+/// How many levels a direct side has at most.
+pub const DIRECT_DEPTH: usize = 10;
+
+/// How many levels an implied side has at most.
+pub const IMPLIED_DEPTH: usize = 2;
+
 /// The side of the book that an entry is for: bids or offers, direct or implied.
 #[derive(Clone, Copy, Debug, PartialEq, Eq)]
 pub enum Kind {
@@ -78,10 +84,10 @@ pub(crate) fn read_position(kind: Kind, level: u8) -> Result<u8, Refusal>
     ensures { result ≡ level_of kind level }
 {
     let depth = match kind {
-        Kind::Bid | Kind::Offer => 10,
-        Kind::ImpliedBid | Kind::ImpliedOffer => 2,
+        Kind::Bid | Kind::Offer => DIRECT_DEPTH,
+        Kind::ImpliedBid | Kind::ImpliedOffer => IMPLIED_DEPTH,
     };
-    if level == 0 || level > depth {
+    if level == 0 || usize::from(level) > depth {
         return Err(Refusal::Level);
     }
     Ok(level)
