@@ -6,11 +6,11 @@ use Rattle.std.proofs.lemmas.Bool.Decides.{nat_tests}
 use Rattle.std.proofs.lemmas.List.Sums.{fold-append}
 use Rattle.std.proofs.lemmas.List.{length-append}
 use Rattle.mdp_books.specs.Feed.{Sent, behind, book_from, has_end, is_named_in}
-use Rattle.mdp_books.proofs.Feeds.{behind-push, book_from-push, has_end-push, entered_from-others}
+use Rattle.mdp_books.proofs.Feeds.{behind-push, book_from-push, has_end-push, after_entries_from-others}
 use Rattle.mdp_quotes.specs.declared.best.Best.{Best}
 use Rattle.mdp_quotes.specs.Best.{best_of}
 use Rattle.mdp_desks.specs.Lines.{Seen}
-use Rattle.mdp_desks.specs.Shown.{Start, book_since, shown_seen}
+use Rattle.mdp_desks.specs.Shown.{Start, book_since, start_seen}
 use Rattle.mdp_desks.specs.Due.{is_due, is_printed}
 use Rattle.mdp_desks.proofs.Marks.{is_due-push}
 use Rattle.mdp_desks.specs.Reports.{told_of, told_there, told_from}
@@ -82,7 +82,7 @@ neither false b none = (refl, none)
 same_book : (i : Start) (h : List Sent) (m : Sent) → is_named_in i.instrument.id m ≡ false → book_from i.instrument i.book (h ++ m ∷ []) ≡ book_from i.instrument i.book h
 same_book i h m unnamed =
     book_from-push i.instrument i.book h m
-    ∙ entered_from-others i.instrument m.packet m.message 1 m.entries (book_from i.instrument i.book h) unnamed
+    ∙ after_entries_from-others i.instrument m.packet m.message 1 m.entries (book_from i.instrument i.book h) unnamed
 
 stays_so : (i : Start) (h : List Sent) (m : Sent) (b : Option Best) → KeptHeard h i b → is_printed i.instrument.id i.jumped h m ≡ false → b ≡ best_of (book_from i.instrument i.book (h ++ m ∷ []))
 stays_so i h m b so_far silent =
@@ -114,7 +114,7 @@ there_of since m i = record { instrument = i.instrument; printed = is_printed i.
 
 -- what is kept behind a message
 abbrev pub kept_at : List Sent → Sent → Start → Option Best → Option Best
-kept_at since m i b = cond m.end (kept_one (shown_seen since m i) b) b
+kept_at since m i b = cond m.end (kept_one (start_seen since m i) b) b
 
 right_there : (since : List Sent) (m : Sent) (i : Start) (b : Option Best) → nat_lt i.base m.packet ≡ true → KeptShows since i b → kept_one (Some (there_of since m i)) b ≡ best_of (book_since i (since ++ m ∷ []))
 right_there since m i b over so_far = by_printed (is_printed i.instrument.id i.jumped (behind i.base since) m) refl
@@ -167,17 +167,17 @@ agrees_case : (since : List Sent) (m : Sent) (i : Start) (b : Option Best) (o : 
 agrees_case since m i b true over first late rooted so_far = right_there since m i b over so_far
 agrees_case since m i b false under first late rooted so_far = none_kept since m i b i.jumped refl under first late rooted so_far
 
-pub seen_end : (since : List Sent) (m : Sent) (i : Start) → m.end ≡ true → shown_seen since m i ≡ cond (nat_lt i.base m.packet) (Some (there_of since m i)) None
+pub seen_end : (since : List Sent) (m : Sent) (i : Start) → m.end ≡ true → start_seen since m i ≡ cond (nat_lt i.base m.packet) (Some (there_of since m i)) None
 seen_end since m i is = ap (λ (e : Bool). cond (e && nat_lt i.base m.packet) (Some (there_of since m i)) None) is
 
-pub agrees : (since : List Sent) (m : Sent) (i : Start) (b : Option Best) → m.end ≡ true → 1 ≤ m.packet → UpTo m.packet since → Rooted i → KeptShows since i b → Agrees (shown_seen since m i) (kept_one (shown_seen since m i) b)
+pub agrees : (since : List Sent) (m : Sent) (i : Start) (b : Option Best) → m.end ≡ true → 1 ≤ m.packet → UpTo m.packet since → Rooted i → KeptShows since i b → Agrees (start_seen since m i) (kept_one (start_seen since m i) b)
 agrees since m i b is first late rooted so_far =
     subst (λ (s : Option Seen). Agrees s (kept_one s b)) (sym (seen_end since m i is)) (agrees_case since m i b (nat_lt i.base m.packet) refl first late rooted so_far)
 
 -- ---- all securities
 
 pub all_agree : (since : List Sent) (m : Sent) (starts : List Start) (kept : List (Option Best)) → m.end ≡ true → 1 ≤ m.packet → UpTo m.packet since → AllByRecursion Rooted starts → AllZip (KeptShows since) starts kept
-    → AllZip Agrees (map (shown_seen since m) starts) (kept_zip (map (shown_seen since m) starts) kept)
+    → AllZip Agrees (map (start_seen since m) starts) (kept_zip (map (start_seen since m) starts) kept)
 all_agree since m [] [] is first late rooted so_far = tt
 all_agree since m [] (b ∷ kept) is first late rooted so_far = elim so_far [ ]
 all_agree since m (i ∷ starts) [] is first late rooted so_far = elim so_far [ ]
@@ -185,13 +185,13 @@ all_agree since m (i ∷ starts) (b ∷ kept) is first late rooted so_far = (agr
 
 -- what is kept behind a message
 abbrev pub kept_behind : List Sent → Sent → List Start → List (Option Best) → List (Option Best)
-kept_behind since m starts kept = cond m.end (kept_zip (map (shown_seen since m) starts) kept) kept
+kept_behind since m starts kept = cond m.end (kept_zip (map (start_seen since m) starts) kept) kept
 
 pub all_keep : (since : List Sent) (m : Sent) (starts : List Start) (kept : List (Option Best)) → AllZip (KeptShows since) starts kept → AllZip (KeptShows (since ++ m ∷ [])) starts (kept_behind since m starts kept)
 all_keep since m starts kept so_far = by_end m.end refl (each starts kept so_far)
   where
     zipped : Bool → List Start → List (Option Best) → List (Option Best)
-    zipped e starts kept = cond e (kept_zip (map (shown_seen since m) starts) kept) kept
+    zipped e starts kept = cond e (kept_zip (map (start_seen since m) starts) kept) kept
 
     each : (starts : List Start) (kept : List (Option Best)) → AllZip (KeptShows since) starts kept → AllZip (λ i b. KeptShows (since ++ m ∷ []) i (kept_at since m i b)) starts kept
     each [] [] so_far = tt
@@ -199,19 +199,19 @@ all_keep since m starts kept so_far = by_end m.end refl (each starts kept so_far
     each (i ∷ starts) [] so_far = elim so_far [ ]
     each (i ∷ starts) (b ∷ kept) so_far = (keeps since m i b so_far.0, each starts kept so_far.1)
 
-    all_end : (starts : List Start) (kept : List (Option Best)) → m.end ≡ true → AllZip (λ i b. KeptShows (since ++ m ∷ []) i (kept_at since m i b)) starts kept → AllZip (KeptShows (since ++ m ∷ [])) starts (kept_zip (map (shown_seen since m) starts) kept)
+    all_end : (starts : List Start) (kept : List (Option Best)) → m.end ≡ true → AllZip (λ i b. KeptShows (since ++ m ∷ []) i (kept_at since m i b)) starts kept → AllZip (KeptShows (since ++ m ∷ [])) starts (kept_zip (map (start_seen since m) starts) kept)
     all_end [] [] is all = tt
     all_end [] (b ∷ kept) is all = elim all [ ]
     all_end (i ∷ starts) [] is all = elim all [ ]
     all_end (i ∷ starts) (b ∷ kept) is all =
-        (subst (λ (e : Bool). KeptShows (since ++ m ∷ []) i (cond e (kept_one (shown_seen since m i) b) b)) is all.0, all_end starts kept is all.1)
+        (subst (λ (e : Bool). KeptShows (since ++ m ∷ []) i (cond e (kept_one (start_seen since m i) b) b)) is all.0, all_end starts kept is all.1)
 
     all_on : (starts : List Start) (kept : List (Option Best)) → m.end ≡ false → AllZip (λ i b. KeptShows (since ++ m ∷ []) i (kept_at since m i b)) starts kept → AllZip (KeptShows (since ++ m ∷ [])) starts kept
     all_on [] [] is all = tt
     all_on [] (b ∷ kept) is all = elim all [ ]
     all_on (i ∷ starts) [] is all = elim all [ ]
-    all_on (i ∷ starts) (b ∷ kept) is all = (subst (λ (e : Bool). KeptShows (since ++ m ∷ []) i (cond e (kept_one (shown_seen since m i) b) b)) is all.0, all_on starts kept is all.1)
+    all_on (i ∷ starts) (b ∷ kept) is all = (subst (λ (e : Bool). KeptShows (since ++ m ∷ []) i (cond e (kept_one (start_seen since m i) b) b)) is all.0, all_on starts kept is all.1)
 
-    by_end : (e : Bool) → m.end ≡ e → AllZip (λ i b. KeptShows (since ++ m ∷ []) i (kept_at since m i b)) starts kept → AllZip (KeptShows (since ++ m ∷ [])) starts (cond e (kept_zip (map (shown_seen since m) starts) kept) kept)
+    by_end : (e : Bool) → m.end ≡ e → AllZip (λ i b. KeptShows (since ++ m ∷ []) i (kept_at since m i b)) starts kept → AllZip (KeptShows (since ++ m ∷ [])) starts (cond e (kept_zip (map (start_seen since m) starts) kept) kept)
     by_end true is all = all_end starts kept is all
     by_end false is all = all_on starts kept is all

@@ -4,7 +4,7 @@ use Rattle.std.specs.List.{AllZip}
 use Rattle.std.specs.Coded.{Coded, code_by, coded×, coded_ℕ, coded_bool, coded_list}
 use Rattle.mdp_templates.specs.Packet.{PacketContent}
 use Rattle.mdp_templates.specs.declared.instrument.Instrument.{Instrument}
-use Rattle.mdp_books.specs.Feed.{sent, book_at, behind}
+use Rattle.mdp_books.specs.Feed.{sent_by, book_at, behind}
 use Rattle.mdp_arbiter.specs.Accepted.{Event}
 use Rattle.mdp_arbiter.specs.Machine.{Move, Settles, after_all, trace, state_at}
 use Rattle.mdp_arbiter.specs.Channel.{ids_of}
@@ -51,8 +51,8 @@ pub record Stands (listed : List Instrument) (es : List Event) (drained : List �
 pub record DeskStands (feed : List PacketContent) (next : ℕ) (i : Footing) (desk : Desk) : Type 0 where
   pub instrument : desk.instrument ≡ i.instrument
   pub base : desk.base ≡ i.base
-  pub book : desk.book ≡ book_at i.instrument (sent (take (max (next - 1) i.base) feed))
-  pub marked : desk.marked ≡ is_due i.instrument.id i.jumped (behind i.base (sent (take (next - 1) feed)))
+  pub book : desk.book ≡ book_at i.instrument (sent_by (take (max (next - 1) i.base) feed))
+  pub marked : desk.marked ≡ is_due i.instrument.id i.jumped (behind i.base (sent_by (take (next - 1) feed)))
 
 -- An engine stands at these events under a complete feed, of which this text was drained: its desks are the feed's,
 -- and its text is the lines that the feed owes for the moves so far.

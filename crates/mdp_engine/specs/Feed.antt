@@ -4,7 +4,7 @@ use Rattle.mdp_templates.specs.Packet.{PacketContent}
 use Rattle.mdp_templates.specs.Snapshot.{SnapshotContent}
 use Rattle.mdp_templates.specs.declared.instrument.Instrument.{Instrument}
 use Rattle.mdp_books.specs.Book.{book_of_snapshot}
-use Rattle.mdp_books.specs.Feed.{sent, book_at}
+use Rattle.mdp_books.specs.Feed.{sent_by, book_at}
 
 -- packets in number order, the first of which has this number
 abbrev pub NumberedFrom : ℕ → List PacketContent → Type 0
@@ -24,7 +24,7 @@ pub record IsIn (feed : List PacketContent) (packet : PacketContent) : Type 0 wh
 -- a snapshot's book is the complete feed's after its last packet
 pub record IsSnapshotOf (feed : List PacketContent) (i : Instrument) (snapshot : SnapshotContent) : Type 0 where
   pub within : snapshot.last ≤ length feed
-  pub book : book_of_snapshot snapshot ≡ book_at i (sent (take snapshot.last feed))
+  pub book : book_of_snapshot snapshot ≡ book_at i (sent_by (take snapshot.last feed))
 
 -- a snapshot of the feed that leaves out no packet behind a jump to this number
 pub record IsJumpedTo (feed : List PacketContent) (next : ℕ) (i : Instrument) (snapshot : SnapshotContent) : Type 0 where

@@ -4,7 +4,7 @@ use Rattle.std.specs.Prelude.{ℕ, ◌-◌, List, [], ◌∷◌, ◌++◌, Bool,
 use Rattle.mdp_templates.specs.Packet.{PacketContent}
 use Rattle.mdp_templates.specs.Snapshot.{SnapshotContent}
 use Rattle.mdp_templates.specs.declared.instrument.Instrument.{Instrument}
-use Rattle.mdp_books.specs.Feed.{Sent, sent, book_at, behind}
+use Rattle.mdp_books.specs.Feed.{Sent, sent_by, book_at, behind}
 use Rattle.mdp_print.specs.Texts.{jump_line}
 use Rattle.mdp_arbiter.specs.Machine.{Move}
 use Rattle.mdp_arbiter.specs.Machine.Move.{passed, jumped}
@@ -22,21 +22,21 @@ pub record Footing : Type 0 where
   pub base : ℕ
   pub jumped : Bool
 
-abbrev pub footed : List Instrument → List ℕ → List Footing
-footed [] bases = []
-footed (i ∷ is) [] = []
-footed (i ∷ is) (base ∷ bases) = record { instrument = i; base = base; jumped = true } ∷ footed is bases
+abbrev pub footings_at_jump : List Instrument → List ℕ → List Footing
+footings_at_jump [] bases = []
+footings_at_jump (i ∷ is) [] = []
+footings_at_jump (i ∷ is) (base ∷ bases) = record { instrument = i; base = base; jumped = true } ∷ footings_at_jump is bases
 
-abbrev pub at_start : List Instrument → List Footing
-at_start listed = map (λ (i : Instrument). record { instrument = i; base = 0; jumped = false }) listed
+abbrev pub footings_before_jump : List Instrument → List Footing
+footings_before_jump listed = map (λ (i : Instrument). record { instrument = i; base = 0; jumped = false }) listed
 
 abbrev pub footings_through : List Instrument → List Footing → Step → List Footing
 footings_through listed so_far (pass k) = so_far
-footings_through listed so_far (jump old new bases) = footed listed bases
+footings_through listed so_far (jump old new bases) = footings_at_jump listed bases
 
 -- what the last jump of these steps bears
 abbrev pub footings : List Instrument → List Step → List Footing
-footings listed steps = fold (footings_through listed) (at_start listed) steps
+footings listed steps = fold (footings_through listed) (footings_before_jump listed) steps
 
 -- What message m, which comes after the messages `before`, shows of a security, which hears what stands behind its base:
 -- none where m ends no event, or doesn't stand behind that base.
@@ -52,13 +52,13 @@ lines_from listed before [] = []
 lines_from listed before (m ∷ ms) = lines_at listed before m ++ lines_from listed (before ++ m ∷ []) ms
 
 -- what a step owes that comes after these ones
-abbrev pub owed : List Instrument → List PacketContent → List Step → Step → List ℕ
-owed listed feed before (pass k) = lines_from (footings listed before) (sent (take (k - 1) feed)) (sent (take 1 (drop (k - 1) feed)))
-owed listed feed before (jump old new bases) = jump_line old new
+abbrev pub lines_of_step : List Instrument → List PacketContent → List Step → Step → List ℕ
+lines_of_step listed feed before (pass k) = lines_from (footings listed before) (sent_by (take (k - 1) feed)) (sent_by (take 1 (drop (k - 1) feed)))
+lines_of_step listed feed before (jump old new bases) = jump_line old new
 
 abbrev pub lines_after : List Instrument → List PacketContent → List Step → List Step → List ℕ
 lines_after listed feed before [] = []
-lines_after listed feed before (s ∷ steps) = owed listed feed before s ++ lines_after listed feed (before ++ s ∷ []) steps
+lines_after listed feed before (s ∷ steps) = lines_of_step listed feed before s ++ lines_after listed feed (before ++ s ∷ []) steps
 
 -- the lines that these steps owe under a complete feed
 abbrev pub lines : List Instrument → List PacketContent → List Step → List ℕ

@@ -20,7 +20,7 @@ use Rattle.mdp_arbiter.specs.Machine.{Move, state_at, trace, go_on, is_lost}
 use Rattle.mdp_arbiter.specs.Channel.{Channel, channel_of}
 use Rattle.mdp_arbiter.proofs.Runs.{law_of_fronts}
 use Rattle.mdp_engine.specs.Engine.{View, Stands}
-use Rattle.mdp_desks.specs.Shown.{showed, shown_after, shown_lines}
+use Rattle.mdp_desks.specs.Shown.{shown_lines_of_move, shown_lines_after, shown_lines}
 use Rattle.mdp_pipeline.specs.declared.run.Run.{Run}
 use Rattle.mdp_pipeline.specs.declared.summary.Summary.{Summary}
 use Rattle.mdp_pipeline.specs.declared.summary.RunFault.{RunFault}
@@ -82,19 +82,19 @@ text_prints : (listed : List Instrument) (room : ℕ) (arrivals : List Arrival) 
 text_prints listed room arrivals readings are = record { readings = readings; are = are; next_is = refl; lost_is = refl; shown = refl }
 
 -- what the moves show begins with what the first ones show
-shown_after-append : (listed : List Instrument) (before moves more : List Move) → shown_after listed before (moves ++ more) ≡ shown_after listed before moves ++ shown_after listed (before ++ moves) more
-shown_after-append listed before [] more = ap (λ (b : List Move). shown_after listed b more) (sym (append-nil before))
-shown_after-append listed before (m ∷ moves) more =
+shown_lines_after-append : (listed : List Instrument) (before moves more : List Move) → shown_lines_after listed before (moves ++ more) ≡ shown_lines_after listed before moves ++ shown_lines_after listed (before ++ moves) more
+shown_lines_after-append listed before [] more = ap (λ (b : List Move). shown_lines_after listed b more) (sym (append-nil before))
+shown_lines_after-append listed before (m ∷ moves) more =
     let now = before ++ m ∷ [] in
-    ap (λ (t : List ℕ). showed listed before m ++ t) (shown_after-append listed now moves more)
-    ∙ ap (λ (b : List Move). showed listed before m ++ (shown_after listed now moves ++ shown_after listed b more)) (append_assoc before (m ∷ []) moves)
-    ∙ sym (append_assoc (showed listed before m) (shown_after listed now moves) (shown_after listed (before ++ m ∷ moves) more))
+    ap (λ (t : List ℕ). shown_lines_of_move listed before m ++ t) (shown_lines_after-append listed now moves more)
+    ∙ ap (λ (b : List Move). shown_lines_of_move listed before m ++ (shown_lines_after listed now moves ++ shown_lines_after listed b more)) (append_assoc before (m ∷ []) moves)
+    ∙ sym (append_assoc (shown_lines_of_move listed before m) (shown_lines_after listed now moves) (shown_lines_after listed (before ++ m ∷ moves) more))
 
 -- what is shown of the readings behind these ones
 abbrev shown_later : List Instrument → ℕ → List Reading → List Reading → List ℕ
 shown_later listed room readings more =
     let moves = moves_of listed room (events_of readings) in
-    shown_after listed moves (go_on (channel_of listed room) (events_of readings) (state_at (channel_of listed room) (events_of readings)) (events_of more))
+    shown_lines_after listed moves (go_on (channel_of listed room) (events_of readings) (state_at (channel_of listed room) (events_of readings)) (events_of more))
 
 shown-front : (listed : List Instrument) (room : ℕ) (readings more : List Reading) → shown_lines listed (moves_of listed room (events_of (readings ++ more))) ≡ shown_lines listed (moves_of listed room (events_of readings)) ++ shown_later listed room readings more
 shown-front listed room readings more =
@@ -102,7 +102,7 @@ shown-front listed room readings more =
     let later = go_on (channel_of listed room) es (state_at (channel_of listed room) es) (events_of more) in
     ap (λ (t : List Event). shown_lines listed (trace (channel_of listed room) t)) (flat_map-append (λ (r : Reading). brought_by r.said) readings more)
     ∙ ap (shown_lines listed) (law_of_fronts (channel_of listed room) es (events_of more))
-    ∙ shown_after-append listed [] (moves_of listed room (events_of readings)) later
+    ∙ shown_lines_after-append listed [] (moves_of listed room (events_of readings)) later
 
 -- ---- a beginning
 

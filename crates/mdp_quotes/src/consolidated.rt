@@ -2,7 +2,7 @@
 
 ghost use Rattle.std.specs.Prelude.{◌≡◌, ◌≤◌, ◌+◌, ◌++◌, length};
 ghost use Rattle.mdp_books.specs.Side.{HaveSizes};
-ghost use Rattle.mdp_quotes.specs.Computed.{consolidated};
+ghost use Rattle.mdp_quotes.specs.Computed.{consolidated_side};
 
 use crate::total::{Total, Way, enter_all};
 use arrayvec::ArrayVec;
@@ -30,7 +30,7 @@ fn side_of(way: Way, direct: &[Level], implied: &[Level]) -> ArrayVec<Total, 12>
     requires few { length direct.now + length implied.now ≤ 12 }
     requires direct_sizes { HaveSizes direct.now }
     requires implied_sizes { HaveSizes implied.now }
-    ensures { result.items ≡ consolidated way (direct.now ++ implied.now) }
+    ensures { result.items ≡ consolidated_side way (direct.now ++ implied.now) }
 {
     let mut totals = ArrayVec::new();
     enter_all(&mut totals, way, direct);

@@ -4,7 +4,7 @@ ghost use Rattle.std.specs.Prelude.{◌≡◌, ◌<◌, ◌≤◌, length, slice
 ghost use Rattle.std.specs.List.{prefix_len};
 ghost use Rattle.mdp_books.specs.Side.{HaveSizes};
 ghost use Rattle.mdp_quotes.specs.Order.{is_ahead, AreInOrder};
-ghost use Rattle.mdp_quotes.specs.Entering.{entered, entered_all, is_before, has_price, total_of, with, IsSmall, HasRoom};
+ghost use Rattle.mdp_quotes.specs.Entering.{with_level, with_levels, is_before, has_price, total_of, with, IsSmall, HasRoom};
 ghost use Rattle.mdp_quotes.specs.declared.total.Total.{Total};
 
 use arrayvec::ArrayVec;
@@ -107,7 +107,7 @@ ghost use Rattle.mdp_quotes.specs.Entering.{zero_total};
 // Adds a level's size at its price.
 fn enter(totals: &mut ArrayVec<Total, 12>, way: Way, level: &Level)
     requires { HasRoom way 1 totals.old.items }
-    ensures { totals.new.items ≡ entered way level.now totals.old.items }
+    ensures { totals.new.items ≡ with_level way level.now totals.old.items }
 {
     let at = place_of(totals.as_slice(), way, level);
     if has_price(totals.as_slice(), at, level) {
@@ -121,7 +121,7 @@ fn enter(totals: &mut ArrayVec<Total, 12>, way: Way, level: &Level)
 pub fn enter_all(totals: &mut ArrayVec<Total, 12>, way: Way, levels: &[Level])
     requires sizes { HaveSizes levels.now }
     requires room { HasRoom way (length levels.now) totals.old.items }
-    ensures { totals.new.items ≡ entered_all way levels.now totals.old.items }
+    ensures { totals.new.items ≡ with_levels way levels.now totals.old.items }
 {
     for level in levels {
         enter(totals, way, level);

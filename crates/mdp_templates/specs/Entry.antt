@@ -42,10 +42,10 @@ quote_of price size =
     else (if int_eq size (pos 2147483647) || int_lt size (pos 0) then Err refusals.Size else Ok (record { price = price; size = size }))
 
 -- with a delete the price and the size are not looked at
-abbrev pub quoted : Action → ℤ → ℤ → Result Level Refusal
-quoted actions.New price size = quote_of price size
-quoted actions.Change price size = quote_of price size
-quoted actions.Delete price size = Ok (record { price = price; size = size })
+abbrev pub action_quote : Action → ℤ → ℤ → Result Level Refusal
+action_quote actions.New price size = quote_of price size
+action_quote actions.Change price size = quote_of price size
+action_quote actions.Delete price size = Ok (record { price = price; size = size })
 
 -- the entry that a text of at least 27 bytes is, or the first refusal that holds
 unfoldable pub entry_of : List ℕ → Result Entry Refusal
@@ -53,5 +53,5 @@ entry_of text = do
   kind ← kind_of (slice_index text 26)
   action ← action_of (slice_index text 25)
   level ← level_of kind (slice_index text 24)
-  quote ← quoted action (int64_at 0 text) (int32_at 8 text)
+  quote ← action_quote action (int64_at 0 text) (int32_at 8 text)
   Ok (record { security = int32_at 12 text; kind = kind; action = action; level = level; price = quote.price; size = quote.size })

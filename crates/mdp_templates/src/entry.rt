@@ -1,7 +1,7 @@
 //! One entry of a book message.
 
 ghost use Rattle.std.specs.Prelude.{◌≡◌, ◌≤◌, length};
-ghost use Rattle.mdp_templates.specs.Entry.{kind_of, action_of, level_of, quote_of, quoted, entry_of};
+ghost use Rattle.mdp_templates.specs.Entry.{kind_of, action_of, level_of, quote_of, action_quote, entry_of};
 
 use crate::layout::GroupEntry;
 use mdp_sbe::{Refusal, i32_at, i64_at};
@@ -43,7 +43,8 @@ pub struct Entry {
     pub security: i32,
     pub kind: Kind,
     pub action: Action,
-    /// The position that the entry is for: 1 is the best, at most 10, at most 2 on an implied side.
+    /// The position that the entry is for: 1 is the best, at most [`DIRECT_DEPTH`], on an implied side
+    /// at most [`IMPLIED_DEPTH`].
     pub level: u8,
     pub price: i64,
     pub size: i32,
@@ -108,7 +109,7 @@ pub(crate) fn read_level(price: i64, size: i32) -> Result<Level, Refusal>
 
 // With a delete the price and the size are not looked at.
 fn read_quoted(action: Action, price: i64, size: i32) -> Result<Level, Refusal>
-    ensures { result ≡ quoted action price size }
+    ensures { result ≡ action_quote action price size }
 {
     match action {
         Action::New | Action::Change => read_level(price, size),
