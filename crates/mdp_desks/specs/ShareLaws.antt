@@ -4,9 +4,9 @@ use Rattle.std.specs.List.{flat_map}
 use Rattle.mdp_templates.specs.declared.instrument.Instrument.{Instrument}
 use Rattle.mdp_arbiter.specs.Machine.{Move}
 use Rattle.mdp_desks.specs.Shown.{shown_lines}
-use Rattle.mdp_desks.specs.Moments.{Moment, moment_text, moments, moments_after, moments_by}
+use Rattle.mdp_desks.specs.Moments.{moment_text, moments, moments_after}
 use Rattle.mdp_desks.specs.Shares.{own_part, own_slots, own_moves}
-use Rattle.mdp_desks.specs.Reports.{Report, report_by, report_of}
+use Rattle.mdp_desks.specs.Reports.{report_by, report_of}
 
 -- the moments' lines are what the moves show
 abbrev pub LawOfMoments : Type 0
