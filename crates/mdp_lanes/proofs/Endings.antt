@@ -1,5 +1,5 @@
 -- Lists of items in which no item but the last is an end, and how many ends they have.
-use Rattle.std.proofs.Common.{◌≡◌, ◌+◌, ◌≤◌, Bool, true, false, true≢false, not, ◌||◌, ◌&&◌, cond, List, [], ◌∷◌, ◌++◌, sym, refl, ap, ◌∙◌, arith}
+use Rattle.std.proofs.Common.{◌≡◌, ℕ, ◌+◌, ◌≤◌, Bool, true, false, true≢false, not, ◌||◌, ◌&&◌, cond, List, [], ◌∷◌, ◌++◌, sym, refl, ap, ◌∙◌, arith}
 use Rattle.std.specs.List.{list_any, count_by}
 use Rattle.std.proofs.lemmas.List.Sums.{sum_by-cons, sum_by_push}
 use Rattle.mdp_templates.specs.declared.feed.Feed.{Feed}
@@ -42,7 +42,8 @@ module _ {I : Type 0} (is_end : I → Bool) where
       → ends_taken is_end ms ≡ count_by is_end (items_of A ms) + count_by is_end (items_of B ms) + count_by is_end (items_of S ms)
   ends_by_tags [] = refl
   ends_by_tags (m ∷ ms) =
-      let P : Feed → Type 0 = λ tag. cond (is_end m.1) 1 0 + ends_taken is_end ms ≡ count_by is_end (items_of A ((tag, m.1) ∷ ms)) + count_by is_end (items_of B ((tag, m.1) ∷ ms)) + count_by is_end (items_of S ((tag, m.1) ∷ ms)) in
+      let count : Feed → Feed → ℕ = λ wanted tag. count_by is_end (items_of wanted ((tag, m.1) ∷ ms)) in
+      let P : Feed → Type 0 = λ tag. cond (is_end m.1) 1 0 + ends_taken is_end ms ≡ count A tag + count B tag + count S tag in
       let rest = ends_by_tags ms in
       let each : (tag : Feed) → P tag = elim [
         | A ↦ omega (arith, rest, count-cons m.1 (items_of A ms))
@@ -54,7 +55,8 @@ module _ {I : Type 0} (is_end : I → Bool) where
   one_end [] e = omega arith
   one_end (x ∷ []) e = elim (is_end x) as (λ b. 0 + cond b 1 0 ≤ 1) [ true ↦ omega arith | false ↦ omega arith ]
   one_end (x ∷ y ∷ xs) e =
-      let few : cond (is_end x) 1 0 + count_by is_end (y ∷ xs) ≤ 1 = elim (is_end x) as (λ b. (not b && ends_last is_end (y ∷ xs)) ≡ true → cond b 1 0 + count_by is_end (y ∷ xs) ≤ 1)
+      let few : cond (is_end x) 1 0 + count_by is_end (y ∷ xs) ≤ 1 =
+      elim (is_end x) as (λ b. (not b && ends_last is_end (y ∷ xs)) ≡ true → cond b 1 0 + count_by is_end (y ∷ xs) ≤ 1)
       [ true ↦ λ d. absurd (true≢false (sym d)) | false ↦ λ d. omega (arith, one_end (y ∷ xs) d) ] e in
       omega (arith, few, count-cons x (y ∷ xs))
 
@@ -84,7 +86,8 @@ module _ {I : Type 0} (is_end : I → Bool) where
       elim (is_end x) as (λ b. 0 + cond b 1 0 ≡ 1 → (not b && ends_last is_end (y ∷ ys)) ≡ true → x ∷ y ∷ ys ≡ x ∷ [])
       [ true ↦ λ m d. absurd (true≢false (sym d)) | false ↦ λ m d. absurd (omega (arith, m)) ] n e
   nothing_behind (x ∷ z ∷ xs) ys n e =
-      elim (is_end x) as (λ b. cond b 1 0 + count_by is_end (z ∷ xs) ≡ 1 → (not b && ends_last is_end (z ∷ xs ++ ys)) ≡ true → x ∷ z ∷ xs ++ ys ≡ x ∷ z ∷ xs) [
+      elim (is_end x) as (λ b. cond b 1 0 + count_by is_end (z ∷ xs) ≡ 1 → (not b && ends_last is_end (z ∷ xs ++ ys)) ≡ true
+      → x ∷ z ∷ xs ++ ys ≡ x ∷ z ∷ xs) [
         | true ↦ λ m d. absurd (true≢false (sym d))
         | false ↦ λ m d. ap (λ (l : List I). x ∷ l) (nothing_behind (z ∷ xs) ys (omega (arith, m)) d)
       ] (sym (count-cons x (z ∷ xs)) ∙ n) e

@@ -2,15 +2,15 @@
 use Rattle.std.proofs.Common.{◌≡◌, Bool, List, [], ◌∷◌, ◌++◌, sym, ◌∙◌, subst}
 use Rattle.mdp_templates.specs.declared.feed.Feed.{Feed}
 use Rattle.mdp_templates.specs.declared.feed.Feed.TheVariants.{A, B, S}
-use Rattle.mdp_lanes.specs.declared.rule.Knowledge.{Knowledge}
 use Rattle.mdp_lanes.specs.Rule.{sender, receiver, Accounts}
 use Rattle.mdp_lanes.specs.Items.{items_of, ends_taken, EndsLast}
+use Rattle.mdp_lanes.specs.Intakes.{IntakeKnowledge}
 use Rattle.mdp_lanes.proofs.Tagged.{items_of-append}
 use Rattle.mdp_lanes.proofs.Endings.{front_ends_last, each_ended, nothing_behind}
 
 module _ {I : Type 0} (is_end : I → Bool) where
   -- the receiver that has taken in a sender
-  joined : (v w u v' w' : Knowledge Feed I (Feed × I)) → u ≡ receiver v.taken (v.rights ++ w.rights) → v ≡ v' → w ≡ w' → u ≡ receiver v'.taken (v'.rights ++ w'.rights)
+  joined : (v w u v' w' : IntakeKnowledge I) → u ≡ receiver v.taken (v.rights ++ w.rights) → v ≡ v' → w ≡ w' → u ≡ receiver v'.taken (v'.rights ++ w'.rights)
   joined v w u v' w' both is its = both ∙ λ i. receiver (is i).taken ((is i).rights ++ (its i).rights)
 
   -- what was taken of senders that put nothing behind their ends is all that they sent, where three ends were taken
@@ -23,7 +23,7 @@ module _ {I : Type 0} (is_end : I → Bool) where
       sym (is tag ∙ nothing_behind is_end (items_of tag taken) (items_of tag queued) (each_ended is_end taken fronts three tag) (all tag))
 
   -- the same, where the receiver's pass took in three senders' passes and then looked at the queue
-  pub settles : (v wa v₁ wb v₂ ws v₃ : Knowledge Feed I (Feed × I)) (taken : List (Feed × I)) (a b s : List I)
+  pub settles : (v wa v₁ wb v₂ ws v₃ : IntakeKnowledge I) (taken : List (Feed × I)) (a b s : List I)
       → v ≡ receiver taken [] → wa ≡ sender ((A, a) ∷ []) → wb ≡ sender ((B, b) ∷ []) → ws ≡ sender ((S, s) ∷ [])
       → v₁ ≡ receiver v.taken (v.rights ++ wa.rights) → v₂ ≡ receiver v₁.taken (v₁.rights ++ wb.rights) → v₃ ≡ receiver v₂.taken (v₂.rights ++ ws.rights)
       → (queued : List (Feed × I)) × Accounts items_of v₃ queued
@@ -33,7 +33,7 @@ module _ {I : Type 0} (is_end : I → Bool) where
       let one = joined v wa v₁ (receiver taken []) (sender ((A, a) ∷ [])) e₁ is is_a in
       let two = joined v₁ wb v₂ (receiver taken ((A, a) ∷ [])) (sender ((B, b) ∷ [])) e₂ one is_b in
       let all = joined v₂ ws v₃ (receiver taken ((A, a) ∷ (B, b) ∷ [])) (sender ((S, s) ∷ [])) e₃ two is_s in
-      let P : Knowledge Feed I (Feed × I) → Type 0 = λ u. Accounts items_of u seen.0 in
+      let P : IntakeKnowledge I → Type 0 = λ u. Accounts items_of u seen.0 in
       let facts : Accounts items_of (receiver taken ((A, a) ∷ (B, b) ∷ (S, s) ∷ [])) seen.0 = subst P all seen.1 in
       let sent : Feed → List I = elim [ A ↦ a | B ↦ b | S ↦ s ] in
       let ends : (tag : Feed) → EndsLast is_end (sent tag) = elim [ A ↦ ends_a | B ↦ ends_b | S ↦ ends_s ] in

@@ -13,6 +13,16 @@ module _ {K X M : Type 0} (part : K → List M → List X) (Allowed : List X →
   abbrev Rule : List M → List (Knowledge K X M) → Type 0
   Rule = Delivers part Allowed
 
+  -- what each end knows is so
+  abbrev AllFit : ℕ → (K → ℕ) → List M → List M → List (Knowledge K X M) → Type 0
+  AllFit reader seat taken queued views =
+      (place : ℕ) (u : Knowledge K X M) → get_elem? views place ≡ some u → Fits part reader seat taken queued place u
+
+  -- what each end knows is so, but for that of one pass
+  abbrev OthersFit : ℕ → (K → ℕ) → List M → List M → List (Knowledge K X M) → ℕ → Type 0
+  OthersFit reader seat taken queued views pass =
+      (place : ℕ) (u : Knowledge K X M) → place ≢ pass → get_elem? views place ≡ some u → Fits part reader seat taken queued place u
+
   -- a fact of the view at a place, told of an equal view at an equal place
   fits_at : (reader : ℕ) (seat : K → ℕ) (taken queued : List M) (pass place : ℕ) (v w : Knowledge K X M)
       → place ≡ pass → v ≡ w → Fits part reader seat taken queued pass v → Fits part reader seat taken queued place w
@@ -22,8 +32,8 @@ module _ {K X M : Type 0} (part : K → List M → List X) (Allowed : List X →
   -- where one end's view is replaced by one that fits, and the other ends' views fit, all fit
   stays : (reader : ℕ) (seat : K → ℕ) (taken queued : List M) (views : List (Knowledge K X M)) (pass : ℕ) (w : Knowledge K X M)
       → Fits part reader seat taken queued pass w
-      → ((place : ℕ) (u : Knowledge K X M) → place ≢ pass → get_elem? views place ≡ some u → Fits part reader seat taken queued place u)
-      → (place : ℕ) (u : Knowledge K X M) → get_elem? (set views pass w) place ≡ some u → Fits part reader seat taken queued place u
+      → OthersFit reader seat taken queued views pass
+      → AllFit reader seat taken queued (set views pass w)
   stays reader seat taken queued views pass w mine others place u at =
       ⊎_elim (λ (x : (place ≡ pass) × (w ≡ u)). fits_at reader seat taken queued pass place w u x.0 x.1 mine)
       (λ (x : (place ≢ pass) × (get_elem? views place ≡ some u)). others place u x.0 x.1) (at_set views pass place w u at)
@@ -48,7 +58,7 @@ module _ {K X M : Type 0} (part : K → List M → List X) (Allowed : List X →
       let all_allowed : (j : K) → Allowed (part j after) = λ j.
       ⊎_elim (λ (same : j ≡ k). subst Allowed (knows ∙ ap (λ (i : K). part i after) (sym same)) allowed)
       (λ (no : j ≢ k). subst Allowed (other j no) (h.allowed j)) (which j) in
-      let others : (place : ℕ) (u : Knowledge K X M) → place ≢ pass → get_elem? views place ≡ some u → Fits part h.reader h.seat h.taken (queued ++ m ∷ []) place u = λ place u apart there.
+      let others : OthersFit h.reader h.seat h.taken (queued ++ m ∷ []) views pass = λ place u apart there.
       let theirs = h.fits place u there in (
         theirs.0,
         each_map (IsRight part h.seat place before) (IsRight part h.seat place after)
@@ -77,7 +87,7 @@ module _ {K X M : Type 0} (part : K → List M → List X) (Allowed : List X →
       let all_allowed : (k : K) → Allowed (part k (got ++ queued)) = λ k. subst Allowed (ap (part k) (sym same)) (h.allowed k) in
       let front : (k : K) → Allowed (part k (taken ++ m ∷ [])) = λ k.
       subst (λ (l : List M). Allowed (part k (l ++ m ∷ []))) (sym is.1) (closed (part k got) (part k queued) (subst Allowed (adds k got queued) (all_allowed k))) in
-      let others : (place : ℕ) (u : Knowledge K X M) → place ≢ pass → get_elem? views place ≡ some u → Fits part h.reader h.seat got queued place u = λ place u apart there.
+      let others : OthersFit h.reader h.seat got queued views pass = λ place u apart there.
       let theirs = h.fits place u there in (
         (λ receives. absurd (apart ((theirs.0 receives).0 ∙ sym is.0))),
         each_map (IsRight part h.seat place (h.taken ++ (m ∷ queued))) (IsRight part h.seat place (got ++ queued))
@@ -120,14 +130,14 @@ module _ {K X M : Type 0} (part : K → List M → List X) (Allowed : List X →
             (each_map (IsRight part h.seat pass all) (IsRight part seat pass all) (λ right is. (moved_here pass from (h.seat right.0) is.0, is.1)) rights mine.1)
             (each_map (IsRight part h.seat from all) (IsRight part seat pass all) (λ right is. (moved_there pass from (h.seat right.0) is.0, is.1)) theirs its.1),
       ) in
-      let other : (place : ℕ) (u : Knowledge K X M) → place ≢ from → get_elem? views place ≡ some u → Fits part h.reader seat h.taken queued place u = λ place u no there.
+      let others : OthersFit h.reader seat h.taken queued views from = λ place u no there.
       let old = h.fits place u there in
       (old.0, each_map (IsRight part h.seat place all) (IsRight part seat place all) (λ right is. (moved_else pass from (h.seat right.0) place is.0 no, is.1)) u.rights old.1) in
-      let fits : (place : ℕ) (u : Knowledge K X M) → get_elem? (set (set views pass both) from spent) place ≡ some u → Fits part h.reader seat h.taken queued place u = λ place u there.
+      let fits : AllFit h.reader seat h.taken queued (set (set views pass both) from spent) = λ place u there.
       ⊎_elim (λ (x : (place ≡ from) × (spent ≡ u)). fits_at h.reader seat h.taken queued from place spent u x.0 x.1 ((λ receives. absurd (true≢false (sym receives))), tt))
       (λ (x : (place ≢ from) × (get_elem? (set views pass both) place ≡ some u)).
       ⊎_elim (λ (y : (place ≡ pass) × (both ≡ u)). fits_at h.reader seat h.taken queued pass place both u y.0 y.1 joined)
-      (λ (y : (place ≢ pass) × (get_elem? views place ≡ some u)). other place u x.0 y.1)
+      (λ (y : (place ≢ pass) × (get_elem? views place ≡ some u)). others place u x.0 y.1)
       (at_set views pass place both u x.1)) (at_set (set views pass both) from place spent u there) in
       record { reader = h.reader; seat = seat; taken = h.taken; allowed = h.allowed; fits = fits }
 
@@ -151,7 +161,7 @@ module _ {K X M : Type 0} (part : K → List M → List X) (Allowed : List X →
           each_both (λ r. is_same r.0 k ≡ false) (IsRight part h.seat pass all) (IsRight part seat pass all)
               (λ r no is. (given_else is_same k new h.seat r.0 no ∙ is.0, is.1)) rest apart mine.1.1,
         ) in
-        let others : (place : ℕ) (u : Knowledge K X M) → place ≢ pass → get_elem? views place ≡ some u → Fits part h.reader seat h.taken queued place u = λ place u no there.
+        let others : OthersFit h.reader seat h.taken queued views pass = λ place u no there.
         let old = h.fits place u there in (
           old.0,
           each_map (IsRight part h.seat place all) (IsRight part seat place all)
@@ -159,7 +169,7 @@ module _ {K X M : Type 0} (part : K → List M → List X) (Allowed : List X →
         ) in
         let rights : Fits part h.reader seat h.taken queued new right =
         ((λ receives. absurd (true≢false (sym receives))), ((given_there is_same k new h.seat itself, known), tt)) in
-        let fits : (place : ℕ) (u : Knowledge K X M) → get_elem? (fewer ++ right ∷ []) place ≡ some u → Fits part h.reader seat h.taken queued place u = λ place u there.
+        let fits : AllFit h.reader seat h.taken queued (fewer ++ right ∷ []) = λ place u there.
         ⊎_elim (λ (x : get_elem? fewer place ≡ some u). stays h.reader seat h.taken queued views pass left lefts others place u x)
         (λ (x : (place ≡ new) × (right ≡ u)). fits_at h.reader seat h.taken queued new place right u x.0 x.1 rights) (at_longer fewer right u place there) in
         record { reader = h.reader; seat = seat; taken = h.taken; allowed = h.allowed; fits = fits }

@@ -3,6 +3,10 @@ use Rattle.std.specs.Prelude.{◌≡◌, ⊤, List, [], ◌∷◌, ◌++◌}
 use Rattle.mdp_lanes.specs.declared.rule.Knowledge.{Knowledge}
 use Rattle.mdp_lanes.specs.Rule.{sender, receiver, first_list}
 
+-- what an end of a lane knows: there is one key
+abbrev pub LaneKnowledge : Type 0 → Type 0
+LaneKnowledge T = Knowledge ⊤ T T
+
 module _ {T : Type 0} where
   -- of the one key the messages have all
   abbrev pub whole : ⊤ → List T → List T
@@ -17,9 +21,9 @@ module _ {T : Type 0} where
   only_right items = (tt, items) ∷ []
 
   -- a put adds the item to what the sender has sent
-  abbrev pub Puts : Knowledge ⊤ T T → T → Knowledge ⊤ T T → Type 0
+  abbrev pub Puts : LaneKnowledge T → T → LaneKnowledge T → Type 0
   Puts v item w = w ≡ sender (only_right (first_list v.rights ++ item ∷ []))
 
   -- a take adds the item to what was taken
-  abbrev pub Takes : Knowledge ⊤ T T → T → Knowledge ⊤ T T → Type 0
+  abbrev pub Takes : LaneKnowledge T → T → LaneKnowledge T → Type 0
   Takes v item w = w ≡ receiver (v.taken ++ item ∷ []) []

@@ -32,7 +32,8 @@ module _ {K X M : Type 0} where
     -- what an end knows is so, where these messages were taken and those are in the queue
     abbrev pub Fits : ℕ → (K → ℕ) → List M → List M → ℕ → Knowledge K X M → Type 0
     Fits reader seat taken queued pass v =
-        (v.receives ≡ true → (pass ≡ reader) × (v.taken ≡ taken)) × Each (IsRight seat pass (taken ++ queued)) v.rights
+        (v.receives ≡ true → (pass ≡ reader) × (v.taken ≡ taken))
+        × Each (IsRight seat pass (taken ++ queued)) v.rights
 
     -- What was taken and then what the queue holds has, of each key, all that was sent under it, in order: what each
     -- end knows is so of some messages that were taken. What is sent under a key is `Allowed`.
@@ -41,7 +42,8 @@ module _ {K X M : Type 0} where
       pub seat : K → ℕ
       pub taken : List M
       pub allowed : (k : K) → Allowed (part k (taken ++ queued))
-      pub fits : (pass : ℕ) (v : Knowledge K X M) → get_elem? views pass ≡ some v → Fits reader seat taken queued pass v
+      pub fits : (pass : ℕ) (v : Knowledge K X M) → get_elem? views pass ≡ some v
+          → Fits reader seat taken queued pass v
 
     -- what a receiver that has the rights of senders learns of what the queue holds
     abbrev pub Accounts : Knowledge K X M → List M → Type 0

@@ -16,12 +16,12 @@ use std::marker::{Model, PhantomData};
 use std::sync::Wait;
 
 // What an end knows: a key is a tag, and an item is sent with it.
-type Known<I> = Knowledge<Feed, I, (Feed, I)>;
+type IntakeKnowledge<I> = Knowledge<Feed, I, (Feed, I)>;
 
 // Of each tag, what was taken and what the queue holds is what was sent, and nothing was sent behind an end.
 struct EachInOrder;
 
-impl<I: Ends> Protocol<(Feed, I), Known<I>> for EachInOrder {
+impl<I: Ends> Protocol<(Feed, I), IntakeKnowledge<I>> for EachInOrder {
     ghost use Rattle.std.specs.Prelude.{[]};
     ghost use Rattle.mdp_lanes.specs.Rule.{receiver, Delivers};
     ghost use Rattle.mdp_lanes.specs.Items.{items_of, EndsLast};
@@ -34,29 +34,29 @@ impl<I: Ends> Protocol<(Feed, I), Known<I>> for EachInOrder {
 
 struct Put;
 
-impl<I: Ends> Outcome<(Feed, I), Known<I>> for Put {
+impl<I: Ends> Outcome<(Feed, I), IntakeKnowledge<I>> for Put {
     ghost use Rattle.mdp_lanes.specs.Intakes.{Puts};
 
     ghost then = { Puts };
 }
 
-impl<I: Ends> Lesson<(Feed, I), Known<I>> for Put {
+impl<I: Ends> Lesson<(Feed, I), IntakeKnowledge<I>> for Put {
     ghost fact = { λ _ _. ⊤ };
 }
 
 struct Take;
 
-impl<I: Ends> Outcome<(Feed, I), Known<I>> for Take {
+impl<I: Ends> Outcome<(Feed, I), IntakeKnowledge<I>> for Take {
     ghost use Rattle.mdp_lanes.specs.Intakes.{Takes};
 
     ghost then = { Takes I.is_end };
 }
 
-impl<I: Ends> Lesson<(Feed, I), Known<I>> for Take {
+impl<I: Ends> Lesson<(Feed, I), IntakeKnowledge<I>> for Take {
     ghost fact = { λ _ _. ⊤ };
 }
 
-impl<I: Ends> Lesson<(Feed, I), Known<I>> for Account {
+impl<I: Ends> Lesson<(Feed, I), IntakeKnowledge<I>> for Account {
     ghost use Rattle.mdp_lanes.specs.Rule.{Accounts};
     ghost use Rattle.mdp_lanes.specs.Items.{items_of};
 
@@ -66,8 +66,8 @@ impl<I: Ends> Lesson<(Feed, I), Known<I>> for Account {
 /// The end that puts items under one tag. A contract sees its intake, its tag, and the list of all that it has put.
 #[derive(Drop)]
 pub struct IntakeSender<I: Ends, A: Allocator + Copy> {
-    channel: RuledSender<(Feed, I), Known<I>, EachInOrder, A>,
-    pass: Pass<(Feed, I), Known<I>>,
+    channel: RuledSender<(Feed, I), IntakeKnowledge<I>, EachInOrder, A>,
+    pass: Pass<(Feed, I), IntakeKnowledge<I>>,
     tag: Feed,
     ended: bool,
 }
@@ -100,8 +100,8 @@ impl<I: Ends, A: Allocator + Copy> Model for IntakeSender<I, A> {
 /// its sender.
 #[derive(Drop)]
 pub struct IntakeReceiver<I: Ends, A: Allocator + Copy> {
-    channel: RuledReceiver<(Feed, I), Known<I>, EachInOrder, A>,
-    pass: Pass<(Feed, I), Known<I>>,
+    channel: RuledReceiver<(Feed, I), IntakeKnowledge<I>, EachInOrder, A>,
+    pass: Pass<(Feed, I), IntakeKnowledge<I>>,
     ends: u8,
 }
 
@@ -197,9 +197,12 @@ impl<I: Ends> Intake<I> {
         ensures receiver { IfOk result (λ ends. ends.3.taken ≡ []) }
         ensures room { IfOk result (λ ends. ends.3.intake.room ≡ capacity) }
     {
-        let (channel, receiving, mut pass) = bounded_with::<(Feed, I), Known<I>, EachInOrder, A>(
-            alloc, capacity,
-        )?;
+        let (channel, receiving, mut pass) = bounded_with::<
+            (Feed, I),
+            IntakeKnowledge<I>,
+            EachInOrder,
+            A,
+        >(alloc, capacity)?;
         let b_channel = channel.try_clone()?;
         let s_channel = channel.try_clone()?;
         let a_pass = channel.another::<Account>(&mut pass);

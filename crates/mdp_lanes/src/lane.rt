@@ -12,12 +12,12 @@ use std::marker::{Model, PhantomData};
 use std::sync::Wait;
 
 // What an end knows: there is one key.
-type Known<T> = Knowledge<(), T, T>;
+type LaneKnowledge<T> = Knowledge<(), T, T>;
 
 // What was taken and what the queue holds is what was sent.
 struct AllInOrder;
 
-impl<T> Protocol<T, Known<T>> for AllInOrder {
+impl<T> Protocol<T, LaneKnowledge<T>> for AllInOrder {
     ghost use Rattle.std.specs.Prelude.{[]};
     ghost use Rattle.mdp_lanes.specs.Rule.{receiver, Delivers};
     ghost use Rattle.mdp_lanes.specs.Lanes.{whole, Any, only_right};
@@ -29,29 +29,29 @@ impl<T> Protocol<T, Known<T>> for AllInOrder {
 
 struct Put;
 
-impl<T> Outcome<T, Known<T>> for Put {
+impl<T> Outcome<T, LaneKnowledge<T>> for Put {
     ghost use Rattle.mdp_lanes.specs.Lanes.{Puts};
 
     ghost then = { Puts };
 }
 
-impl<T> Lesson<T, Known<T>> for Put {
+impl<T> Lesson<T, LaneKnowledge<T>> for Put {
     ghost fact = { λ _ _. ⊤ };
 }
 
 struct Take;
 
-impl<T> Outcome<T, Known<T>> for Take {
+impl<T> Outcome<T, LaneKnowledge<T>> for Take {
     ghost use Rattle.mdp_lanes.specs.Lanes.{Takes};
 
     ghost then = { Takes };
 }
 
-impl<T> Lesson<T, Known<T>> for Take {
+impl<T> Lesson<T, LaneKnowledge<T>> for Take {
     ghost fact = { λ _ _. ⊤ };
 }
 
-impl<T> Lesson<T, Known<T>> for Account {
+impl<T> Lesson<T, LaneKnowledge<T>> for Account {
     ghost use Rattle.mdp_lanes.specs.Rule.{Accounts};
     ghost use Rattle.mdp_lanes.specs.Lanes.{whole};
 
@@ -61,8 +61,8 @@ impl<T> Lesson<T, Known<T>> for Account {
 /// The end that puts. A contract sees its lane, and the list of all that it has put.
 #[derive(Drop)]
 pub struct LaneSender<T: Drop, A: Allocator + Copy> {
-    channel: RuledSender<T, Known<T>, AllInOrder, A>,
-    pass: Pass<T, Known<T>>,
+    channel: RuledSender<T, LaneKnowledge<T>, AllInOrder, A>,
+    pass: Pass<T, LaneKnowledge<T>>,
 }
 
 impl<T: Drop, A: Allocator + Copy> Model for LaneSender<T, A> {
@@ -88,8 +88,8 @@ impl<T: Drop, A: Allocator + Copy> Model for LaneSender<T, A> {
 /// The end that takes. A contract sees its lane, and the list of all that it has taken.
 #[derive(Drop)]
 pub struct LaneReceiver<T: Drop, A: Allocator + Copy> {
-    channel: RuledReceiver<T, Known<T>, AllInOrder, A>,
-    pass: Pass<T, Known<T>>,
+    channel: RuledReceiver<T, LaneKnowledge<T>, AllInOrder, A>,
+    pass: Pass<T, LaneKnowledge<T>>,
 }
 
 impl<T: Drop, A: Allocator + Copy> Model for LaneReceiver<T, A> {
@@ -149,7 +149,7 @@ impl<T: Drop> Lane<T> {
         ensures receiver { IfOk result (λ ends. ends.1.taken ≡ []) }
         ensures room { IfOk result (λ ends. ends.1.lane.room ≡ capacity) }
     {
-        let (channel, receiving, mut pass) = bounded_with::<T, Known<T>, AllInOrder, A>(
+        let (channel, receiving, mut pass) = bounded_with::<T, LaneKnowledge<T>, AllInOrder, A>(
             alloc, capacity,
         )?;
         let sending = channel.another::<Account>(&mut pass);

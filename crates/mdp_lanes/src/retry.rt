@@ -21,8 +21,8 @@ pub fn send<
     A: Allocator + Copy,
 >(rt: &R, channel: &RuledSender<T, V, P, A>, pass: &mut Pass<T, V>, message: T)
     requires seat { IsSeatAt (sends_on channel.now) pass.old }
-    requires rule { Pushes P.holds (ruled_capacity (sends_on channel.now)) pass.old.id (view pass.old) message
-        (M.then (view pass.old) message) }
+    requires rule { Pushes P.holds (ruled_capacity (sends_on channel.now)) pass.old.id
+        (view pass.old) message (M.then (view pass.old) message) }
     requires lesson { Learns P.holds pass.old.id (view pass.old) (M.fact (view pass.old)) }
     ensures seat { IsSeatAt (sends_on channel.now) pass.new }
     ensures same { (pass.new.table_id ≡ pass.old.table_id) × (pass.new.me.0.of ≡ pass.old.me.0.of) }

@@ -13,18 +13,18 @@ use std::process::Abort;
 use std::snapshot::Snapshot as Copied;
 use std::sync::Wait;
 use std::thread;
-use std::thread::{Promise, PromisedHandle, Threads};
+use std::thread::{Promise, PromisedHandle, Scope, Threads};
 
 /// What a reader of a feed puts.
 #[derive(Drop)]
-enum Item {
-    Packet(Packet<Global>),
+enum Item<A: Allocator> {
+    Packet(Packet<A>),
     Snapshot(Snapshot),
     Close,
     End,
 }
 
-impl Ends for Item {
+impl<A: Allocator> Ends for Item<A> {
     ghost use Rattle.std.specs.Prelude.{true, false};
     ghost use Rattle.mdp_lanes.specs.declared.tests.Item.TheVariants.{Packet, Snapshot, Close, End};
 
@@ -35,9 +35,9 @@ impl Ends for Item {
     }
 }
 
-type Sender = IntakeSender<Item, Global>;
+type Sender<A> = IntakeSender<Item<A>, A>;
 
-type Receiver = IntakeReceiver<Item, Global>;
+type Receiver<A> = IntakeReceiver<Item<A>, A>;
 
 type PacketSender = LaneSender<Packet<Global>, Global>;
 
@@ -52,7 +52,7 @@ enum Mark {
     End,
 }
 
-fn mark_of(item: &Item) -> Mark {
+fn mark_of<A: Allocator>(item: &Item<A>) -> Mark {
     match item {
         Item::Packet(packet) => Mark::Packet(packet.number(), packet.messages().len()),
         Item::Snapshot(snapshot) => Mark::Snapshot(snapshot.last()),
@@ -62,7 +62,7 @@ fn mark_of(item: &Item) -> Mark {
 }
 
 /// A packet of one empty message, which lies in memory.
-fn packet(alloc: Global, number: u32) -> Packet<Global> {
+fn packet<A: Allocator + Copy>(alloc: A, number: u32) -> Packet<A> {
     let mut messages = Vec::new(alloc);
     let _ = messages.push(Message::new(Vec::new(alloc), true));
     Packet::new(number, messages)
@@ -84,7 +84,7 @@ fn snapshot(last: u32) -> Snapshot {
 const MANY: u32 = 1000;
 
 /// Puts an item, if the sender has not ended.
-fn put_one<R: Wait, A: Allocator + Copy>(rt: &R, sender: &mut IntakeSender<Item, A>, item: Item)
+fn put_one<R: Wait, A: Allocator + Copy>(rt: &R, sender: &mut Sender<A>, item: Item<A>)
     ensures intake { sender.new.intake ≡ sender.old.intake }
     ensures tag { sender.new.tag ≡ sender.old.tag }
 {
@@ -94,7 +94,12 @@ fn put_one<R: Wait, A: Allocator + Copy>(rt: &R, sender: &mut IntakeSender<Item,
 }
 
 /// Puts the packets of feed A or B, or the snapshots of feed S and a close, and then the end.
-fn put_all<R: Wait>(rt: &R, alloc: Global, mut sender: Sender, tag: Feed) -> Sender
+fn put_all<R: Wait, A: Allocator + Copy>(
+    rt: &R,
+    alloc: A,
+    mut sender: Sender<A>,
+    tag: Feed,
+) -> Sender<A>
     ensures intake { result.intake ≡ sender.intake }
     ensures tag { result.tag ≡ sender.tag }
 {
@@ -115,36 +120,39 @@ fn put_all<R: Wait>(rt: &R, alloc: Global, mut sender: Sender, tag: Feed) -> Sen
 
 /// A thread's promise: the sender that it gives back is the one that it was given.
 #[derive(Drop)]
-struct GivesBack {
-    before: Copied<Sender>,
+struct GivesBack<A: Allocator + Copy> {
+    before: Copied<Sender<A>>,
 }
 
-impl Promise<Sender> for GivesBack {
+impl<A: Allocator + Copy> Promise<Sender<A>> for GivesBack<A> {
     ghost kept_by = { λ p r. (r.intake ≡ p.before.value.intake) × (r.tag ≡ p.before.value.tag) };
 }
 
 /// A thread that puts all that its sender's feed has.
-fn start<R: Threads + Wait + Copy + Send + 'static>(
-    rt: R,
-    alloc: Global,
-    sender: Sender,
+fn start<'s, E, R: Threads + Wait + Sync, A: Allocator + Copy + Send + Sync>(
+    rt: &'s R,
+    scope: &Scope<'s, E>,
+    alloc: A,
+    sender: Sender<A>,
     tag: Feed,
-) -> Result<PromisedHandle<Sender, GivesBack>, AllocError>
+) -> Result<PromisedHandle<Sender<A>, GivesBack<A>>, AllocError>
+where
+    A: 's,
     ensures { IfOk result (λ handle. handle.promise.before.value ≡ sender) }
 {
     let promise = GivesBack {
         before: Copied::of(&sender),
     };
-    let handle = thread::spawn_with(&rt, promise, move || put_all(&rt, alloc, sender, tag))?;
+    let handle = scope.spawn_with(promise, move || put_all(rt, alloc, sender, tag))?;
     Ok(handle)
 }
 
 /// Takes until each sender has ended.
-fn take_all<I: Ends, R: Wait>(
+fn take_all<I: Ends, R: Wait, A: Allocator + Copy>(
     rt: &R,
-    alloc: Global,
-    mut receiver: IntakeReceiver<I, Global>,
-) -> (IntakeReceiver<I, Global>, Vec<(Feed, I)>)
+    alloc: A,
+    mut receiver: IntakeReceiver<I, A>,
+) -> (IntakeReceiver<I, A>, Vec<(Feed, I), A>)
     ensures intake { result.0.intake ≡ receiver.intake }
     ensures ends { ends_taken I.is_end result.0.taken ≡ 3 }
 {
@@ -159,14 +167,14 @@ fn take_all<I: Ends, R: Wait>(
 }
 
 /// Takes all that three threads put, joins them, settles, and answers what was taken.
-fn finish<R: Threads + Wait>(
+fn finish<R: Threads + Wait, A: Allocator + Copy>(
     rt: &R,
-    alloc: Global,
-    receiver: Receiver,
-    a: PromisedHandle<Sender, GivesBack>,
-    b: PromisedHandle<Sender, GivesBack>,
-    s: PromisedHandle<Sender, GivesBack>,
-) -> Vec<(Feed, Item)>
+    alloc: A,
+    receiver: Receiver<A>,
+    a: PromisedHandle<Sender<A>, GivesBack<A>>,
+    b: PromisedHandle<Sender<A>, GivesBack<A>>,
+    s: PromisedHandle<Sender<A>, GivesBack<A>>,
+) -> Vec<(Feed, Item<A>), A>
     requires a { IsFreshSenderOf receiver Feed.A a.promise.before.value }
     requires b { IsFreshSenderOf receiver Feed.B b.promise.before.value }
     requires s { IsFreshSenderOf receiver Feed.S s.promise.before.value }
@@ -179,20 +187,52 @@ fn finish<R: Threads + Wait>(
     taken
 }
 
-/// What three threads put into an intake, as it was taken.
-fn exchange<R: Threads + Wait + Copy + Send + 'static>(
-    rt: R,
-    alloc: Global,
-    capacity: usize,
-) -> Result<Vec<(Feed, Item)>, Memory>
-    requires least { 1 ≤ capacity }
-    requires most { capacity ≤ 65536 }
+/// How many places an intake has: as few as it may have, or as many.
+#[derive(Clone, Copy)]
+enum Room {
+    One,
+    Most,
+}
+
+fn places(room: Room) -> usize
+    ensures least { 1 ≤ result }
+    ensures most { result ≤ 65536 }
 {
-    let (a, b, s, receiver) = Intake::new(alloc, capacity)?;
-    let a = start(rt, alloc, a, Feed::A)?;
-    let b = start(rt, alloc, b, Feed::B)?;
-    let s = start(rt, alloc, s, Feed::S)?;
-    Ok(finish(&rt, alloc, receiver, a, b, s))
+    match room {
+        Room::One => 1,
+        Room::Most => 65536,
+    }
+}
+
+/// What three threads of a scope put into an intake, as it was taken. Where one cannot be started, those before it
+/// wait for room that nobody makes, and the test does not end.
+fn exchange_in<'s, E, R: Threads + Wait + Sync, A: Allocator + Copy + Send + Sync>(
+    rt: &'s R,
+    scope: &Scope<'s, E>,
+    alloc: A,
+    room: Room,
+) -> Result<Vec<(Feed, Item<A>), A>, Memory>
+where
+    A: 's,
+{
+    let (a, b, s, receiver) = Intake::new(alloc, places(room))?;
+    let a = start(rt, scope, alloc, a, Feed::A)?;
+    let b = start(rt, scope, alloc, b, Feed::B)?;
+    let s = start(rt, scope, alloc, s, Feed::S)?;
+    Ok(finish(rt, alloc, receiver, a, b, s))
+}
+
+/// What three threads put into an intake, as it was taken.
+fn exchange<R: Threads + Wait + Sync, A: Allocator + Copy + Send + Sync>(
+    rt: &R,
+    alloc: A,
+    room: Room,
+) -> Result<Vec<(Feed, Item<A>), A>, Memory> {
+    thread::scope(
+        thread::scope_env(),
+        rt,
+        move |scope| exchange_in(rt, scope, alloc, room),
+    )
 }
 
 /// What a thread puts at this place, counted from 0.
@@ -207,7 +247,7 @@ fn put_at(tag: Feed, place: u32) -> Mark {
 }
 
 /// Sees that what was taken with this tag is what its thread put, so many items, in order.
-fn compare(rt: &impl Abort, taken: &[(Feed, Item)], tag: Feed, many: u32) {
+fn compare<A: Allocator>(rt: &impl Abort, taken: &[(Feed, Item<A>)], tag: Feed, many: u32) {
     let mut place = 0u32;
     for (sender, item) in taken {
         if *sender == tag {
@@ -218,26 +258,34 @@ fn compare(rt: &impl Abort, taken: &[(Feed, Item)], tag: Feed, many: u32) {
     assert_eq!(rt; place, many);
 }
 
-/// Sees that what was taken of three threads is what each of them put.
-fn compare_all(rt: &impl Abort, taken: &[(Feed, Item)]) {
+/// Three threads put into an intake, and what was taken of each is what it put.
+fn exchange_and_compare<R: Threads + Wait + Abort + Sync, A: Allocator + Copy + Send + Sync>(
+    rt: &R,
+    alloc: A,
+    room: Room,
+) -> Result<(), Memory> {
+    let taken = exchange(rt, alloc, room)?;
     assert_eq!(rt; taken.len(), 3004);
-    compare(rt, taken, Feed::A, 1001);
-    compare(rt, taken, Feed::B, 1001);
-    compare(rt, taken, Feed::S, 1002);
+    compare(rt, &taken, Feed::A, 1001);
+    compare(rt, &taken, Feed::B, 1001);
+    compare(rt, &taken, Feed::S, 1002);
+    Ok(())
 }
 
 #[test]
 fn three_threads_put_into_an_intake_of_one_place(rt: HostRuntime) -> Result<(), Memory> {
-    let taken = exchange(rt, rt.alloc(), 1)?;
-    compare_all(&rt, &taken);
-    Ok(())
+    exchange_and_compare(&rt, rt.alloc(), Room::One)
 }
 
 #[test]
 fn three_threads_put_into_an_intake_of_65536_places(rt: HostRuntime) -> Result<(), Memory> {
-    let taken = exchange(rt, rt.alloc(), 65536)?;
-    compare_all(&rt, &taken);
-    Ok(())
+    exchange_and_compare(&rt, rt.alloc(), Room::Most)
+}
+
+#[test]
+fn three_threads_share_an_allocator_that_is_lent(rt: HostRuntime) -> Result<(), Memory> {
+    let heap = Refusing::new(rt.alloc(), 0);
+    exchange_and_compare(&rt, &heap, Room::One)
 }
 
 /// Puts the packets of a feed into a lane.
@@ -334,14 +382,14 @@ fn a_lane_of_65536_places_gives_a_beginning(rt: HostRuntime) -> Result<(), Memor
     Ok(())
 }
 
-/// Makes an intake of four places with this allocator, lets packets through, and counts those that came as they should.
-fn carry<R: Wait, A: Allocator + Copy>(rt: &R, alloc: Global, heap: A) -> Result<u32, Memory> {
+/// Makes an intake of four places with this allocator, lets snapshots through, and counts those that came as they should.
+fn carry<R: Wait, A: Allocator + Copy>(rt: &R, heap: A) -> Result<u32, Memory> {
     let (mut a, _b, _s, mut receiver) = Intake::new(heap, 4)?;
     let mut count = 0u32;
     for number in 0..100u32 {
-        put_one(rt, &mut a, Item::Packet(packet(alloc, number)));
+        put_one(rt, &mut a, Item::Snapshot(snapshot(number)));
         let (tag, item) = receiver.take(rt);
-        if tag == Feed::A && mark_of(&item) == Mark::Packet(number, 1) {
+        if tag == Feed::A && mark_of(&item) == Mark::Snapshot(number) {
             count = count.saturating_add(1);
         }
     }
@@ -370,7 +418,7 @@ fn an_intake_takes_its_memory_when_it_is_made(rt: HostRuntime) {
     let mut refused = 0u64;
     for number in 1..100u64 {
         let heap = Refusing::new(rt.alloc(), number);
-        if let Ok(count) = carry(&rt, rt.alloc(), &heap) {
+        if let Ok(count) = carry(&rt, &heap) {
             assert_eq!(rt; count, 100);
             assert!(rt; !heap.has_refused());
             break;

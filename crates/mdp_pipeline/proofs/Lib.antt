@@ -1,6 +1,8 @@
 pub mod Heads
-pub mod Taking
+pub mod Going
 pub mod Written
 pub mod Beginnings
 pub mod Merges
 pub mod HandingOver
+pub mod Ending
+pub mod Collecting

@@ -10,6 +10,7 @@ mod reader;
 mod refusals;
 mod run;
 mod summary;
+mod taking;
 
 pub use decoding::{Decoded, read_record};
 pub use gate::{Gate, Open};

@@ -42,8 +42,8 @@ impl<A: Allocator + Copy> Run<A> {
         })
     }
 
-    // Takes an event, and the lines that it owes.
-    fn on(&mut self, event: Event<A>) -> Result<(), Memory>
+    /// Takes an event, and the lines that it owes.
+    pub fn on(&mut self, event: Event<A>) -> Result<(), Memory>
         ensures goes { OnOk result (GoesOn (event_of event ∷ []) self.old.engine self.old.text.items self.new.engine self.new.text.items) }
         ensures refusals { OnOk result (self.new.refusals ≡ self.old.refusals) }
     {

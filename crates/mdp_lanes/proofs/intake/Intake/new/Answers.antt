@@ -13,9 +13,11 @@ another-a_pass-requires-clause-rule g c = gives g.I.Ends.is_end _ _ A [] _ c.in_
 
 pub another-b_pass-requires-clause-rule : goal.another-b_pass-requires-clause-rule
 another-b_pass-requires-clause-rule g c =
-    gives g.I.Ends.is_end _ _ B [] _ (c.another-a_pass.ensures.rule.0 ∙ ap (λ v. receiver v.taken (drop 1 v.rights)) c.in_ok-channel.ensures.3) (refl, tt)
+    let two_left = c.another-a_pass.ensures.rule.0 ∙ ap (λ v. receiver v.taken (drop 1 v.rights)) c.in_ok-channel.ensures.3 in
+    gives g.I.Ends.is_end _ _ B [] _ two_left (refl, tt)
 
 pub another-s_pass-requires-clause-rule : goal.another-s_pass-requires-clause-rule
 another-s_pass-requires-clause-rule g c =
-    gives g.I.Ends.is_end _ _ S [] _
-    (c.another-b_pass.ensures.rule.0 ∙ ap (λ v. receiver v.taken (drop 1 v.rights)) (c.another-a_pass.ensures.rule.0 ∙ ap (λ v. receiver v.taken (drop 1 v.rights)) c.in_ok-channel.ensures.3)) tt
+    let two_left = c.another-a_pass.ensures.rule.0 ∙ ap (λ v. receiver v.taken (drop 1 v.rights)) c.in_ok-channel.ensures.3 in
+    let one_left = c.another-b_pass.ensures.rule.0 ∙ ap (λ v. receiver v.taken (drop 1 v.rights)) two_left in
+    gives g.I.Ends.is_end _ _ S [] _ one_left tt

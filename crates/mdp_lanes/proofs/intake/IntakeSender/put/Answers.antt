@@ -11,5 +11,5 @@ send-requires-clause-rule g c =
 pub invariant_of-self : goal.invariant_of-self
 invariant_of-self g c =
     let none = ap (λ v. list_any g.I.Ends.is_end v.sent) c.self.view_is ∙ c.requires in
-    let after = after_put g.I.Ends.is_end (view c.self.inside.pass) _ _ _ c.send.ensures.rule none in
+    let after = after_put g.I.Ends.is_end (view c.self.inside.pass) (view c.send.new.pass) _ _ c.send.ensures.rule none in
     (c.send.ensures.seat, after.0, c.is_end-ended.ensures ∙ sym after.1, after.2)

@@ -1,5 +1,5 @@
 use Rattle.mdp_engine.specs.Steps.{event_of}
-use Rattle.mdp_pipeline.proofs.Taking.{goes_one}
+use Rattle.mdp_pipeline.proofs.Going.{goes_one}
 use Rattle.mdp_pipeline.proofs.run.Run.on.Goals as goal
 
 pub returns-clause-goes : goal.returns-clause-goes
