@@ -1,16 +1,20 @@
 # make run    proves and builds the program, and runs it on an example
 # make test   the merge gate and the rows; the last line is 'N passed, M failed'
+# make wrong-bodies   tries the wrong bodies that the gate has no time for; CRATE=NAME those of one crate
 
 SHELL := /bin/bash
 program := crates/mdp_handler/out/mdp_handler
 
-.PHONY: run test build
+.PHONY: run test wrong-bodies build
 
 run: build
 	@$(program) --in-order < examples/plain.capture
 
 test:
 	@tests/run_all.sh
+
+wrong-bodies:
+	@tests/run_wrong_bodies.sh $(CRATE)
 
 # What the prover says is shown only where it refuses something.
 build:

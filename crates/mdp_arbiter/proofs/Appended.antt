@@ -7,7 +7,7 @@ use Rattle.std.proofs.lemmas.Grind.{common_steps}
 use Rattle.mdp_templates.specs.Packet.{PacketContent}
 use Rattle.mdp_templates.specs.Snapshot.{SnapshotContent}
 use Rattle.mdp_arbiter.specs.Accepted.{Event, came, recovered, closed, is_closed, accepted_packets, accepted_snapshots, highest_of, first_of, newer_of, newest_snapshots}
-use Rattle.mdp_arbiter.specs.Standing.{renewed}
+use Rattle.mdp_arbiter.specs.Snapshots.{newest_after}
 
 -- ---- after a close nothing counts
 
@@ -119,11 +119,11 @@ first-within n (q ∷ ps) h = elim (eqb_tells n q.number) [ inl e ↦ omega (ari
 pub newest-same : (ids : List ℤ) (es fs : List Event) → accepted_snapshots fs ≡ accepted_snapshots es → newest_snapshots ids fs ≡ newest_snapshots ids es
 newest-same ids es fs e = ap (λ (ss : List SnapshotContent). map (λ (id : ℤ). fold (newer_of id) None ss) ids) e
 
-all-renewed : (ids : List ℤ) (ss : List SnapshotContent) (s : SnapshotContent)
-    → map (λ (id : ℤ). fold (newer_of id) None (ss ++ s ∷ [])) ids ≡ renewed ids s (map (λ (id : ℤ). fold (newer_of id) None ss) ids)
-all-renewed [] ss s = refl
-all-renewed (id ∷ ids) ss s = rw (fold-append (newer_of id) None ss (s ∷ []), all-renewed ids ss s) refl
+all-newest_after : (ids : List ℤ) (ss : List SnapshotContent) (s : SnapshotContent)
+    → map (λ (id : ℤ). fold (newer_of id) None (ss ++ s ∷ [])) ids ≡ newest_after ids s (map (λ (id : ℤ). fold (newer_of id) None ss) ids)
+all-newest_after [] ss s = refl
+all-newest_after (id ∷ ids) ss s = rw (fold-append (newer_of id) None ss (s ∷ []), all-newest_after ids ss s) refl
 
-pub newest-renewed : (ids : List ℤ) (es : List Event) (s : SnapshotContent) → is_closed es ≡ false
-    → newest_snapshots ids (es ++ recovered s ∷ []) ≡ renewed ids s (newest_snapshots ids es)
-newest-renewed ids es s h = rw (snapshots-recovered es s h) (all-renewed ids (accepted_snapshots es) s)
+pub newest_snapshots-newest_after : (ids : List ℤ) (es : List Event) (s : SnapshotContent) → is_closed es ≡ false
+    → newest_snapshots ids (es ++ recovered s ∷ []) ≡ newest_after ids s (newest_snapshots ids es)
+newest_snapshots-newest_after ids es s h = rw (snapshots-recovered es s h) (all-newest_after ids (accepted_snapshots es) s)

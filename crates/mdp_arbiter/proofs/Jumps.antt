@@ -8,7 +8,8 @@ use Rattle.mdp_arbiter.specs.Accepted.{is_closed, highest, accepted_packets, fir
 use Rattle.mdp_templates.specs.Snapshot.{SnapshotContent}
 use Rattle.mdp_window.specs.Window.{HoldsFrom}
 use Rattle.mdp_arbiter.specs.Machine.{State, passed, jumped, is_lost, are_fresh, snapshots_of, lesser, least_last, jump, LawOfJumps}
-use Rattle.mdp_arbiter.specs.Standing.{View, seen_move, IsSameChannel, Moves}
+use Rattle.mdp_arbiter.specs.Arbiter.{View}
+use Rattle.mdp_arbiter.specs.Moves.{seen_move, Moves}
 use Rattle.mdp_arbiter.proofs.Runs.{both, fresh_least, move_is, jump_is}
 
 -- where each is fresh, each is there
@@ -17,7 +18,7 @@ all_there room top [] fresh = refl
 all_there room top (None ∷ newest) fresh = cc
 all_there room top (Some s ∷ newest) fresh = ap (λ t. Some s ∷ t) (all_there room top newest (both (leb top (s.last + room)) (are_fresh room top newest) fresh).1)
 
-seen_jump : (v : View) (least : ℕ) → v.is_closed ≡ false → v.next + v.room ≤ v.top → are_fresh v.room v.top v.newest ≡ true → least_last (snapshots_of v.newest) ≡ Some least
+seen_jump : (v : View) (least : ℕ) → v.is_closed ≡ false → v.next + v.channel.room ≤ v.top → are_fresh v.channel.room v.top v.newest ≡ true → least_last (snapshots_of v.newest) ≡ Some least
     → seen_move v ≡ Some (jumped v.next (least + 1) (snapshots_of v.newest))
 seen_jump v least opened lost fresh is = rw (opened, le-leb _ _ lost, fresh, is) refl
 
@@ -25,15 +26,15 @@ same_state : (a b : ℕ) (x y : List (Option SnapshotContent)) → a ≡ b → x
 same_state a b x y p q = rw (p, q) refl
 
 -- what a jump leaves
-pub jumps : (v new : View) (least : ℕ) → v.is_closed ≡ false → v.next + v.room ≤ v.top → are_fresh v.room v.top v.newest ≡ true → least_last (snapshots_of v.newest) ≡ Some least
-    → v.top ≤ 4294967295 → least ≤ 4294967295 → new.next ≡ least + 1 → new.top ≡ max v.top least → new.bases ≡ v.newest → IsSameChannel v new
+pub jumps : (v new : View) (least : ℕ) → v.is_closed ≡ false → v.next + v.channel.room ≤ v.top → are_fresh v.channel.room v.top v.newest ≡ true → least_last (snapshots_of v.newest) ≡ Some least
+    → v.top ≤ 4294967295 → least ≤ 4294967295 → new.next ≡ least + 1 → new.top ≡ max v.top least → new.bases ≡ v.newest → new.channel ≡ v.channel
     → new.is_closed ≡ v.is_closed → new.newest ≡ v.newest → HoldsFrom (least + 1) v.held new.held → Moves (seen_move v) v new
 jumps v new least opened lost fresh is most small next top bases channel shut newest held =
-    let past : v.top ≤ least + v.room = fresh_least v.room v.top least v.newest fresh is in
+    let past : v.top ≤ least + v.channel.room = fresh_least v.channel.room v.top least v.newest fresh is in
     rw (seen_jump v least opened lost fresh is) (record {
       on = omega (arith, next, past, lost);
       most = omega (arith, top, most, small);
-      state = same_state _ _ _ _ next (rw bases (all_there v.room v.top v.newest fresh));
+      state = same_state _ _ _ _ next (rw bases (all_there v.channel.room v.top v.newest fresh));
       top = omega (arith, top, next);
       channel = channel;
       is_closed = shut;
@@ -89,20 +90,20 @@ same_jump : (a b c d : ℕ) (xs ys : List SnapshotContent) → jumped a c xs ≡
 same_jump a b c d xs ys e = (cc, cc, cc)
 
 pub law_of_jumps : LawOfJumps
-law_of_jumps room ids es s old new snapshots is =
-    elim (move_is (is_closed es) (is_lost room es s) (are_fresh room (highest es) (newest_snapshots ids es)) (first_of s.next (accepted_packets es)) (jump s.next (snapshots_of (newest_snapshots ids es))) (jumped old new snapshots) is) [
+law_of_jumps channel es s old new snapshots is =
+    elim (move_is (is_closed es) (is_lost channel es s) (are_fresh channel.room (highest es) (newest_snapshots channel.ids es)) (first_of s.next (accepted_packets es)) (jump s.next (snapshots_of (newest_snapshots channel.ids es))) (jumped old new snapshots) is) [
       | inl t ↦
-          let newest = newest_snapshots ids es in
+          let newest = newest_snapshots channel.ids es in
           let by = jump_is s.next (snapshots_of newest) (least_last (snapshots_of newest)) (jumped old new snapshots) t.2 in
           let same = same_jump old s.next new (by.0 + 1) snapshots (snapshots_of newest) by.2 in
-          let lost : s.next + room ≤ highest es = leb-true _ _ t.0 in
-          let past : highest es ≤ by.0 + room = fresh_least room (highest es) by.0 newest t.1 by.1 in
+          let lost : s.next + channel.room ≤ highest es = leb-true _ _ t.0 in
+          let past : highest es ≤ by.0 + channel.room = fresh_least channel.room (highest es) by.0 newest t.1 by.1 in
           let at = least_is (snapshots_of newest) by.0 by.1 in
           rw same.2 (record {
             from = same.0;
             on = omega (arith, same.0, same.1, lost, past);
-            newest = all_there room (highest es) newest t.1;
-            fresh = all_fresh room (highest es) newest t.1;
+            newest = all_there channel.room (highest es) newest t.1;
+            fresh = all_fresh channel.room (highest es) newest t.1;
             covered = λ k d within. omega (arith, same.1, least_covers (snapshots_of newest) by.0 by.1 k d within);
             least = (at.0, at.1, at.2, at.3, omega (arith, same.1, at.4));
           })

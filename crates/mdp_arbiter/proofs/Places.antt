@@ -11,7 +11,7 @@ use Rattle.std.proofs.lemmas.List.Folds.{Any-from_list_any}
 use Rattle.std.proofs.lemmas.List.Sums.{fails_before_first}
 use Rattle.std.proofs.lemmas.Option.{slice_get-get_or, get_or_from_slice_get, slice_get_within}
 use Rattle.mdp_templates.specs.declared.instrument.Instrument.{Instrument}
-use Rattle.mdp_arbiter.specs.Slots.{ids_of}
+use Rattle.mdp_arbiter.specs.Channel.{ids_of}
 
 abbrev Differ : List ℤ → Type 0
 Differ ids = AllPairs (λ earlier later. earlier ≢ later) ids

@@ -7,9 +7,9 @@ use Rattle.std.proofs.lemmas.Bool.Decides.{Decides-int_eq}
 use Rattle.mdp_templates.specs.Snapshot.{SnapshotContent}
 use Rattle.mdp_arbiter.specs.Accepted.{is_newer, newer_of}
 use Rattle.mdp_templates.specs.declared.instrument.Instrument.{Instrument}
-use Rattle.mdp_arbiter.specs.Slots.{ids_of}
+use Rattle.mdp_arbiter.specs.Channel.{ids_of}
 use Rattle.std.proofs.lemmas.List.{length-map}
-use Rattle.mdp_arbiter.specs.Standing.{renewed}
+use Rattle.mdp_arbiter.specs.Snapshots.{newest_after}
 use Rattle.mdp_arbiter.proofs.Standings.{no_news, same_newest}
 
 -- the place after a front that was written over is written over
@@ -28,19 +28,19 @@ newer_at : (id : ℤ) (n : Option SnapshotContent) (s : SnapshotContent) → id 
 newer_at id n s same newer = rw ((Decides-int_eq id s.security).1 same, newer) refl
 
 -- a snapshot takes its security's place, which is the only one
-pub renewed-set : (ids : List ℤ) (s : SnapshotContent) (ns : List (Option SnapshotContent)) (slot : ℕ) (held : Option SnapshotContent)
+pub newest_after-set : (ids : List ℤ) (s : SnapshotContent) (ns : List (Option SnapshotContent)) (slot : ℕ) (held : Option SnapshotContent)
     → slice_get ids slot ≡ Some s.security → ((other : ℕ) → slice_get ids other ≡ Some s.security → other ≡ slot)
-    → slice_get ns slot ≡ Some held → is_newer held s ≡ true → renewed ids s ns ≡ set ns slot (Some s)
-renewed-set [] s ns slot held at only there newer = cc
-renewed-set (id ∷ ids) s [] slot held at only there newer = cc
-renewed-set (id ∷ ids) s (n ∷ ns) zero held at only there newer =
+    → slice_get ns slot ≡ Some held → is_newer held s ≡ true → newest_after ids s ns ≡ set ns slot (Some s)
+newest_after-set [] s ns slot held at only there newer = cc
+newest_after-set (id ∷ ids) s [] slot held at only there newer = cc
+newest_after-set (id ∷ ids) s (n ∷ ns) zero held at only there newer =
     let same : id ≡ s.security = cc in
     let so : n ≡ held = cc in
-    let rest : renewed ids s ns ≡ ns = no_news ids s ns (λ slot held here there. absurd (let e : suc slot ≡ zero = only (suc slot) here in omega arith)) in
+    let rest : newest_after ids s ns ≡ ns = no_news ids s ns (λ slot held here there. absurd (let e : suc slot ≡ zero = only (suc slot) here in omega arith)) in
     rw (newer_at id n s same (rw so newer), rest) refl
-renewed-set (id ∷ ids) s (n ∷ ns) (suc slot) held at only there newer =
+newest_after-set (id ∷ ids) s (n ∷ ns) (suc slot) held at only there newer =
     let other : id ≡ s.security → is_newer n s ≡ false = λ same. absurd (let e : zero ≡ suc slot = only zero (ap (λ (x : ℤ). Some x) same) in omega arith) in
-    let rest : renewed ids s ns ≡ set ns slot (Some s) = renewed-set ids s ns slot held at (λ k here. let e : suc k ≡ suc slot = only (suc k) here in omega (arith, e)) there newer in
+    let rest : newest_after ids s ns ≡ set ns slot (Some s) = newest_after-set ids s ns slot held at (λ k here. let e : suc k ≡ suc slot = only (suc k) here in omega (arith, e)) there newer in
     rw (same_newest id n s (int_eq id s.security) refl other, rest) refl
 
 -- none for each instrument is none for each listed id

@@ -1,5 +1,5 @@
 -- Whole runs of the machine.
-use Rattle.std.proofs.Common.{◌≡◌, ℕ, ℤ, suc, zero, ◌+◌, ◌≤◌, ◌<◌, ◌⊎◌, Bool, true, false, cond, List, [], ◌∷◌, ◌++◌, refl, arith, append_assoc, inl, inr, sym}
+use Rattle.std.proofs.Common.{◌≡◌, ℕ, suc, zero, ◌+◌, ◌≤◌, ◌<◌, ◌⊎◌, Bool, true, false, cond, List, [], ◌∷◌, ◌++◌, refl, arith, append_assoc, inl, inr, sym}
 use Rattle.std.specs.Prelude.{min, fold, Option, None, Some, leb, ◌&&◌, is_some}
 use Rattle.std.specs.Option.{option_map}
 use Rattle.std.proofs.lemmas.Bool.{leb-true}
@@ -8,6 +8,7 @@ use Rattle.std.proofs.lemmas.List.{append-nil}
 use Rattle.std.proofs.lemmas.List.Sums.{fold-append}
 use Rattle.mdp_templates.specs.Packet.{PacketContent}
 use Rattle.mdp_templates.specs.Snapshot.{SnapshotContent}
+use Rattle.mdp_arbiter.specs.Channel.{Channel}
 use Rattle.mdp_arbiter.specs.Accepted.{Event, is_closed, accepted_packets, highest, first_of, newest_snapshots}
 use Rattle.mdp_arbiter.specs.Machine.{Move, passed, jumped, State, start, is_lost, are_fresh, snapshots_of, lesser, least_last, jump, next_move, after, after_all, moves, settle, go_on, trace, state_at, Settles, LawOfFronts, LawOfMoves, LawOfEvents, LawOfPasses}
 use Rattle.mdp_arbiter.proofs.Appended.{first-within}
@@ -37,18 +38,18 @@ fresh_least room top least (Some s ∷ newest) fresh is =
 
 -- ---- fronts
 
-go_on-front : (room : ℕ) (ids : List ℤ) (xs past : List Event) (s : State) (ys : List Event)
-    → go_on room ids past s (xs ++ ys) ≡ go_on room ids past s xs ++ go_on room ids (past ++ xs) (after_all s (go_on room ids past s xs)) ys
-go_on-front room ids [] past s ys = rw (append-nil past) refl
-go_on-front room ids (x ∷ xs) past s ys =
+go_on-front : (channel : Channel) (xs past : List Event) (s : State) (ys : List Event)
+    → go_on channel past s (xs ++ ys) ≡ go_on channel past s xs ++ go_on channel (past ++ xs) (after_all s (go_on channel past s xs)) ys
+go_on-front channel [] past s ys = rw (append-nil past) refl
+go_on-front channel (x ∷ xs) past s ys =
     rw (
-      go_on-front room ids xs (past ++ x ∷ []) (after_all s (settle room ids (past ++ x ∷ []) s)) ys,
-      fold-append after s (settle room ids (past ++ x ∷ []) s) (go_on room ids (past ++ x ∷ []) (after_all s (settle room ids (past ++ x ∷ []) s)) xs),
+      go_on-front channel xs (past ++ x ∷ []) (after_all s (settle channel (past ++ x ∷ []) s)) ys,
+      fold-append after s (settle channel (past ++ x ∷ []) s) (go_on channel (past ++ x ∷ []) (after_all s (settle channel (past ++ x ∷ []) s)) xs),
     )
     (simp append_assoc)
 
 pub law_of_fronts : LawOfFronts
-law_of_fronts room ids xs ys = go_on-front room ids xs [] (start ids) ys
+law_of_fronts channel xs ys = go_on-front channel xs [] (start channel) ys
 
 -- ---- moves
 
@@ -68,10 +69,10 @@ jump_is next snapshots None m e = cc
 jump_is next snapshots (Some n) m e = (n, refl, cc)
 
 -- a packet that passes is the first of the next number
-pub passes_first : (room : ℕ) (ids : List ℤ) (es : List Event) (s : State) (p : PacketContent) → next_move room ids es s ≡ Some (passed p) → first_of s.next (accepted_packets es) ≡ Some p
-passes_first room ids es s p e = elim (move_is (is_closed es) (is_lost room es s) (are_fresh room (highest es) (newest_snapshots ids es)) (first_of s.next (accepted_packets es)) (jump s.next (snapshots_of (newest_snapshots ids es))) (passed p) e) [
-  | inl t ↦ let by = jump_is s.next (snapshots_of (newest_snapshots ids es)) (least_last (snapshots_of (newest_snapshots ids es))) (passed p) t.2 in
-      let apart : passed p ≡ jumped s.next (by.0 + 1) (snapshots_of (newest_snapshots ids es)) = by.2 in
+pub passes_first : (channel : Channel) (es : List Event) (s : State) (p : PacketContent) → next_move channel es s ≡ Some (passed p) → first_of s.next (accepted_packets es) ≡ Some p
+passes_first channel es s p e = elim (move_is (is_closed es) (is_lost channel es s) (are_fresh channel.room (highest es) (newest_snapshots channel.ids es)) (first_of s.next (accepted_packets es)) (jump s.next (snapshots_of (newest_snapshots channel.ids es))) (passed p) e) [
+  | inl t ↦ let by = jump_is s.next (snapshots_of (newest_snapshots channel.ids es)) (least_last (snapshots_of (newest_snapshots channel.ids es))) (passed p) t.2 in
+      let apart : passed p ≡ jumped s.next (by.0 + 1) (snapshots_of (newest_snapshots channel.ids es)) = by.2 in
       absurd cc
   | inr t ↦ let same : p ≡ t.0 = let e : passed p ≡ passed t.0 = t.2 in cc in rw same t.1
 ]
@@ -84,59 +85,59 @@ number_of_first n (q ∷ ps) p is = elim (eqb_tells n q.number) [
 ]
 
 pub law_of_passes : LawOfPasses
-law_of_passes room ids es s packet is =
-    let first = passes_first room ids es s packet is in
+law_of_passes channel es s packet is =
+    let first = passes_first channel es s packet is in
     (number_of_first s.next (accepted_packets es) packet first, first)
 
 -- a move is possible only up to the highest number, and raises the next
-raises : (room : ℕ) (ids : List ℤ) (es : List Event) (s : State) (m : Move) → next_move room ids es s ≡ Some m → (s.next ≤ highest es) × (s.next < (after s m).next)
-raises room ids es s m e = elim (move_is (is_closed es) (is_lost room es s) (are_fresh room (highest es) (newest_snapshots ids es)) (first_of s.next (accepted_packets es)) (jump s.next (snapshots_of (newest_snapshots ids es))) m e) [
+raises : (channel : Channel) (es : List Event) (s : State) (m : Move) → next_move channel es s ≡ Some m → (s.next ≤ highest es) × (s.next < (after s m).next)
+raises channel es s m e = elim (move_is (is_closed es) (is_lost channel es s) (are_fresh channel.room (highest es) (newest_snapshots channel.ids es)) (first_of s.next (accepted_packets es)) (jump s.next (snapshots_of (newest_snapshots channel.ids es))) m e) [
   | inl t ↦
-      let by = jump_is s.next (snapshots_of (newest_snapshots ids es)) (least_last (snapshots_of (newest_snapshots ids es))) m t.2 in
-      let lost : s.next + room ≤ highest es = leb-true _ _ t.0 in
-      let least : highest es ≤ by.0 + room = fresh_least room (highest es) by.0 (newest_snapshots ids es) t.1 by.1 in
+      let by = jump_is s.next (snapshots_of (newest_snapshots channel.ids es)) (least_last (snapshots_of (newest_snapshots channel.ids es))) m t.2 in
+      let lost : s.next + channel.room ≤ highest es = leb-true _ _ t.0 in
+      let least : highest es ≤ by.0 + channel.room = fresh_least channel.room (highest es) by.0 (newest_snapshots channel.ids es) t.1 by.1 in
       rw by.2 (omega (arith, lost), omega (arith, lost, least))
   | inr t ↦
       let some : is_some (first_of s.next (accepted_packets es)) ≡ true = rw t.1 refl in
       rw t.2 (first-within s.next (accepted_packets es) some, omega arith)
 ]
 
-no_move : (room : ℕ) (ids : List ℤ) (es : List Event) (s : State) (x : Option Move) → highest es < s.next → next_move room ids es s ≡ x → next_move room ids es s ≡ None
-no_move room ids es s None past e = e
-no_move room ids es s (Some m) past e = absurd (omega (arith, past, (raises room ids es s m e).0))
+no_move : (channel : Channel) (es : List Event) (s : State) (x : Option Move) → highest es < s.next → next_move channel es s ≡ x → next_move channel es s ≡ None
+no_move channel es s None past e = e
+no_move channel es s (Some m) past e = absurd (omega (arith, past, (raises channel es s m e).0))
 
-first_move : (most room : ℕ) (ids : List ℤ) (es : List Event) (s : State) (x : Option Move) → highest es + 1 ≤ suc most + s.next
-    → ((t : State) → highest es + 1 ≤ most + t.next → Settles room ids es t (moves most room ids es t)) → next_move room ids es s ≡ x
-    → Settles room ids es s (elim x [ None ↦ [] | Some m ↦ m ∷ moves most room ids es (after s m) ])
-first_move most room ids es s None enough later e = e
-first_move most room ids es s (Some m) enough later e = (e, later (after s m) (omega (arith, enough, (raises room ids es s m e).1)))
+first_move : (most : ℕ) (channel : Channel) (es : List Event) (s : State) (x : Option Move) → highest es + 1 ≤ suc most + s.next
+    → ((t : State) → highest es + 1 ≤ most + t.next → Settles channel es t (moves most channel es t)) → next_move channel es s ≡ x
+    → Settles channel es s (elim x [ None ↦ [] | Some m ↦ m ∷ moves most channel es (after s m) ])
+first_move most channel es s None enough later e = e
+first_move most channel es s (Some m) enough later e = (e, later (after s m) (omega (arith, enough, (raises channel es s m e).1)))
 
-settled : (most room : ℕ) (ids : List ℤ) (es : List Event) (s : State) → highest es + 1 ≤ most + s.next → Settles room ids es s (moves most room ids es s)
-settled zero room ids es s enough = no_move room ids es s (next_move room ids es s) (omega (arith, enough)) refl
-settled (suc most) room ids es s enough = first_move most room ids es s (next_move room ids es s) enough (λ t. settled most room ids es t) refl
+settled : (most : ℕ) (channel : Channel) (es : List Event) (s : State) → highest es + 1 ≤ most + s.next → Settles channel es s (moves most channel es s)
+settled zero channel es s enough = no_move channel es s (next_move channel es s) (omega (arith, enough)) refl
+settled (suc most) channel es s enough = first_move most channel es s (next_move channel es s) enough (λ t. settled most channel es t) refl
 
-only : (room : ℕ) (ids : List ℤ) (es : List Event) (xs ys : List Move) (s : State) → Settles room ids es s xs → Settles room ids es s ys → xs ≡ ys
-only room ids es [] [] s a b = refl
-only room ids es [] (y ∷ ys) s a b = cc
-only room ids es (x ∷ xs) [] s a b = cc
-only room ids es (x ∷ xs) (y ∷ ys) s a b =
+only : (channel : Channel) (es : List Event) (xs ys : List Move) (s : State) → Settles channel es s xs → Settles channel es s ys → xs ≡ ys
+only channel es [] [] s a b = refl
+only channel es [] (y ∷ ys) s a b = cc
+only channel es (x ∷ xs) [] s a b = cc
+only channel es (x ∷ xs) (y ∷ ys) s a b =
     let e : x ≡ y = cc in
-    let rest : Settles room ids es (after s x) ys = rw e b.1 in
-    rw (e, only room ids es xs ys (after s x) a.1 rest) refl
+    let rest : Settles channel es (after s x) ys = rw e b.1 in
+    rw (e, only channel es xs ys (after s x) a.1 rest) refl
 
-pub settle_settles : (room : ℕ) (ids : List ℤ) (es : List Event) (s : State) → Settles room ids es s (settle room ids es s)
-settle_settles room ids es s = settled (highest es + 1) room ids es s (omega arith)
+pub settle_settles : (channel : Channel) (es : List Event) (s : State) → Settles channel es s (settle channel es s)
+settle_settles channel es s = settled (highest es + 1) channel es s (omega arith)
 
 pub law_of_moves : LawOfMoves
-law_of_moves room ids es s = (settle_settles room ids es s, λ ms is. only room ids es ms (settle room ids es s) s is (settle_settles room ids es s))
+law_of_moves channel es s = (settle_settles channel es s, λ ms is. only channel es ms (settle channel es s) s is (settle_settles channel es s))
 
 -- ---- one more event
 
-trace-more : (room : ℕ) (ids : List ℤ) (es : List Event) (e : Event) → trace room ids (es ++ e ∷ []) ≡ trace room ids es ++ settle room ids (es ++ e ∷ []) (state_at room ids es)
-trace-more room ids es e = rw (law_of_fronts room ids es (e ∷ []), append-nil (settle room ids (es ++ e ∷ []) (state_at room ids es))) refl
+trace-more : (channel : Channel) (es : List Event) (e : Event) → trace channel (es ++ e ∷ []) ≡ trace channel es ++ settle channel (es ++ e ∷ []) (state_at channel es)
+trace-more channel es e = rw (law_of_fronts channel es (e ∷ []), append-nil (settle channel (es ++ e ∷ []) (state_at channel es))) refl
 
 pub law_of_events : LawOfEvents
-law_of_events room ids es e ms is =
-    let all : ms ≡ settle room ids (es ++ e ∷ []) (state_at room ids es) = (law_of_moves room ids (es ++ e ∷ []) (state_at room ids es)).1 ms is in
-    let grown : trace room ids (es ++ e ∷ []) ≡ trace room ids es ++ ms = rw all (trace-more room ids es e) in
-    (grown, rw (grown, fold-append after (start ids) (trace room ids es) ms) refl)
+law_of_events channel es e ms is =
+    let all : ms ≡ settle channel (es ++ e ∷ []) (state_at channel es) = (law_of_moves channel (es ++ e ∷ []) (state_at channel es)).1 ms is in
+    let grown : trace channel (es ++ e ∷ []) ≡ trace channel es ++ ms = rw all (trace-more channel es e) in
+    (grown, rw (grown, fold-append after (start channel) (trace channel es) ms) refl)

@@ -11,10 +11,15 @@ use Rattle.mdp_templates.specs.Snapshot.{SnapshotContent}
 use Rattle.mdp_window.specs.declared.window.Put.{Put}
 use Rattle.mdp_window.specs.declared.window.Put.TheVariants.{Kept, Back, Memory}
 use Rattle.mdp_arbiter.specs.declared.step.Step.{Step}
+use Rattle.mdp_arbiter.specs.Channel.{Channel}
 use Rattle.mdp_arbiter.specs.Accepted.{Event, came, recovered, closed, is_closed, accepted_packets, highest, first_of, is_newer, newer_of}
 use Rattle.mdp_arbiter.specs.Machine.{Move, State, next_move}
-use Rattle.mdp_arbiter.specs.Standing.{View, StandsAt, IsSameChannel, HoldsPacket, least_held, Receives, is_taken_in, IsNoNews, renewed, Renews, seen_move, state, MovedBy, Moves, Answers, StepsAs, after_move}
-use Rattle.mdp_arbiter.proofs.Appended.{packets-closed, snapshots-closed, closed-closed, newest-same, packets-came, closed-came, snapshots-came, highest-more, first-more, first-apart, first-stays, first-within, packets-after_close, snapshots-after_close, closed-after_close, packets-recovered, closed-recovered, newest-renewed}
+use Rattle.mdp_arbiter.specs.Arbiter.{View, state, least_held}
+use Rattle.mdp_arbiter.specs.Packets.{HoldsPacket, Receives, is_taken_in}
+use Rattle.mdp_arbiter.specs.Snapshots.{IsNoNews, newest_after, Renews}
+use Rattle.mdp_arbiter.specs.Moves.{seen_move, MovedBy, Moves, Answers, after_move}
+use Rattle.mdp_arbiter.specs.Standing.{StandsAt, StepsAs}
+use Rattle.mdp_arbiter.proofs.Appended.{packets-closed, snapshots-closed, closed-closed, newest-same, packets-came, closed-came, snapshots-came, highest-more, first-more, first-apart, first-stays, first-within, packets-after_close, snapshots-after_close, closed-after_close, packets-recovered, closed-recovered, newest_snapshots-newest_after}
 
 -- ---- a close
 
@@ -25,7 +30,7 @@ close_stands es old s = record {
   most = s.most;
   top = rw (packets-closed es) s.top;
   is_closed = rw (closed-closed es) refl;
-  newest = rw (newest-same old.ids es (es ++ closed ∷ []) (snapshots-closed es)) s.newest;
+  newest = rw (newest-same old.channel.ids es (es ++ closed ∷ []) (snapshots-closed es)) s.newest;
   held = λ k. rw (packets-closed es) (s.held k);
 }
 
@@ -39,20 +44,20 @@ after_close_stands es e v c s =
       most = s.most;
       top = rw (packets-after_close es e shut) s.top;
       is_closed = rw (closed-after_close es e shut) c;
-      newest = rw (newest-same v.ids es (es ++ e ∷ []) (snapshots-after_close es e shut)) s.newest;
+      newest = rw (newest-same v.channel.ids es (es ++ e ∷ []) (snapshots-after_close es e shut)) s.newest;
       held = λ k. rw (packets-after_close es e shut) (s.held k);
     }
 
 -- ---- moves
 
 -- the move that is seen is the machine's
-seen_is : (es : List Event) (v : View) → StandsAt es v → seen_move v ≡ next_move v.room v.ids es (state v)
-seen_is es v s = elim (leb_tells (v.next + v.room) v.top) [
+seen_is : (es : List Event) (v : View) → StandsAt es v → seen_move v ≡ next_move v.channel es (state v)
+seen_is es v s = elim (leb_tells (v.next + v.channel.room) v.top) [
   | inl p ↦ let t : v.top ≡ highest es = omega (arith, s.top, p.1, s.room) in
-      let l : leb (v.next + v.room) (highest es) ≡ true = le-leb _ _ (omega (arith, p.1, t)) in
+      let l : leb (v.next + v.channel.room) (highest es) ≡ true = le-leb _ _ (omega (arith, p.1, t)) in
       rw (s.is_closed, p.0, l, t, s.newest) refl
-  | inr p ↦ let l : leb (v.next + v.room) (highest es) ≡ false = lt-leb _ _ (omega (arith, p.1, s.top)) in
-      let b : ltb v.next (max v.next (highest es + 1 - v.room)) ≡ false = le-ltb _ _ (omega (arith, p.1, s.top)) in
+  | inr p ↦ let l : leb (v.next + v.channel.room) (highest es) ≡ false = lt-leb _ _ (omega (arith, p.1, s.top)) in
+      let b : ltb v.next (max v.next (highest es + 1 - v.channel.room)) ≡ false = le-ltb _ _ (omega (arith, p.1, s.top)) in
       rw (s.is_closed, p.0, l, s.held v.next, b) refl
 ]
 
@@ -62,13 +67,13 @@ from_both a b c k x e = grind (arith, common_steps)
 -- a move leaves an arbiter standing at the same events
 moved_stands : (es : List Event) (old new : View) (m : Move) → StandsAt es old → MovedBy m old new → StandsAt es new
 moved_stands es old new m s d = record {
-  room = rw d.channel.room s.room;
+  room = rw d.channel s.room;
   begun = omega (arith, s.begun, d.on);
   most = d.most;
   top = omega (arith, d.top, s.top, d.on);
   is_closed = rw d.is_closed s.is_closed;
-  newest = rw (d.newest, d.channel.ids) s.newest;
-  held = λ k. rw (d.held k, s.held k, d.channel.room) (from_both new.next (max old.next (highest es + 1 - old.room)) (max new.next (highest es + 1 - old.room)) k _ (omega (arith, d.on)));
+  newest = rw (d.newest, d.channel) s.newest;
+  held = λ k. rw (d.held k, s.held k, d.channel) (from_both new.next (max old.next (highest es + 1 - old.channel.room)) (max new.next (highest es + 1 - old.channel.room)) k _ (omega (arith, d.on)));
 }
 
 moves_stands : (es : List Event) (old new : View) (m : Option Move) → StandsAt es old → Moves m old new → StandsAt es new
@@ -79,8 +84,8 @@ state_after : (old new : View) (m : Option Move) → Moves m old new → state n
 state_after old new None d = rw d refl
 state_after old new (Some m) d = d.state
 
-pub channel_after : (old new : View) (m : Option Move) → Moves m old new → IsSameChannel old new
-channel_after old new None d = rw d (record { room = refl; ids = refl })
+pub channel_after : (old new : View) (m : Option Move) → Moves m old new → new.channel ≡ old.channel
+channel_after old new None d = rw d refl
 channel_after old new (Some m) d = d.channel
 
 -- a move raises the next number, which stays within its range
@@ -126,21 +131,22 @@ same_first k a b ps p e why = elim (leb_tells (suc k) a) [
 -- a packet that is held
 held_stands : (es : List Event) (p : PacketContent) (old new : View) → HoldsPacket p old new → StandsAt es old → StandsAt (es ++ came p ∷ []) new
 held_stands es p old new k s =
-    let opened : is_closed es ≡ false = rw (← s.is_closed) k.open_before in
+    let opened : is_closed es ≡ false = rw (← s.is_closed) k.before.is_closed in
     let next : new.next ≡ old.next = ap (λ (t : State). t.next) k.state in
-    let kept : max old.next (highest es + 1 - old.room) ≤ p.number = omega (arith, k.ahead, s.top, s.room) in
+    let room : new.channel.room ≡ old.channel.room = ap (λ (c : Channel). c.room) k.channel in
+    let kept : max old.next (highest es + 1 - old.channel.room) ≤ p.number = omega (arith, k.before.ahead, s.top, s.room) in
     let absent : first_of p.number (accepted_packets es) ≡ None =
-    rw (s.held p.number, le-ltb p.number (max old.next (highest es + 1 - old.room)) kept) at k.absent in
-    let least : least_held new ≡ max new.next (max (highest es) p.number + 1 - new.room) = omega (arith, next, k.top, k.channel.room, s.top, s.room) in
+    rw (s.held p.number, le-ltb p.number (max old.next (highest es + 1 - old.channel.room)) kept) at k.before.absent in
+    let least : least_held new ≡ max new.next (max (highest es) p.number + 1 - new.channel.room) = omega (arith, next, k.top, room, s.top, s.room) in
     record {
-      room = rw k.channel.room s.room;
+      room = rw k.channel s.room;
       begun = rw next s.begun;
       most = k.most;
       top = rw (packets-came es p opened, highest-more (accepted_packets es) p) (omega (arith, next, k.top, s.top));
       is_closed = rw (closed-came es p, k.is_closed) s.is_closed;
-      newest = rw (newest-same new.ids es (es ++ came p ∷ []) (snapshots-came es p), k.newest, k.channel.ids) s.newest;
+      newest = rw (newest-same new.channel.ids es (es ++ came p ∷ []) (snapshots-came es p), k.newest, k.channel) s.newest;
       held = λ q. rw (packets-came es p opened, highest-more (accepted_packets es) p, k.held q, s.held q, least)
-          (with_first q (max old.next (highest es + 1 - old.room)) (max new.next (max (highest es) p.number + 1 - new.room)) (accepted_packets es) p (omega (arith, next, k.channel.room)) absent);
+          (with_first q (max old.next (highest es + 1 - old.channel.room)) (max new.next (max (highest es) p.number + 1 - new.channel.room)) (accepted_packets es) p (omega (arith, next, room)) absent);
     }
 
 some_from : {A : Type 0} (b : Bool) (x : Option A) → is_some (cond b None x) ≡ true → is_some x ≡ true
@@ -152,24 +158,24 @@ back_stands : (es : List Event) (p : PacketContent) (v : View) → v.is_closed �
     → StandsAt es v → StandsAt (es ++ came p ∷ []) v
 back_stands es p v c why s =
     let opened : is_closed es ≡ false = rw (← s.is_closed) c in
-    let cause : (p.number < max v.next (highest es + 1 - v.room)) ⊎ (is_some (first_of p.number (accepted_packets es)) ≡ true) = elim why [
+    let cause : (p.number < max v.next (highest es + 1 - v.channel.room)) ⊎ (is_some (first_of p.number (accepted_packets es)) ≡ true) = elim why [
       | inl low ↦ inl (omega (arith, low, s.top, s.room))
-      | inr held ↦ inr (some_from (ltb p.number (max v.next (highest es + 1 - v.room))) _ (rw (s.held p.number) at held))
+      | inr held ↦ inr (some_from (ltb p.number (max v.next (highest es + 1 - v.channel.room))) _ (rw (s.held p.number) at held))
     ] in
     let within : p.number ≤ max (highest es) (v.next - 1) = elim cause [
       | inl low ↦ omega (arith, low, s.room, s.begun)
       | inr some ↦ omega (arith, first-within p.number (accepted_packets es) some)
     ] in
-    let least : max v.next (max (highest es) p.number + 1 - v.room) ≡ max v.next (highest es + 1 - v.room) = omega (arith, within, s.room, s.begun) in
+    let least : max v.next (max (highest es) p.number + 1 - v.channel.room) ≡ max v.next (highest es + 1 - v.channel.room) = omega (arith, within, s.room, s.begun) in
     record {
       room = s.room;
       begun = s.begun;
       most = s.most;
       top = rw (packets-came es p opened, highest-more (accepted_packets es) p) (omega (arith, within, s.top));
       is_closed = rw (closed-came es p) s.is_closed;
-      newest = rw (newest-same v.ids es (es ++ came p ∷ []) (snapshots-came es p)) s.newest;
+      newest = rw (newest-same v.channel.ids es (es ++ came p ∷ []) (snapshots-came es p)) s.newest;
       held = λ q. rw (packets-came es p opened, highest-more (accepted_packets es) p, s.held q)
-          (same_first q (max v.next (highest es + 1 - v.room)) (max v.next (max (highest es) p.number + 1 - v.room)) (accepted_packets es) p least cause);
+          (same_first q (max v.next (highest es + 1 - v.channel.room)) (max v.next (max (highest es) p.number + 1 - v.channel.room)) (accepted_packets es) p least cause);
     }
 
 by_closed : (es : List Event) (p : PacketContent) (v : View) (b : Bool) → v.is_closed ≡ b → (p.number < least_held v) ⊎ IsSome (get v.held p.number)
@@ -192,10 +198,10 @@ receives_keeps allocates p old new Kept k = k.state
 receives_keeps allocates p old new (Back back) k = rw k.1 refl
 receives_keeps allocates p old new (Memory back) k = rw k.2 refl
 
-pub receives_channel : (allocates : Bool) (p : PacketContent) (old new : View) (r : Put PacketContent) → Receives allocates p old new r → IsSameChannel old new
+pub receives_channel : (allocates : Bool) (p : PacketContent) (old new : View) (r : Put PacketContent) → Receives allocates p old new r → new.channel ≡ old.channel
 receives_channel allocates p old new Kept k = k.channel
-receives_channel allocates p old new (Back back) k = rw k.1 (record { room = refl; ids = refl })
-receives_channel allocates p old new (Memory back) k = rw k.2 (record { room = refl; ids = refl })
+receives_channel allocates p old new (Back back) k = rw k.1 refl
+receives_channel allocates p old new (Memory back) k = rw k.2 refl
 
 -- ---- snapshots
 
@@ -203,25 +209,25 @@ pub same_newest : (id : ℤ) (n : Option SnapshotContent) (s : SnapshotContent) 
 same_newest id n s true e none = rw (e, none ((Decides-int_eq id s.security).0 e)) refl
 same_newest id n s false e none = rw e refl
 
-pub no_news : (ids : List ℤ) (s : SnapshotContent) (ns : List (Option SnapshotContent)) → IsNoNews ids ns s → renewed ids s ns ≡ ns
+pub no_news : (ids : List ℤ) (s : SnapshotContent) (ns : List (Option SnapshotContent)) → IsNoNews ids ns s → newest_after ids s ns ≡ ns
 no_news [] s ns none = refl
 no_news (id ∷ ids) s [] none = refl
 no_news (id ∷ ids) s (n ∷ ns) none =
     rw (same_newest id n s (int_eq id s.security) refl (λ e. none zero n (ap (λ (x : ℤ). Some x) e) refl), no_news ids s ns (λ slot. none (suc slot))) refl
 
-renewed_by : (es : List Event) (snap : SnapshotContent) (v : View) (b : Bool) → v.is_closed ≡ b → (v.is_closed ≡ true) ⊎ IsNoNews v.ids v.newest snap
+renewed_by : (es : List Event) (snap : SnapshotContent) (v : View) (b : Bool) → v.is_closed ≡ b → (v.is_closed ≡ true) ⊎ IsNoNews v.channel.ids v.newest snap
     → StandsAt es v → StandsAt (es ++ recovered snap ∷ []) v
 renewed_by es snap v true c why s = after_close_stands es (recovered snap) v c s
 renewed_by es snap v false c why s =
     let opened : is_closed es ≡ false = rw (← s.is_closed) c in
-    let same : renewed v.ids snap v.newest ≡ v.newest = elim why [ inl t ↦ absurd (let x : true ≡ false = cc in cc) | inr t ↦ no_news v.ids snap v.newest t ] in
+    let same : newest_after v.channel.ids snap v.newest ≡ v.newest = elim why [ inl t ↦ absurd (let x : true ≡ false = cc in cc) | inr t ↦ no_news v.channel.ids snap v.newest t ] in
     record {
       room = s.room;
       begun = s.begun;
       most = s.most;
       top = rw (packets-recovered es snap) s.top;
       is_closed = rw (closed-recovered es snap) s.is_closed;
-      newest = rw (newest-renewed v.ids es snap opened, ← s.newest, same) refl;
+      newest = rw (newest_snapshots-newest_after v.channel.ids es snap opened, ← s.newest, same) refl;
       held = λ k. rw (packets-recovered es snap) (s.held k);
     }
 
@@ -230,21 +236,21 @@ pub renews_stands : (es : List Event) (snap : SnapshotContent) (old new : View) 
     → StandsAt es old → StandsAt (es ++ recovered snap ∷ []) new
 renews_stands es snap old new None k s =
     let opened : is_closed es ≡ false = rw (← s.is_closed) k.0 in
-    rw k.1 (record {
+    rw k.2 (record {
       room = s.room;
       begun = s.begun;
       most = s.most;
       top = rw (packets-recovered es snap) s.top;
       is_closed = rw (closed-recovered es snap) s.is_closed;
-      newest = rw (newest-renewed old.ids es snap opened, s.newest) refl;
+      newest = rw (newest_snapshots-newest_after old.channel.ids es snap opened, s.newest) refl;
       held = λ k. rw (packets-recovered es snap) (s.held k);
     })
 renews_stands es snap old new (Some back) k s = rw k.1 (renewed_by es snap old old.is_closed refl k.2 s)
 
 pub renews_keeps : (snap : SnapshotContent) (old new : View) (r : Option SnapshotContent) → Renews snap old new r → state new ≡ state old
-renews_keeps snap old new None k = rw k.1 refl
+renews_keeps snap old new None k = rw k.2 refl
 renews_keeps snap old new (Some back) k = rw k.1 refl
 
-pub renews_channel : (snap : SnapshotContent) (old new : View) (r : Option SnapshotContent) → Renews snap old new r → IsSameChannel old new
-renews_channel snap old new None k = rw k.1 (record { room = refl; ids = refl })
-renews_channel snap old new (Some back) k = rw k.1 (record { room = refl; ids = refl })
+pub renews_channel : (snap : SnapshotContent) (old new : View) (r : Option SnapshotContent) → Renews snap old new r → new.channel ≡ old.channel
+renews_channel snap old new None k = rw k.2 refl
+renews_channel snap old new (Some back) k = rw k.1 refl

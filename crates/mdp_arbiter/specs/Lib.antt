@@ -1,4 +1,9 @@
-pub mod Slots
+pub mod Channel
 pub mod Accepted
 pub mod Machine
+pub mod Arbiter
+pub mod Codes
+pub mod Packets
+pub mod Snapshots
+pub mod Moves
 pub mod Standing

@@ -1,10 +1,11 @@
--- The recovery machine: which packet passes next, and when recovery jumps to the snapshots. It knows the events, how
--- far ahead packets may run before the next one is given up (the room) and the ids of the listed securities.
-use Rattle.std.specs.Prelude.{◌≡◌, ◌<◌, ◌≤◌, All, Any, ℕ, zero, suc, ℤ, ◌+◌, Bool, false, min, nat_le, if◌then◌else◌, List, [], ◌∷◌, ◌++◌, map, fold, Option, Some, None}
+-- The recovery machine: which packet passes next, and when recovery jumps to the snapshots. It knows the channel and
+-- the events.
+use Rattle.std.specs.Prelude.{◌≡◌, ◌<◌, ◌≤◌, All, Any, ℕ, zero, suc, ◌+◌, Bool, false, min, nat_le, if◌then◌else◌, List, [], ◌∷◌, ◌++◌, map, fold, Option, Some, None}
 use Rattle.std.specs.Option.{option_map}
 use Rattle.std.specs.List.{list_all}
 use Rattle.mdp_templates.specs.Packet.{PacketContent}
 use Rattle.mdp_templates.specs.Snapshot.{SnapshotContent}
+use Rattle.mdp_arbiter.specs.Channel.{Channel}
 use Rattle.mdp_arbiter.specs.Accepted.{Event, accepted_packets, first_of, highest, is_closed, newest_snapshots}
 
 -- A packet passes; or recovery jumps from one number to a later one, and the listed securities' snapshots, in listed
@@ -18,12 +19,16 @@ pub record State : Type 0 where
   pub next : ℕ
   pub bases : List (Option SnapshotContent)
 
-abbrev pub start : List ℤ → State
-start ids = record { next = 1; bases = map (λ _. None) ids }
+abbrev pub start : Channel → State
+start channel = record { next = 1; bases = map (λ _. None) channel.ids }
 
--- the receiver is lost: a packet ran so far ahead that the next one is given up
-abbrev pub is_lost : ℕ → List Event → State → Bool
-is_lost room es s = nat_le (s.next + room) (highest es)
+-- a packet came the room or more past the next one, which is given up
+abbrev pub has_run_ahead : ℕ → ℕ → ℕ → Bool
+has_run_ahead room next top = nat_le (next + room) top
+
+-- the receiver is lost: the packet that passes next is given up
+abbrev pub is_lost : Channel → List Event → State → Bool
+is_lost channel es s = has_run_ahead channel.room s.next (highest es)
 
 -- a security's snapshot is there, and includes every packet that is given up: those that lie the room or more below the top
 abbrev pub is_fresh : ℕ → ℕ → Option SnapshotContent → Bool
@@ -52,11 +57,12 @@ abbrev pub jump : ℕ → List SnapshotContent → Option Move
 jump next snapshots = option_map (λ least. jumped next (least + 1) snapshots) (least_last snapshots)
 
 -- the one possible move, if there is one
-abbrev pub next_move : ℕ → List ℤ → List Event → State → Option Move
-next_move room ids es s =
+abbrev pub next_move : Channel → List Event → State → Option Move
+next_move channel es s =
     if is_closed es then None
-    else if is_lost room es s then
-    (if are_fresh room (highest es) (newest_snapshots ids es) then jump s.next (snapshots_of (newest_snapshots ids es)) else None)
+    else if is_lost channel es s then
+    (if are_fresh channel.room (highest es) (newest_snapshots channel.ids es)
+    then jump s.next (snapshots_of (newest_snapshots channel.ids es)) else None)
     else option_map passed (first_of s.next (accepted_packets es))
 
 abbrev pub after : State → Move → State
@@ -67,65 +73,67 @@ abbrev pub after_all : State → List Move → State
 after_all s moves = fold after s moves
 
 -- these are the moves from a state on, one after another, until none is possible
-abbrev pub Settles : ℕ → List ℤ → List Event → State → List Move → Type 0
-Settles room ids es s [] = next_move room ids es s ≡ None
-Settles room ids es s (m ∷ ms) = (next_move room ids es s ≡ Some m) × Settles room ids es (after s m) ms
+abbrev pub Settles : Channel → List Event → State → List Move → Type 0
+Settles channel es s [] = next_move channel es s ≡ None
+Settles channel es s (m ∷ ms) = (next_move channel es s ≡ Some m) × Settles channel es (after s m) ms
 
 -- the possible moves one after another, at most so many
-abbrev pub moves : ℕ → ℕ → List ℤ → List Event → State → List Move
-moves zero room ids es s = []
-moves (suc most) room ids es s = elim (next_move room ids es s) [ None ↦ [] | Some m ↦ m ∷ moves most room ids es (after s m) ]
+abbrev pub moves : ℕ → Channel → List Event → State → List Move
+moves zero channel es s = []
+moves (suc most) channel es s = elim (next_move channel es s) [ None ↦ [] | Some m ↦ m ∷ moves most channel es (after s m) ]
 
 -- the one list that settles: each move begins at most at the highest number, and ends above where it began
-abbrev pub settle : ℕ → List ℤ → List Event → State → List Move
-settle room ids es s = moves (highest es + 1) room ids es s
+abbrev pub settle : Channel → List Event → State → List Move
+settle channel es s = moves (highest es + 1) channel es s
 
 -- the moves after each further event, from a state at the events before
-abbrev pub go_on : ℕ → List ℤ → List Event → State → List Event → List Move
-go_on room ids past s [] = []
-go_on room ids past s (e ∷ es) =
-    settle room ids (past ++ e ∷ []) s ++ go_on room ids (past ++ e ∷ []) (after_all s (settle room ids (past ++ e ∷ []) s)) es
+abbrev pub go_on : Channel → List Event → State → List Event → List Move
+go_on channel past s [] = []
+go_on channel past s (e ∷ es) =
+    settle channel (past ++ e ∷ []) s ++ go_on channel (past ++ e ∷ []) (after_all s (settle channel (past ++ e ∷ []) s)) es
 
 -- the moves of these events: after each event, as many as are possible
-abbrev pub trace : ℕ → List ℤ → List Event → List Move
-trace room ids es = go_on room ids [] (start ids) es
+abbrev pub trace : Channel → List Event → List Move
+trace channel es = go_on channel [] (start channel) es
 
-abbrev pub state_at : ℕ → List ℤ → List Event → State
-state_at room ids es = after_all (start ids) (trace room ids es)
+abbrev pub state_at : Channel → List Event → State
+state_at channel es = after_all (start channel) (trace channel es)
 
 -- a front's moves are a beginning of the whole's
 abbrev pub LawOfFronts : Type 0
-LawOfFronts = (room : ℕ) (ids : List ℤ) (xs ys : List Event) → trace room ids (xs ++ ys) ≡ trace room ids xs ++ go_on room ids xs (state_at room ids xs) ys
+LawOfFronts = (channel : Channel) (xs ys : List Event)
+    → trace channel (xs ++ ys) ≡ trace channel xs ++ go_on channel xs (state_at channel xs) ys
 
 -- from each state on there is exactly one list of moves until none is possible
 abbrev pub LawOfMoves : Type 0
-LawOfMoves = (room : ℕ) (ids : List ℤ) (es : List Event) (s : State)
-    → Settles room ids es s (settle room ids es s) × ((ms : List Move) → Settles room ids es s ms → ms ≡ settle room ids es s)
+LawOfMoves = (channel : Channel) (es : List Event) (s : State)
+    → Settles channel es s (settle channel es s) × ((ms : List Move) → Settles channel es s ms → ms ≡ settle channel es s)
 
 -- one more event adds the moves that are then possible, one after another until none is
 abbrev pub LawOfEvents : Type 0
-LawOfEvents = (room : ℕ) (ids : List ℤ) (es : List Event) (e : Event) (ms : List Move)
-    → Settles room ids (es ++ e ∷ []) (state_at room ids es) ms
-    → (trace room ids (es ++ e ∷ []) ≡ trace room ids es ++ ms) × (state_at room ids (es ++ e ∷ []) ≡ after_all (state_at room ids es) ms)
+LawOfEvents = (channel : Channel) (es : List Event) (e : Event) (ms : List Move)
+    → Settles channel (es ++ e ∷ []) (state_at channel es) ms
+    → (trace channel (es ++ e ∷ []) ≡ trace channel es ++ ms) × (state_at channel (es ++ e ∷ []) ≡ after_all (state_at channel es) ms)
 
 -- a packet that passes is the first that came of the next number
 abbrev pub LawOfPasses : Type 0
-LawOfPasses = (room : ℕ) (ids : List ℤ) (es : List Event) (s : State) (packet : PacketContent)
-    → next_move room ids es s ≡ Some (passed packet) → (packet.number ≡ s.next) × (first_of s.next (accepted_packets es) ≡ Some packet)
+LawOfPasses = (channel : Channel) (es : List Event) (s : State) (packet : PacketContent)
+    → next_move channel es s ≡ Some (passed packet)
+    → (packet.number ≡ s.next) × (first_of s.next (accepted_packets es) ≡ Some packet)
 
 -- A jump takes the newest snapshot of each listed security, none of which leaves out a packet that is given up, and
 -- goes on right after the one that reaches least far.
-pub record IsRecovery (room : ℕ) (ids : List ℤ) (es : List Event) (s : State) (old new : ℕ) (snapshots : List SnapshotContent) : Type 0 where
+pub record IsRecovery (channel : Channel) (es : List Event) (s : State) (old new : ℕ) (snapshots : List SnapshotContent) : Type 0 where
   pub from : old ≡ s.next
   pub on : old < new
-  pub newest : newest_snapshots ids es ≡ map (λ snapshot. Some snapshot) snapshots
-  pub fresh : All (λ snapshot. highest es ≤ snapshot.last + room) snapshots
+  pub newest : newest_snapshots channel.ids es ≡ map (λ snapshot. Some snapshot) snapshots
+  pub fresh : All (λ snapshot. highest es ≤ snapshot.last + channel.room) snapshots
   pub covered : All (λ snapshot. new ≤ snapshot.last + 1) snapshots
   pub least : Any (λ snapshot. new ≡ snapshot.last + 1) snapshots
 
 abbrev pub LawOfJumps : Type 0
-LawOfJumps = (room : ℕ) (ids : List ℤ) (es : List Event) (s : State) (old new : ℕ) (snapshots : List SnapshotContent)
-    → next_move room ids es s ≡ Some (jumped old new snapshots) → IsRecovery room ids es s old new snapshots
+LawOfJumps = (channel : Channel) (es : List Event) (s : State) (old new : ℕ) (snapshots : List SnapshotContent)
+    → next_move channel es s ≡ Some (jumped old new snapshots) → IsRecovery channel es s old new snapshots
 
 -- the first packets of the numbers from n on pass, as far as there is one of each
 abbrev pub ArePassed : ℕ → List PacketContent → List Move → Type 0
@@ -139,12 +147,13 @@ HaveNoJump (passed p ∷ ms) = HaveNoJump ms
 HaveNoJump (jumped old new snapshots ∷ ms) = ⊥
 
 -- after the moves of no further event the receiver is lost
-abbrev pub IsNeverLost : ℕ → List ℤ → List Event → State → List Event → Type 0
-IsNeverLost room ids past s [] = Unit {0}
-IsNeverLost room ids past s (e ∷ es) =
-    (is_lost room (past ++ e ∷ []) (after_all s (settle room ids (past ++ e ∷ []) s)) ≡ false)
-    × IsNeverLost room ids (past ++ e ∷ []) (after_all s (settle room ids (past ++ e ∷ []) s)) es
+abbrev pub IsNeverLost : Channel → List Event → State → List Event → Type 0
+IsNeverLost channel past s [] = Unit {0}
+IsNeverLost channel past s (e ∷ es) =
+    (is_lost channel (past ++ e ∷ []) (after_all s (settle channel (past ++ e ∷ []) s)) ≡ false)
+    × IsNeverLost channel (past ++ e ∷ []) (after_all s (settle channel (past ++ e ∷ []) s)) es
 
 -- where nothing was lost, the first packet of each number from 1 on passes, as far as there is one of each
 abbrev pub LawOfNoLoss : Type 0
-LawOfNoLoss = (room : ℕ) (ids : List ℤ) (es : List Event) → HaveNoJump (trace room ids es) → IsNeverLost room ids [] (start ids) es → ArePassed 1 (accepted_packets es) (trace room ids es)
+LawOfNoLoss = (channel : Channel) (es : List Event) → HaveNoJump (trace channel es)
+    → IsNeverLost channel [] (start channel) es → ArePassed 1 (accepted_packets es) (trace channel es)

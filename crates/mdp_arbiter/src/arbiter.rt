@@ -1,13 +1,17 @@
 //! The arbiter of a channel's feeds.
 
-ghost use Rattle.std.specs.Prelude.{◌≡◌, ◌≤◌, ◌<◌, ◌↔◌, ◌+◌, ◌-◌, ℕ, List, [], ◌∷◌, ◌++◌, length, true, IsTrue, IfOk, IfSome, Some, None, slice_get, option_copied};
+ghost use Rattle.std.specs.Prelude.{◌≡◌, ◌≤◌, ◌<◌, ℕ, List, [], ◌∷◌, ◌++◌, length, true, IfOk, IfSome, Some, None, slice_get, option_copied};
 ghost use Rattle.std.specs.FinMap as map;
 ghost use Rattle.mdp_templates.specs.Instrument.{AreFit};
-ghost use Rattle.mdp_arbiter.specs.Slots.{ids_of};
+ghost use Rattle.mdp_arbiter.specs.Channel.{channel_of};
 ghost use Rattle.mdp_arbiter.specs.Accepted.{Event};
 ghost use Rattle.mdp_arbiter.specs.Accepted.Event.{came, recovered, closed};
 ghost use Rattle.mdp_arbiter.specs.Machine.{start, is_lost};
-ghost use Rattle.mdp_arbiter.specs.Standing.{StandsAt, IsSameChannel, Receives, is_taken_in, Renews, Answers, Moves, StepsAs, seen_move, state};
+ghost use Rattle.mdp_arbiter.specs.Arbiter.{is_lost_now, state};
+ghost use Rattle.mdp_arbiter.specs.Packets.{Receives, is_taken_in};
+ghost use Rattle.mdp_arbiter.specs.Snapshots.{Renews};
+ghost use Rattle.mdp_arbiter.specs.Moves.{Answers, Moves, seen_move};
+ghost use Rattle.mdp_arbiter.specs.Standing.{StandsAt, StepsAs};
 
 use crate::newest::{are_all_fresh, copy_all, least_number, none_for, renews};
 use crate::slots::Slots;
@@ -36,15 +40,15 @@ pub struct Arbiter<A: Allocator, W: Window<Packet<A>> + Drop> {
 impl<A: Allocator, W: Window<Packet<A>> + Drop> Model for Arbiter<A, W> {
     ghost use Rattle.std.specs.Prelude.{◌≡◌, ◌≤◌, ◌<◌, ◌+◌, ◌-◌, ℕ, max, length, None};
     ghost use Rattle.std.specs.FinMap as map;
-    ghost use Rattle.mdp_arbiter.specs.Standing.{View, view_code};
+    ghost use Rattle.mdp_arbiter.specs.Arbiter.{View};
+    ghost use Rattle.mdp_arbiter.specs.Codes.{view_code};
 
     ghost Value = { View };
 
     ghost coded = { view_code };
 
     ghost view = { λ a. record {
-      room = a.room;
-      ids = a.slots;
+      channel = record { room = a.room; ids = a.slots };
       next = a.next;
       top = a.top;
       is_closed = a.is_closed;
@@ -68,9 +72,9 @@ impl<A: Allocator + Copy, W: Window<Packet<A>> + Drop> Arbiter<A, W> {
         requires first { (W.view window).first ≡ 1 }
         requires empty { (W.view window).held ≡ map.empty }
         ensures stands { IfOk result (StandsAt []) }
-        ensures start { IfOk result (λ arbiter. state arbiter ≡ start arbiter.ids) }
-        ensures room { IfOk result (λ arbiter. arbiter.room ≡ (W.view window).room) }
-        ensures ids { IfOk result (λ arbiter. arbiter.ids ≡ ids_of instruments.now) }
+        ensures start { IfOk result (λ arbiter. state arbiter ≡ start arbiter.channel) }
+        ensures channel { IfOk result (λ arbiter. arbiter.channel
+            ≡ channel_of instruments.now (W.view window).room) }
     {
         let slots = Slots::of(alloc, instruments)?;
         let newest = none_for(alloc, instruments)?;
@@ -99,16 +103,16 @@ impl<A: Allocator + Copy, W: Window<Packet<A>> + Drop> Arbiter<A, W> {
 
     /// Whether the receiver is lost: a packet came that is so far ahead that the next one is given up.
     pub fn lost(&self) -> bool
-        ensures far { IsTrue result ↔ (self.now.next + self.now.room ≤ self.now.top) }
+        ensures now { result ≡ is_lost_now self.now }
         ensures stands { (es : List Event) → StandsAt es self.now
-            → result ≡ is_lost self.now.room es (state self.now) }
+            → result ≡ is_lost self.now.channel es (state self.now) }
     {
         self.top >= self.next + self.room
     }
 
     /// The snapshot of the security at a listed place, from 0, that the latest jump took, if there was a jump.
     pub fn base(&self, slot: usize) -> Option<&Snapshot>
-        requires { slot < length self.now.ids }
+        requires { slot < length self.now.channel.ids }
         ensures { slice_get self.now.bases slot ≡ Some (option_copied result) }
     {
         self.bases[slot].as_ref()
@@ -121,22 +125,21 @@ impl<A: Allocator + Copy, W: Window<Packet<A>> + Drop> Arbiter<A, W> {
         &self.bases
     }
 
-    /// Takes in that the channel was closed: from now on no step is possible, and all that is handed in comes back.
+    /// Closes the channel. From now on `step` is `None`, and every packet and snapshot is handed back.
     pub fn close(&mut self)
-        ensures keeps { state self.new ≡ state self.old }
-        ensures channel { IsSameChannel self.old self.new }
+        ensures closes { self.new ≡ record self.old { is_closed = true } }
         ensures stands { (es : List Event) → StandsAt es self.old
             → StandsAt (es ++ closed ∷ []) self.new }
     {
         self.is_closed = true;
     }
 
-    /// Takes in a packet, and makes no step. What comes back is old, a repeat, or came after a close, but for want of
-    /// memory, and leaves all as it was.
+    /// Takes in a packet, and makes no step. `Back`: an old packet, a repeat, or one after a close. `Memory`: the window
+    /// could not grow. Both leave the arbiter unchanged.
     pub fn packet(&mut self, packet: Packet<A>) -> Put<Packet<A>>
         ensures receives { Receives W.ALLOCATES packet self.old self.new result }
         ensures keeps { state self.new ≡ state self.old }
-        ensures channel { IsSameChannel self.old self.new }
+        ensures channel { self.new.channel ≡ self.old.channel }
         ensures stands { (es : List Event) → is_taken_in result ≡ true → StandsAt es self.old
             → StandsAt (es ++ came packet ∷ []) self.new }
     {
@@ -148,7 +151,7 @@ impl<A: Allocator + Copy, W: Window<Packet<A>> + Drop> Arbiter<A, W> {
     pub fn snapshot(&mut self, snapshot: Snapshot) -> Option<Snapshot>
         ensures renews { Renews snapshot self.old self.new result }
         ensures keeps { state self.new ≡ state self.old }
-        ensures channel { IsSameChannel self.old self.new }
+        ensures channel { self.new.channel ≡ self.old.channel }
         ensures stands { (es : List Event) → StandsAt es self.old
             → StandsAt (es ++ recovered snapshot ∷ []) self.new }
     {
@@ -157,7 +160,7 @@ impl<A: Allocator + Copy, W: Window<Packet<A>> + Drop> Arbiter<A, W> {
 
     /// The one step that is possible, none exactly where none is. Each step raises `next`.
     pub fn step(&mut self) -> Option<Step<A>>
-        ensures channel { IsSameChannel self.old self.new }
+        ensures channel { self.new.channel ≡ self.old.channel }
         ensures raises { IfSome result (λ _. (self.old.next < self.new.next) × (self.new.next ≤ 4294967296)) }
         ensures steps { (es : List Event) → StandsAt es self.old → StepsAs es self.old self.new result }
     {

@@ -4,7 +4,7 @@ ghost use Rattle.std.specs.Prelude.{◌≡◌, ◌<◌, ℕ, length, AllPairs, �
 ghost use Rattle.std.specs.Prelude.{OnOk};
 ghost use Rattle.std.specs.Ordering.{int_eq};
 ghost use Rattle.indexmap.specs.IndexSet.{insert_key};
-ghost use Rattle.mdp_arbiter.specs.Slots.{ids_of};
+ghost use Rattle.mdp_arbiter.specs.Channel.{ids_of};
 
 use indexmap::IndexSet;
 use mdp_templates::{Instrument, Memory};
@@ -12,7 +12,7 @@ use std::alloc::Allocator;
 use std::hash::{BuildHasherDefault, FoldHasher};
 use std::marker::Model;
 
-/// The ids of the listed securities, each another, seen as their list. A place is found in constant time.
+/// The ids of the listed securities, all different, seen as their list. A place is found in constant time.
 #[derive(Drop)]
 pub struct Slots<A: Allocator> {
     ids: IndexSet<i32, BuildHasherDefault<FoldHasher>, A>,

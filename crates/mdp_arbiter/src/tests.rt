@@ -1,19 +1,17 @@
-//! An arbiter over a map window, with one listed security, and each allocation refused in turn.
+//! Tables of calls over every window, and each allocation refused in turn. One security is listed.
 
 ghost use Rattle.std.specs.Prelude.{◌≡◌, IfOk, length};
+ghost use Rattle.std.specs.FinMap as map;
 ghost use Rattle.mdp_templates.specs.Instrument.{AreFit};
-ghost use Rattle.mdp_arbiter.specs.Standing.{IsSameChannel};
 
 use crate::{Arbiter, Step};
 use arrayvec::{ArrayString, ArrayVec};
 use mdp_templates::{Instrument, InstrumentKind, Message, Name, Packet, Snapshot, are_fit};
-use mdp_window::{MapWindow, Put};
+use mdp_window::{MapWindow, Put, RingWindow, Window};
 use refusing::Refusing;
 use std::alloc::Global;
 use std::process::Abort;
 use std::test::Fail;
-
-type OverMap = Arbiter<Global, MapWindow<Packet<Global>, Global>>;
 
 /// The one listed security.
 fn near() -> Result<[Instrument; 1], Fail>
@@ -32,13 +30,6 @@ fn near() -> Result<[Instrument; 1], Fail>
         return Err("unfit".into());
     }
     Ok(listed)
-}
-
-/// An arbiter for the one listed security, with a window of four places.
-fn new_arbiter(alloc: Global) -> Result<OverMap, Fail>
-    ensures { IfOk result (λ arbiter. length arbiter.ids ≡ 1) }
-{
-    Ok(Arbiter::new(alloc, &near()?, MapWindow::new(alloc, 4))?)
 }
 
 /// A packet with as many messages, each without entries.
@@ -62,114 +53,188 @@ fn snapshot(security: i32, last: u32) -> Snapshot {
     )
 }
 
+fn is_kept(answer: Put<Packet<Global>>) -> bool {
+    matches!(answer, Put::Kept)
+}
+
+#[derive(Clone, Copy)]
+enum Call {
+    /// A packet of this number, with as many messages.
+    Packet(u32, u8),
+    /// A snapshot of this security, with the number of the packet that it includes last.
+    Snapshot(i32, u32),
+    Close,
+    Step,
+}
+
 #[derive(Clone, Copy, Debug, PartialEq, Eq)]
-enum Seen {
+enum Answer {
+    Kept,
+    Back,
     /// A packet of this number passed, with as many messages.
     Pass(u32, usize),
     Jump(u64, u64),
     Nothing,
 }
 
-fn next_step(arbiter: &mut OverMap) -> Seen
-    ensures { IsSameChannel arbiter.old arbiter.new }
+/// A call and its answer, and then the number of the packet that passes next, and whether the receiver is lost.
+type Row = (Call, Answer, u64, bool);
+
+fn answer_to<W: Window<Packet<Global>> + Drop>(
+    alloc: Global,
+    arbiter: &mut Arbiter<Global, W>,
+    call: Call,
+) -> Result<Answer, Fail> {
+    Ok(match call {
+        Call::Packet(number, messages) => match arbiter.packet(packet(alloc, number, messages)?) {
+            Put::Kept => Answer::Kept,
+            Put::Back(_) => Answer::Back,
+            Put::Memory(_) => Answer::Nothing,
+        },
+        Call::Snapshot(security, last) => match arbiter.snapshot(snapshot(security, last)) {
+            Some(_) => Answer::Back,
+            None => Answer::Kept,
+        },
+        Call::Close => {
+            arbiter.close();
+            Answer::Nothing
+        }
+        Call::Step => match arbiter.step() {
+            Some(Step::Pass(packet)) => Answer::Pass(packet.number(), packet.messages().len()),
+            Some(Step::Jump { old, new }) => Answer::Jump(old, new),
+            None => Answer::Nothing,
+        },
+    })
+}
+
+/// Makes the calls of a table on a new arbiter over this window.
+fn follow<W: Window<Packet<Global>> + Drop>(
+    rt: &impl Abort,
+    alloc: Global,
+    window: W,
+    table: &[Row],
+) -> Result<(), Fail>
+    requires first { (W.view window).first ≡ 1 }
+    requires empty { (W.view window).held ≡ map.empty }
 {
-    match arbiter.step() {
-        Some(Step::Pass(packet)) => Seen::Pass(packet.number(), packet.messages().len()),
-        Some(Step::Jump { old, new }) => Seen::Jump(old, new),
-        None => Seen::Nothing,
+    let mut arbiter = Arbiter::new(alloc, &near()?, window)?;
+    for (call, answer, next, lost) in table.iter() {
+        assert_eq!(rt; answer_to(alloc, &mut arbiter, *call)?, *answer);
+        assert_eq!(rt; arbiter.next(), *next);
+        assert_eq!(rt; arbiter.lost(), *lost);
     }
+    Ok(())
 }
 
-/// Takes in a packet with one message, and makes no step.
-fn keeps(arbiter: &mut OverMap, alloc: Global, number: u32) -> Result<bool, Fail>
-    ensures { IsSameChannel arbiter.old arbiter.new }
-{
-    Ok(is_kept(arbiter.packet(packet(alloc, number, 1)?)))
-}
-
-fn is_kept(answer: Put<Packet<Global>>) -> bool {
-    matches!(answer, Put::Kept)
-}
-
-fn is_back(answer: Put<Packet<Global>>) -> bool {
-    matches!(answer, Put::Back(_))
+/// Follows a table over each window, of four places.
+fn follow_over_both(rt: &impl Abort, alloc: Global, table: &[Row]) -> Result<(), Fail> {
+    follow(rt, alloc, MapWindow::new(alloc, 4), table)?;
+    follow(rt, alloc, RingWindow::new(alloc, 4)?, table)
 }
 
 #[test]
 fn packets_out_of_order_pass_in_order_and_the_first_copy_counts(
     rt: HostRuntime,
 ) -> Result<(), Fail> {
-    let alloc = rt.alloc();
-    let mut arbiter = new_arbiter(alloc)?;
-    assert!(rt; is_kept(arbiter.packet(packet(alloc, 2, 1)?)));
-    assert_eq!(rt; next_step(&mut arbiter), Seen::Nothing);
-    assert!(rt; is_back(arbiter.packet(packet(alloc, 2, 0)?)));
-    assert!(rt; is_kept(arbiter.packet(packet(alloc, 1, 3)?)));
-    assert_eq!(rt; next_step(&mut arbiter), Seen::Pass(1, 3));
-    assert_eq!(rt; next_step(&mut arbiter), Seen::Pass(2, 1));
-    assert_eq!(rt; next_step(&mut arbiter), Seen::Nothing);
-    assert!(rt; is_back(arbiter.packet(packet(alloc, 1, 3)?)));
-    assert_eq!(rt; arbiter.next(), 3);
-    assert!(rt; !arbiter.lost());
-    Ok(())
+    let table: [Row; 8] = [
+        (Call::Packet(2, 1), Answer::Kept, 1, false),
+        (Call::Step, Answer::Nothing, 1, false),
+        (Call::Packet(2, 0), Answer::Back, 1, false),
+        (Call::Packet(1, 3), Answer::Kept, 1, false),
+        (Call::Step, Answer::Pass(1, 3), 2, false),
+        (Call::Step, Answer::Pass(2, 1), 3, false),
+        (Call::Step, Answer::Nothing, 3, false),
+        (Call::Packet(1, 3), Answer::Back, 3, false),
+    ];
+    follow_over_both(&rt, rt.alloc(), &table)
 }
 
 #[test]
-fn a_gap_is_jumped_over_by_a_fresh_snapshot(rt: HostRuntime) -> Result<(), Fail> {
-    let alloc = rt.alloc();
-    let mut arbiter = new_arbiter(alloc)?;
-    assert!(rt; keeps(&mut arbiter, alloc, 2)?);
-    assert!(rt; keeps(&mut arbiter, alloc, 3)?);
-    assert!(rt; keeps(&mut arbiter, alloc, 4)?);
-    assert!(rt; !arbiter.lost());
-    assert!(rt; keeps(&mut arbiter, alloc, 5)?);
-    assert!(rt; arbiter.lost());
-    assert!(rt; arbiter.snapshot(snapshot(2, 9)).is_some());
-    assert!(rt; arbiter.snapshot(snapshot(1, 2)).is_none());
-    assert!(rt; arbiter.snapshot(snapshot(1, 2)).is_some());
-    assert!(rt; arbiter.base(0).is_none());
-    assert_eq!(rt; next_step(&mut arbiter), Seen::Jump(1, 3));
-    assert_eq!(rt; arbiter.base(0).map(Snapshot::last), Some(2));
-    assert_eq!(rt; next_step(&mut arbiter), Seen::Pass(3, 1));
-    assert_eq!(rt; next_step(&mut arbiter), Seen::Pass(4, 1));
-    assert_eq!(rt; next_step(&mut arbiter), Seen::Pass(5, 1));
-    assert_eq!(rt; next_step(&mut arbiter), Seen::Nothing);
-    assert_eq!(rt; arbiter.next(), 6);
-    assert!(rt; !arbiter.lost());
-    Ok(())
+fn a_packet_at_the_last_place_gives_none_up(rt: HostRuntime) -> Result<(), Fail> {
+    let table: [Row; 9] = [
+        (Call::Packet(4, 1), Answer::Kept, 1, false),
+        (Call::Step, Answer::Nothing, 1, false),
+        (Call::Packet(3, 1), Answer::Kept, 1, false),
+        (Call::Packet(1, 1), Answer::Kept, 1, false),
+        (Call::Step, Answer::Pass(1, 1), 2, false),
+        (Call::Packet(2, 1), Answer::Kept, 2, false),
+        (Call::Step, Answer::Pass(2, 1), 3, false),
+        (Call::Step, Answer::Pass(3, 1), 4, false),
+        (Call::Step, Answer::Pass(4, 1), 5, false),
+    ];
+    follow_over_both(&rt, rt.alloc(), &table)
+}
+
+#[test]
+fn a_packet_past_the_last_place_gives_the_next_up(rt: HostRuntime) -> Result<(), Fail> {
+    let table: [Row; 8] = [
+        (Call::Packet(5, 1), Answer::Kept, 1, true),
+        (Call::Packet(1, 1), Answer::Back, 1, true),
+        (Call::Packet(2, 1), Answer::Kept, 1, true),
+        (Call::Step, Answer::Nothing, 1, true),
+        (Call::Snapshot(1, 1), Answer::Kept, 1, true),
+        (Call::Step, Answer::Jump(1, 2), 2, false),
+        (Call::Step, Answer::Pass(2, 1), 3, false),
+        (Call::Step, Answer::Nothing, 3, false),
+    ];
+    follow_over_both(&rt, rt.alloc(), &table)
+}
+
+#[test]
+fn the_largest_numbers_pass(rt: HostRuntime) -> Result<(), Fail> {
+    let table: [Row; 10] = [
+        (Call::Packet(4294967295, 1), Answer::Kept, 1, true),
+        (Call::Packet(4294967291, 1), Answer::Back, 1, true),
+        (Call::Packet(4294967292, 1), Answer::Kept, 1, true),
+        (Call::Snapshot(1, 4294967290), Answer::Kept, 1, true),
+        (Call::Step, Answer::Nothing, 1, true),
+        (Call::Snapshot(1, 4294967294), Answer::Kept, 1, true),
+        (Call::Step, Answer::Jump(1, 4294967295), 4294967295, false),
+        (Call::Step, Answer::Pass(4294967295, 1), 4294967296, false),
+        (Call::Step, Answer::Nothing, 4294967296, false),
+        (Call::Packet(4294967295, 1), Answer::Back, 4294967296, false),
+    ];
+    follow_over_both(&rt, rt.alloc(), &table)
 }
 
 #[test]
 fn an_older_snapshot_leaves_the_receiver_lost(rt: HostRuntime) -> Result<(), Fail> {
-    let alloc = rt.alloc();
-    let mut arbiter = new_arbiter(alloc)?;
-    for number in 2..=6 {
-        assert!(rt; is_kept(arbiter.packet(packet(alloc, number, 0)?)));
-    }
-    assert!(rt; arbiter.snapshot(snapshot(1, 1)).is_none());
-    assert_eq!(rt; next_step(&mut arbiter), Seen::Nothing);
-    assert!(rt; arbiter.lost());
-    assert!(rt; arbiter.snapshot(snapshot(1, 9)).is_none());
-    assert_eq!(rt; next_step(&mut arbiter), Seen::Jump(1, 10));
-    assert_eq!(rt; next_step(&mut arbiter), Seen::Nothing);
-    assert_eq!(rt; arbiter.next(), 10);
-    assert!(rt; !arbiter.lost());
-    Ok(())
+    let table: [Row; 10] = [
+        (Call::Packet(2, 0), Answer::Kept, 1, false),
+        (Call::Packet(6, 0), Answer::Kept, 1, true),
+        (Call::Snapshot(2, 9), Answer::Back, 1, true),
+        (Call::Snapshot(1, 1), Answer::Kept, 1, true),
+        (Call::Snapshot(1, 1), Answer::Back, 1, true),
+        (Call::Step, Answer::Nothing, 1, true),
+        (Call::Snapshot(1, 9), Answer::Kept, 1, true),
+        (Call::Step, Answer::Jump(1, 10), 10, false),
+        (Call::Step, Answer::Nothing, 10, false),
+        (Call::Packet(9, 0), Answer::Back, 10, false),
+    ];
+    follow_over_both(&rt, rt.alloc(), &table)
 }
 
 #[test]
 fn after_a_close_everything_comes_back(rt: HostRuntime) -> Result<(), Fail> {
+    let table: [Row; 5] = [
+        (Call::Packet(5, 1), Answer::Kept, 1, true),
+        (Call::Close, Answer::Nothing, 1, true),
+        (Call::Snapshot(1, 2), Answer::Back, 1, true),
+        (Call::Packet(1, 1), Answer::Back, 1, true),
+        (Call::Step, Answer::Nothing, 1, true),
+    ];
+    follow_over_both(&rt, rt.alloc(), &table)
+}
+
+#[test]
+fn a_jump_makes_the_newest_snapshots_the_bases(rt: HostRuntime) -> Result<(), Fail> {
     let alloc = rt.alloc();
-    let mut arbiter = new_arbiter(alloc)?;
-    for number in 2..=5 {
-        assert!(rt; is_kept(arbiter.packet(packet(alloc, number, 1)?)));
-    }
-    arbiter.close();
-    assert!(rt; arbiter.snapshot(snapshot(1, 2)).is_some());
-    assert!(rt; is_back(arbiter.packet(packet(alloc, 1, 1)?)));
-    assert_eq!(rt; next_step(&mut arbiter), Seen::Nothing);
-    assert_eq!(rt; arbiter.next(), 1);
-    assert!(rt; arbiter.lost());
+    let mut arbiter = Arbiter::new(alloc, &near()?, MapWindow::new(alloc, 4))?;
+    assert!(rt; is_kept(arbiter.packet(packet(alloc, 5, 1)?)));
+    assert!(rt; arbiter.snapshot(snapshot(1, 2)).is_none());
+    assert!(rt; arbiter.base(0).is_none());
+    assert!(rt; arbiter.step().is_some());
+    assert_eq!(rt; arbiter.base(0).map(Snapshot::last), Some(2));
     Ok(())
 }
 

@@ -11,8 +11,8 @@ use Rattle.mdp_capture.specs.Line.{LineContent, Blank, Listing, Packet, Closing,
 use Rattle.mdp_capture.specs.Capture.{CaptureContent, RefusedLine, add_line, add_lines, and_then, capture_of, has_record, kind_with_id, needs_instrument, next_line, no_capture, refusal_of}
 use Rattle.mdp_capture.specs.Lines.{NumberedLine, numbered, instruments_of, records_on, skipped_of, InstrumentsFirst, IsCaptureOf}
 use Rattle.mdp_capture.specs.declared.fault.CaptureRefusal.TheVariants.{NoInstrument}
-use Rattle.mdp_capture.specs.declared.line.Feed.{Feed}
-use Rattle.mdp_capture.specs.declared.line.Feed.TheVariants as feeds
+use Rattle.mdp_templates.specs.declared.feed.Feed.{Feed}
+use Rattle.mdp_templates.specs.declared.feed.Feed.TheVariants as feeds
 use Rattle.mdp_capture.proofs.Accepted.{accepted}
 use Rattle.mdp_capture.proofs.Fit.{unrefused, line_keeps_fit, whole_is_fit}
 use Rattle.mdp_capture.specs.Draft.{AreFitSoFar}

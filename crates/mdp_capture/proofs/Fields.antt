@@ -11,7 +11,7 @@ use Rattle.std.proofs.lemmas.List.Splits.{length-slice_split}
 use Rattle.std.proofs.lemmas.List.Sums.{AllPass-from_list_all}
 use Rattle.std.proofs.lemmas.Str.{IsUtf8-from_ascii}
 use Rattle.mdp_capture.specs.Line.{Skipped, fields, closing_of, packet_of, kind_of, calendar_of_fields, is_graphic, is_name}
-use Rattle.mdp_capture.specs.declared.line.Feed.{Feed}
+use Rattle.mdp_templates.specs.declared.feed.Feed.{Feed}
 use Rattle.mdp_capture.specs.declared.skip.Skip.TheVariants.{LineForm}
 
 -- each text has a first field

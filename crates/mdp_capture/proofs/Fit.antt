@@ -14,7 +14,7 @@ use Rattle.mdp_capture.specs.Line.{LineContent, Blank, Listing, Packet, Closing,
 use Rattle.mdp_capture.specs.Capture.{CaptureContent, RefusedLine, kind_with_id, is_outright, has_legs, refusal_of, unless_refused, add_line}
 use Rattle.mdp_capture.specs.Draft.{AreFitSoFar}
 use Rattle.mdp_capture.specs.declared.fault.CaptureRefusal.{CaptureRefusal}
-use Rattle.mdp_capture.specs.declared.line.Feed.TheVariants as feeds
+use Rattle.mdp_templates.specs.declared.feed.Feed.TheVariants as feeds
 use Rattle.mdp_capture.proofs.Accepted.{accepted, new_id}
 
 same_id : (id : ℤ) → int_eq id id ≡ true

@@ -10,8 +10,8 @@ use Rattle.mdp_templates.specs.declared.instrument.InstrumentKind.{InstrumentKin
 use Rattle.mdp_templates.specs.declared.instrument.InstrumentKind.TheVariants.{Outright, Calendar}
 use Rattle.mdp_capture.specs.Line.{LineContent, Blank, Listing, Packet, Closing, Skipped, line_of}
 use Rattle.mdp_capture.specs.Record.{RecordContent, Datagram, Close}
-use Rattle.mdp_capture.specs.declared.line.Feed.{Feed}
-use Rattle.mdp_capture.specs.declared.line.Feed.TheVariants as feeds
+use Rattle.mdp_templates.specs.declared.feed.Feed.{Feed}
+use Rattle.mdp_templates.specs.declared.feed.Feed.TheVariants as feeds
 use Rattle.mdp_capture.specs.declared.skip.SkippedLine.{SkippedLine}
 use Rattle.mdp_capture.specs.declared.fault.CaptureFault.{CaptureFault}
 use Rattle.mdp_capture.specs.declared.fault.CaptureFault.TheVariants as faults

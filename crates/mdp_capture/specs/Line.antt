@@ -7,8 +7,8 @@ use Rattle.hex.specs.declared.error.FromHexError.{FromHexError}
 use Rattle.mdp_templates.specs.declared.instrument.Instrument.{Instrument}
 use Rattle.mdp_templates.specs.declared.instrument.InstrumentKind.{InstrumentKind}
 use Rattle.mdp_templates.specs.declared.instrument.InstrumentKind.TheVariants.{Outright, Calendar}
-use Rattle.mdp_capture.specs.declared.line.Feed.{Feed}
-use Rattle.mdp_capture.specs.declared.line.Feed.TheVariants as feeds
+use Rattle.mdp_templates.specs.declared.feed.Feed.{Feed}
+use Rattle.mdp_templates.specs.declared.feed.Feed.TheVariants as feeds
 use Rattle.mdp_capture.specs.declared.skip.Skip.{Skip}
 use Rattle.mdp_capture.specs.declared.skip.Skip.TheVariants.{LineForm, Hex, TooLong}
 

@@ -7,8 +7,8 @@ use Rattle.mdp_templates.specs.declared.instrument.Instrument.{Instrument}
 use Rattle.mdp_capture.specs.Capture.{CaptureContent}
 use Rattle.mdp_capture.specs.Line.{LineContent, Blank, Listing, Packet, Closing, Skipped, line_of}
 use Rattle.mdp_capture.specs.Record.{RecordContent, Received, Datagram, Close}
-use Rattle.mdp_capture.specs.declared.line.Feed.{Feed}
-use Rattle.mdp_capture.specs.declared.line.Feed.TheVariants as feeds
+use Rattle.mdp_templates.specs.declared.feed.Feed.{Feed}
+use Rattle.mdp_templates.specs.declared.feed.Feed.TheVariants as feeds
 use Rattle.mdp_capture.specs.declared.skip.Skip.{Skip}
 use Rattle.mdp_capture.specs.declared.skip.SkippedLine.{SkippedLine}
 

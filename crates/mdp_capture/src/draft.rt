@@ -13,11 +13,11 @@ ghost use Rattle.mdp_templates.specs.Instrument.{AreFit};
 
 use crate::capture::Capture;
 use crate::fault::{CaptureFault, CaptureRefusal};
-use crate::line::{Feed, Line};
+use crate::line::Line;
 use crate::record::Record;
 use crate::skip::{Skip, SkippedLine};
 use indexmap::IndexMap;
-use mdp_templates::{Instrument, InstrumentKind};
+use mdp_templates::{Feed, Instrument, InstrumentKind};
 use std::alloc::Allocator;
 use std::hash::{BuildHasherDefault, FoldHasher};
 

@@ -8,16 +8,8 @@ ghost use Rattle.mdp_capture.specs.Parsed.{content_of, fields_left};
 use crate::field::{id_of, is_letter, name_of, next_field};
 use crate::skip::Skip;
 use hex::FromHexError;
-use mdp_templates::{Instrument, InstrumentKind};
+use mdp_templates::{Feed, Instrument, InstrumentKind};
 use std::alloc::{AllocError, Allocator};
-
-/// The feed that a datagram came on: the incremental feeds A and B, or the snapshot feed S.
-#[derive(Clone, Copy, Debug, PartialEq, Eq)]
-pub(crate) enum Feed {
-    A,
-    B,
-    S,
-}
 
 /// What a line says.
 #[derive(Drop)]

@@ -14,13 +14,15 @@ use Rattle.mdp_books.specs.Feed.{Sent, sent_in, sent, behind, book_from, book_at
 use Rattle.mdp_books.proofs.Feeds.{behind-append}
 use Rattle.mdp_print.specs.Texts.{jump_line}
 use Rattle.mdp_engine.specs.Feed.{IsFeed, IsIn, IsJumpedTo}
-use Rattle.mdp_engine.specs.Lines.{Seen, lines_of, Step, Footing, footed, at_start, footings_through, footings, lines_from, owed, lines_after}
-use Rattle.mdp_engine.specs.Lines.Step.{pass, jump}
+use Rattle.mdp_desks.specs.Lines.{Seen, lines_of}
+use Rattle.mdp_engine.specs.Owed.{Step, Footing, footed, at_start, footings_through, footings, lines_from, owed, lines_after}
+use Rattle.mdp_engine.specs.Owed.Step.{pass, jump}
 use Rattle.mdp_arbiter.specs.Machine.{Move}
-use Rattle.mdp_engine.specs.Shown.{Start, Shown, started, shown, shown_through, is_shown, shown_seen, shown_at, shown_from, showed, shown_after, step_of, steps_of, opening}
+use Rattle.mdp_desks.specs.Shown.{Start, Shown, started, shown, shown_through, is_shown, shown_seen, shown_at, shown_from, showed, shown_after, opening}
+use Rattle.mdp_engine.specs.Owed.{step_of, steps_of}
 use Rattle.mdp_arbiter.specs.Machine.Move.{passed, jumped}
 use Rattle.mdp_engine.specs.Agreed.{start_of, AreOf, ShowsWhatIsOwed}
-use Rattle.mdp_engine.proofs.Showing.{shown-push}
+use Rattle.mdp_desks.proofs.Showing.{shown-push}
 use Rattle.mdp_engine.proofs.Fronts.{Heard, sent-split, behind-front, lines_shown}
 
 -- ---- what the steps bear

@@ -1,5 +1,5 @@
 -- What the moves show at their end, and what the complete feed has there.
-use Rattle.std.proofs.Common.{◌≡◌, ℕ, ◌+◌, ◌-◌, Bool, false, List, [], ◌∷◌, ◌++◌, map, take, refl, sym, ap, subst, ◌∙◌, append_assoc, arith, inl, inr}
+use Rattle.std.proofs.Common.{◌≡◌, ℤ, ℕ, ◌+◌, ◌-◌, Bool, false, List, [], ◌∷◌, ◌++◌, map, take, refl, sym, ap, subst, ◌∙◌, append_assoc, arith, inl, inr}
 use Rattle.std.specs.Prelude.{◌||◌, ◌&&◌, not, max, fold}
 use Rattle.std.specs.List.{AllZip, AllByRecursion}
 use Rattle.std.proofs.lemmas.Bool.Decides.{leb_tells}
@@ -12,13 +12,14 @@ use Rattle.mdp_books.proofs.Feeds.{book_at-append}
 use Rattle.mdp_arbiter.specs.Accepted.{Event}
 use Rattle.mdp_arbiter.specs.Machine.{Move, State, start, after, after_all, trace, state_at}
 use Rattle.mdp_arbiter.specs.Machine.Move.{passed, jumped}
-use Rattle.mdp_arbiter.specs.Slots.{ids_of}
-use Rattle.mdp_engine.specs.declared.desk.Desk.{Desk}
+use Rattle.mdp_arbiter.specs.Channel.{Channel, ids_of, channel_of}
+use Rattle.mdp_desks.specs.declared.desk.Desk.{Desk}
 use Rattle.mdp_engine.specs.Feed.{IsFeed, IsJumpedTo}
-use Rattle.mdp_engine.specs.Lines.{Footing, footed, at_start, footings_through, footings, lines}
-use Rattle.mdp_engine.specs.Shown.{Start, shown, shown_lines, steps_of, opening, book_since, is_due}
+use Rattle.mdp_engine.specs.Owed.{Footing, footed, at_start, footings_through, footings, lines}
+use Rattle.mdp_desks.specs.Shown.{Start, shown, shown_lines, opening, book_since, is_due}
+use Rattle.mdp_engine.specs.Owed.{steps_of}
 use Rattle.mdp_engine.specs.Agreed.{start_of, AreOf}
-use Rattle.mdp_engine.specs.Standing.{DeskShows}
+use Rattle.mdp_desks.specs.Standing.{DeskShows}
 use Rattle.mdp_engine.specs.Honest.{IsHonest}
 use Rattle.mdp_engine.specs.Engine.{View, IsSettled, Stands, is_owed, DeskStands, StandsUnder, StandsAlike}
 use Rattle.mdp_engine.proofs.Fronts.{same_mark, sent-split, behind-front}
@@ -165,12 +166,16 @@ record Ends (listed : List Instrument) (feed : List PacketContent) (next : ℕ) 
   pub listed_are : instruments (footings listed (steps_of moves)) ≡ listed
   pub text : shown_lines listed moves ≡ lines listed feed (steps_of moves)
 
-ends : (listed : List Instrument) (feed : List PacketContent) (es : List Event) (v : View) → IsHonest (ids_of listed) feed es → IsSettled listed es v.arbiter → Ends listed feed v.arbiter.next (trace v.arbiter.room (ids_of listed) es)
+listed_channel : (listed : List Instrument) (channel : Channel) → channel.ids ≡ ids_of listed → channel ≡ channel_of listed channel.room
+listed_channel listed channel is = ap (λ (ids : List ℤ). record { room = channel.room; ids = ids }) is
+
+ends : (listed : List Instrument) (feed : List PacketContent) (es : List Event) (v : View) → IsHonest (ids_of listed) feed es → IsSettled listed es v.arbiter → Ends listed feed v.arbiter.next (trace v.arbiter.channel es)
 ends listed feed es v honest settled =
-    let moves = trace v.arbiter.room (ids_of listed) es in
-    let are : AreOf listed feed 1 moves = honest_moves_agree listed feed v.arbiter.room es honest in
+    let moves = trace v.arbiter.channel es in
+    let are : AreOf listed feed 1 moves =
+    subst (λ (c : Channel). AreOf listed feed 1 (trace c es)) (sym (listed_channel listed v.arbiter.channel settled.ids)) (honest_moves_agree listed feed v.arbiter.channel.room es honest) in
     let opened : Agrees feed 1 (at_start listed) (shown listed []) = record { starts = start_starts feed listed; same = start_same (opening listed) } in
-    let there : Agrees feed (state_at v.arbiter.room (ids_of listed) es).next (footings listed (steps_of moves)) (shown listed moves) = agrees_on listed feed [] moves (start (ids_of listed)) honest.complete opened are in
+    let there : Agrees feed (state_at v.arbiter.channel es).next (footings listed (steps_of moves)) (shown listed moves) = agrees_on listed feed [] moves (start v.arbiter.channel) honest.complete opened are in
     let agrees : Agrees feed v.arbiter.next (footings listed (steps_of moves)) (shown listed moves) = subst (λ (s : State). Agrees feed s.next (footings listed (steps_of moves)) (shown listed moves)) (sym settled.state) there in
     record {
       fed = honest.complete;
@@ -182,7 +187,7 @@ ends listed feed es v honest settled =
 
 stands_under : (listed : List Instrument) (feed : List PacketContent) (es : List Event) (drained : List ℕ) (v : View) → IsHonest (ids_of listed) feed es → Stands listed es drained v → StandsUnder listed feed es drained v
 stands_under listed feed es drained v honest stands =
-    let moves = trace v.arbiter.room (ids_of listed) es in
+    let moves = trace v.arbiter.channel es in
     let fs = footings listed (steps_of moves) in
     let since = (shown listed moves).since in
     let at = ends listed feed es v honest stands.settled in
@@ -195,7 +200,7 @@ stands_under listed feed es drained v honest stands =
 
 stands_shown : (listed : List Instrument) (feed : List PacketContent) (es : List Event) (drained : List ℕ) (v : View) → IsHonest (ids_of listed) feed es → StandsUnder listed feed es drained v → Stands listed es drained v
 stands_shown listed feed es drained v honest stands =
-    let moves = trace v.arbiter.room (ids_of listed) es in
+    let moves = trace v.arbiter.channel es in
     let fs = footings listed (steps_of moves) in
     let since = (shown listed moves).since in
     let at = ends listed feed es v honest stands.settled in

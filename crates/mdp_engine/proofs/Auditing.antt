@@ -9,12 +9,14 @@ use Rattle.std.proofs.lemmas.Bool.Decides.{Decides-int_eq}
 use Rattle.mdp_templates.specs.declared.instrument.Instrument.{Instrument}
 use Rattle.mdp_templates.specs.declared.instrument.InstrumentKind.{InstrumentKind}
 use Rattle.mdp_templates.specs.declared.instrument.InstrumentKind.TheVariants.{Outright, Calendar}
-use Rattle.mdp_engine.specs.declared.desk.Desk.{Desk}
+use Rattle.mdp_desks.specs.declared.desk.Desk.{Desk}
 use Rattle.mdp_engine.specs.declared.spreads.Spread.{Spread}
-use Rattle.mdp_engine.specs.Slots.{listed_in, slot_in, spread_at, spread_in, spreads_from, with_spread, IsUnder}
-use Rattle.mdp_engine.specs.Lines.{Seen, seen_of, spread_text, legs_text, audit_text}
-use Rattle.mdp_engine.specs.Desks.{desk_standing, shown_there, spread_line}
-use Rattle.mdp_engine.proofs.Hearing.{ids_in, differ_tail, other_than}
+use Rattle.mdp_desks.specs.Beside.{listed_in}
+use Rattle.mdp_engine.specs.Spreads.{slot_in, spread_at, spread_in, spreads_from, with_spread, IsUnder}
+use Rattle.mdp_desks.specs.Lines.{Seen, seen_of, spread_text, legs_text, audit_text}
+use Rattle.mdp_desks.specs.Desks.{desk_standing}
+use Rattle.mdp_engine.specs.Spreads.{shown_there, spread_line}
+use Rattle.mdp_desks.proofs.Hearing.{ids_in, differ_tail, other_than, slot_under}
 
 -- ---- the place of a security
 
@@ -138,11 +140,6 @@ at_end k j seen d o1 o2 is = by_base (nat_lt d.base k)
     by_base : (b : Bool) → audit_text k j seen (cond b (Some (seen_as d)) None) ≡ spread_text k j (cond b (Some (seen_as d)) None) o1 o2
     by_base true = is
     by_base false = refl
-
-pub slot_under : (ids : List ℤ) (n : ℕ) (id : ℤ) → slice_get ids n ≡ Some id → n < length ids
-slot_under [] n id is = absurd cc
-slot_under (x ∷ ids) zero id is = omega arith
-slot_under (x ∷ ids) (suc n) id is = let less = slot_under ids n id is in omega (arith, less)
 
 desk_under : (ds : List Desk) (n : ℕ) (d : Desk) → slice_get ds n ≡ Some d → n < length ds
 desk_under [] n d is = absurd cc

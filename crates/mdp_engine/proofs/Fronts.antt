@@ -10,10 +10,11 @@ use Rattle.mdp_books.specs.declared.book.Book.{Book}
 use Rattle.mdp_books.specs.Feed.{Sent, sent_as, sent_from, sent_in, sent, book_from, book_at, since_end, touches, has_end, behind}
 use Rattle.mdp_books.proofs.Feeds.{behind-append, behind-push, book_at-append}
 use Rattle.mdp_engine.specs.Feed.{NumberedFrom, IsFeed}
-use Rattle.mdp_engine.specs.Lines.{Seen, Footing, is_printed, seen_at, lines_of, lines_at, lines_from}
-use Rattle.mdp_engine.specs.Shown.{book_since, is_shown, shown_seen, shown_at, shown_from}
+use Rattle.mdp_desks.specs.Lines.{Seen, lines_of}
+use Rattle.mdp_engine.specs.Owed.{Footing, is_printed, seen_at, lines_at, lines_from}
+use Rattle.mdp_desks.specs.Shown.{book_since, is_shown, shown_seen, shown_at, shown_from}
 use Rattle.mdp_engine.specs.Agreed.{start_of}
-use Rattle.mdp_engine.proofs.Marks.{or-true}
+use Rattle.mdp_desks.proofs.Marks.{or-true}
 
 -- ---- marks
 

@@ -1,7 +1,4 @@
-pub mod Marks
-pub mod Showing
 pub mod Fronts
-pub mod Hearing
 pub mod Agreeing
 pub mod Honesty
 pub mod Alike
@@ -9,4 +6,9 @@ pub mod HonestFeeds
 pub mod Moving
 pub mod Under
 pub mod Auditing
-pub mod Passing
+pub mod Merging
+pub mod Keeping
+pub mod Telling
+pub mod Collecting
+pub mod Ascending
+pub mod Batching

@@ -10,37 +10,39 @@ use Rattle.mdp_print.specs.Texts.{jump_line}
 use Rattle.mdp_arbiter.specs.Accepted.{Event, newest_snapshots, newest_snapshot}
 use Rattle.mdp_arbiter.specs.Machine.{State, Move, Settles, start, next_move, after, after_all, state_at, trace}
 use Rattle.mdp_arbiter.specs.Machine.Move.{passed, jumped}
-use Rattle.mdp_arbiter.specs.Slots.{ids_of}
-use Rattle.mdp_arbiter.specs.Standing.{View as ArbiterView, StandsAt, IsSameChannel, Answers, StepsAs, after_move, state}
+use Rattle.mdp_arbiter.specs.Channel.{Channel, ids_of}
+use Rattle.mdp_arbiter.specs.Arbiter.{View as ArbiterView, state}
+use Rattle.mdp_arbiter.specs.Moves.{Answers, after_move}
+use Rattle.mdp_arbiter.specs.Standing.{StandsAt, StepsAs}
 use Rattle.mdp_arbiter.specs.declared.step.Step.{Step}
 use Rattle.mdp_arbiter.specs.declared.step.Step.TheVariants.{Pass, Jump}
 use Rattle.mdp_arbiter.proofs.Jumps.{law_of_jumps}
 use Rattle.mdp_arbiter.proofs.Runs.{law_of_events}
-use Rattle.mdp_engine.specs.declared.desk.Desk.{Desk}
-use Rattle.mdp_engine.specs.Desks.{desk_at_start, passed_desks, passed_text, rebased_desks}
-use Rattle.mdp_engine.specs.Standing.{Shows}
+use Rattle.mdp_desks.specs.declared.desk.Desk.{Desk}
+use Rattle.mdp_desks.specs.Desks.{desk_at_start, passed_desks, passed_text, rebased_desks}
+use Rattle.mdp_desks.specs.Standing.{Shows}
 use Rattle.mdp_engine.specs.Steps.{stepped_desks, stepped_text}
 use Rattle.mdp_engine.specs.Engine.{View, Stands, IsUnderWay, Advances}
-use Rattle.mdp_engine.proofs.Showing.{shows_nothing, shows_passed, shows_jumped}
+use Rattle.mdp_desks.proofs.Showing.{shows_nothing, shows_passed, shows_jumped}
 
 -- ---- possible moves, one after another
 
 -- each of these moves is the possible one, and they lead from one state to the other
-abbrev pub Leads : ℕ → List ℤ → List Event → State → List Move → State → Type 0
-Leads room ids es s [] to = to ≡ s
-Leads room ids es s (m ∷ ms) to = (next_move room ids es s ≡ Some m) × Leads room ids es (after s m) ms to
+abbrev pub Leads : Channel → List Event → State → List Move → State → Type 0
+Leads channel es s [] to = to ≡ s
+Leads channel es s (m ∷ ms) to = (next_move channel es s ≡ Some m) × Leads channel es (after s m) ms to
 
-leads-push : (room : ℕ) (ids : List ℤ) (es : List Event) (s : State) (ms : List Move) (to further : State) (m : Move)
-    → Leads room ids es s ms to → next_move room ids es to ≡ Some m → further ≡ after to m → Leads room ids es s (ms ++ m ∷ []) further
-leads-push room ids es s [] to further m leads possible on =
-    (ap (next_move room ids es) (sym leads) ∙ possible, on ∙ ap (λ (t : State). after t m) leads)
-leads-push room ids es s (x ∷ ms) to further m leads possible on = (leads.0, leads-push room ids es (after s x) ms to further m leads.1 possible on)
+leads-push : (channel : Channel) (es : List Event) (s : State) (ms : List Move) (to further : State) (m : Move)
+    → Leads channel es s ms to → next_move channel es to ≡ Some m → further ≡ after to m → Leads channel es s (ms ++ m ∷ []) further
+leads-push channel es s [] to further m leads possible on =
+    (ap (next_move channel es) (sym leads) ∙ possible, on ∙ ap (λ (t : State). after t m) leads)
+leads-push channel es s (x ∷ ms) to further m leads possible on = (leads.0, leads-push channel es (after s x) ms to further m leads.1 possible on)
 
-leads_settled : (room : ℕ) (ids : List ℤ) (es : List Event) (s : State) (ms : List Move) (to : State)
-    → Leads room ids es s ms to → next_move room ids es to ≡ None → Settles room ids es s ms × (to ≡ after_all s ms)
-leads_settled room ids es s [] to leads none = (ap (next_move room ids es) (sym leads) ∙ none, leads)
-leads_settled room ids es s (m ∷ ms) to leads none =
-    let rest = leads_settled room ids es (after s m) ms to leads.1 none in
+leads_settled : (channel : Channel) (es : List Event) (s : State) (ms : List Move) (to : State)
+    → Leads channel es s ms to → next_move channel es to ≡ None → Settles channel es s ms × (to ≡ after_all s ms)
+leads_settled channel es s [] to leads none = (ap (next_move channel es) (sym leads) ∙ none, leads)
+leads_settled channel es s (m ∷ ms) to leads none =
+    let rest = leads_settled channel es (after s m) ms to leads.1 none in
     ((leads.0, rest.0), rest.1)
 
 -- ---- one move
@@ -48,7 +50,7 @@ leads_settled room ids es s (m ∷ ms) to leads none =
 -- a move that was possible, what it leaves of the state, and that it is shown
 record IsShown (listed : List Instrument) (es : List Event) (moves : List Move) (drained : List ℕ) (now : View) (mid : ArbiterView) (desks : List Desk) (held : List ℕ) : Type 0 where
   move : Move
-  possible : next_move now.arbiter.room now.arbiter.ids es (state now.arbiter) ≡ Some move
+  possible : next_move now.arbiter.channel es (state now.arbiter) ≡ Some move
   state : state mid ≡ after (state now.arbiter) move
   shows : Shows listed (moves ++ move ∷ []) desks (drained ++ held)
 
@@ -59,7 +61,7 @@ as_many listed ids es snapshots are newest =
     ∙ ap length are ∙ length-map listed (λ (i : Instrument). i.id)
 
 shown_step : {A : Type 0} (listed : List Instrument) (es : List Event) (moves : List Move) (drained : List ℕ) (now : View) (mid : ArbiterView) (desks : List Desk) (held : List ℕ) (step : Step A) (m : Option Move)
-    → next_move now.arbiter.room now.arbiter.ids es (state now.arbiter) ≡ m → Answers m (Some step) → state mid ≡ after_move (state now.arbiter) m
+    → next_move now.arbiter.channel es (state now.arbiter) ≡ m → Answers m (Some step) → state mid ≡ after_move (state now.arbiter) m
     → IsUnderWay listed es moves drained now → desks ≡ stepped_desks step mid.bases now.desks → held ≡ now.held ++ stepped_text step now.desks
     → IsShown listed es moves drained now mid desks held
 shown_step listed es moves drained now mid desks held step None possible answers next under are more = elim answers [ ]
@@ -71,8 +73,8 @@ shown_step listed es moves drained now mid desks held (Pass q) (Some (passed p))
     record { move = passed p; possible = possible; state = next; shows = shows_passed listed moves p now.desks desks (drained ++ now.held) (drained ++ held) same text under.shows }
 shown_step listed es moves drained now mid desks held (Jump from to) (Some (jumped old new snapshots)) possible answers next under are more =
     let bases : mid.bases ≡ map (λ (s : SnapshotContent). Some s) snapshots = ap (λ (s : State). s.bases) next in
-    let recovery = law_of_jumps now.arbiter.room now.arbiter.ids es (state now.arbiter) old new snapshots possible in
-    let many : length snapshots ≡ length listed = as_many listed now.arbiter.ids es snapshots under.ids recovery.newest in
+    let recovery = law_of_jumps now.arbiter.channel es (state now.arbiter) old new snapshots possible in
+    let many : length snapshots ≡ length listed = as_many listed now.arbiter.channel.ids es snapshots under.ids recovery.newest in
     let same : desks ≡ rebased_desks (map (λ (s : SnapshotContent). Some s) snapshots) now.desks = are ∙ ap (λ (b : List (Option SnapshotContent)). rebased_desks b now.desks) bases in
     let line : jump_line from to ≡ jump_line old new = ap (λ (n : ℕ). jump_line n to) answers.0 ∙ ap (jump_line old) answers.1 in
     let text : drained ++ held ≡ (drained ++ now.held) ++ jump_line old new =
@@ -85,7 +87,7 @@ shown_step listed es moves drained now mid desks held (Jump from to) (Some (pass
 
 pub record HasMade (listed : List Instrument) (es : List Event) (moves : List Move) (drained : List ℕ) (old now : View) : Type 0 where
   pub made : List Move
-  pub leads : Leads old.arbiter.room (ids_of listed) es (state old.arbiter) made (state now.arbiter)
+  pub leads : Leads old.arbiter.channel es (state old.arbiter) made (state now.arbiter)
   pub under_way : IsUnderWay listed es (moves ++ made) drained now
 
 abbrev pub MovesTo : View → View → Type 0
@@ -95,56 +97,54 @@ pub moves_nowhere : (v : View) → MovesTo v v
 moves_nowhere v = λ listed es moves drained under. record { made = []; leads = refl; under_way = subst (λ (ms : List Move). IsUnderWay listed es ms drained v) (sym (append-nil moves)) under }
 
 move_on : {A : Type 0} (old now new : View) (mid : ArbiterView) (step : Step A) (listed : List Instrument) (es : List Event) (moves : List Move) (drained : List ℕ)
-    → now.arbiter.room ≡ old.arbiter.room → StepsAs es now.arbiter mid (Some step) → IsSameChannel now.arbiter mid
+    → now.arbiter.channel ≡ old.arbiter.channel → StepsAs es now.arbiter mid (Some step) → mid.channel ≡ now.arbiter.channel
     → new.desks ≡ stepped_desks step mid.bases now.desks → new.held ≡ now.held ++ stepped_text step now.desks → new.arbiter ≡ mid
     → HasMade listed es moves drained old now → HasMade listed es moves drained old new
-move_on old now new mid step listed es moves drained room steps channel desks held arbiter so_far =
-    let s = shown_step listed es (moves ++ so_far.made) drained now mid new.desks new.held step (next_move now.arbiter.room now.arbiter.ids es (state now.arbiter)) refl steps.answer steps.state so_far.under_way desks held in
-    let possible : next_move old.arbiter.room (ids_of listed) es (state now.arbiter) ≡ Some s.move =
-    ap (λ (r : ℕ). next_move r (ids_of listed) es (state now.arbiter)) (sym room)
-    ∙ ap (λ (ids : List ℤ). next_move now.arbiter.room ids es (state now.arbiter)) (sym so_far.under_way.ids) ∙ s.possible in
+move_on old now new mid step listed es moves drained kept steps channel desks held arbiter so_far =
+    let s = shown_step listed es (moves ++ so_far.made) drained now mid new.desks new.held step (next_move now.arbiter.channel es (state now.arbiter)) refl steps.answer steps.state so_far.under_way desks held in
+    let possible : next_move old.arbiter.channel es (state now.arbiter) ≡ Some s.move =
+    ap (λ (c : Channel). next_move c es (state now.arbiter)) (sym kept) ∙ s.possible in
     let next : state new.arbiter ≡ after (state now.arbiter) s.move = ap state arbiter ∙ s.state in
     record {
       made = so_far.made ++ s.move ∷ [];
-      leads = leads-push old.arbiter.room (ids_of listed) es (state old.arbiter) so_far.made (state now.arbiter) (state new.arbiter) s.move so_far.leads possible next;
+      leads = leads-push old.arbiter.channel es (state old.arbiter) so_far.made (state now.arbiter) (state new.arbiter) s.move so_far.leads possible next;
       under_way = record {
         stands = subst (StandsAt es) (sym arbiter) steps.stands;
-        ids = ap (λ (v : ArbiterView). v.ids) arbiter ∙ channel.ids ∙ so_far.under_way.ids;
+        ids = ap (λ (v : ArbiterView). v.channel.ids) arbiter ∙ ap (λ (c : Channel). c.ids) channel ∙ so_far.under_way.ids;
         shows = subst (λ (ms : List Move). Shows listed ms new.desks (drained ++ new.held)) (append_assoc moves so_far.made (s.move ∷ [])) s.shows;
       };
     }
 
 -- a step more
-pub moves_further : {A : Type 0} (old now new : View) (mid : ArbiterView) (step : Step A) → MovesTo old now → now.arbiter.room ≡ old.arbiter.room
-    → ((es : List Event) → StandsAt es now.arbiter → StepsAs es now.arbiter mid (Some step)) → IsSameChannel now.arbiter mid
+pub moves_further : {A : Type 0} (old now new : View) (mid : ArbiterView) (step : Step A) → MovesTo old now → now.arbiter.channel ≡ old.arbiter.channel
+    → ((es : List Event) → StandsAt es now.arbiter → StepsAs es now.arbiter mid (Some step)) → mid.channel ≡ now.arbiter.channel
     → new.desks ≡ stepped_desks step mid.bases now.desks → new.held ≡ now.held ++ stepped_text step now.desks → new.arbiter ≡ mid → MovesTo old new
-moves_further old now new mid step so_far room steps channel desks held arbiter listed es moves drained under =
+moves_further old now new mid step so_far kept steps channel desks held arbiter listed es moves drained under =
     let made = so_far listed es moves drained under in
-    move_on old now new mid step listed es moves drained room (steps es made.under_way.stands) channel desks held arbiter made
+    move_on old now new mid step listed es moves drained kept (steps es made.under_way.stands) channel desks held arbiter made
 
 no_move : {A : Type 0} (m : Option Move) (step : Option (Step A)) → step ≡ None → Answers m step → m ≡ None
 no_move None step is answers = refl
 no_move (Some m) step is answers = elim (subst (Answers (Some m)) is answers) [ ]
 
 -- no step more
-pub moves_settled : {A : Type 0} (old now new : View) (step : Option (Step A)) → step ≡ None → MovesTo old now → now.arbiter.room ≡ old.arbiter.room
-    → ((es : List Event) → StandsAt es now.arbiter → StepsAs es now.arbiter new.arbiter step) → IsSameChannel now.arbiter new.arbiter
+pub moves_settled : {A : Type 0} (old now new : View) (step : Option (Step A)) → step ≡ None → MovesTo old now → now.arbiter.channel ≡ old.arbiter.channel
+    → ((es : List Event) → StandsAt es now.arbiter → StepsAs es now.arbiter new.arbiter step) → new.arbiter.channel ≡ now.arbiter.channel
     → new.desks ≡ now.desks → new.held ≡ now.held → Advances old new
-moves_settled old now new step is so_far room steps channel desks held listed es moves drained under =
+moves_settled old now new step is so_far kept steps channel desks held listed es moves drained under =
     let so = so_far listed es moves drained under in
     let s = steps es so.under_way.stands in
-    let still : next_move now.arbiter.room now.arbiter.ids es (state now.arbiter) ≡ None = no_move (next_move now.arbiter.room now.arbiter.ids es (state now.arbiter)) step is s.answer in
-    let none_more : next_move old.arbiter.room (ids_of listed) es (state now.arbiter) ≡ None =
-    ap (λ (r : ℕ). next_move r (ids_of listed) es (state now.arbiter)) (sym room)
-    ∙ ap (λ (ids : List ℤ). next_move now.arbiter.room ids es (state now.arbiter)) (sym so.under_way.ids) ∙ still in
-    let settled = leads_settled old.arbiter.room (ids_of listed) es (state old.arbiter) so.made (state now.arbiter) so.leads none_more in
+    let still : next_move now.arbiter.channel es (state now.arbiter) ≡ None = no_move (next_move now.arbiter.channel es (state now.arbiter)) step is s.answer in
+    let none_more : next_move old.arbiter.channel es (state now.arbiter) ≡ None =
+    ap (λ (c : Channel). next_move c es (state now.arbiter)) (sym kept) ∙ still in
+    let settled = leads_settled old.arbiter.channel es (state old.arbiter) so.made (state now.arbiter) so.leads none_more in
     record {
       made = so.made;
       settles = settled.0;
       state = s.state ∙ ap (after_move (state now.arbiter)) still ∙ settled.1;
       under_way = record {
         stands = s.stands;
-        ids = channel.ids ∙ so.under_way.ids;
+        ids = ap (λ (c : Channel). c.ids) channel ∙ so.under_way.ids;
         shows =
             subst (λ (ds : List Desk). Shows listed (moves ++ so.made) ds (drained ++ new.held)) (sym desks)
             (subst (λ (h : List ℕ). Shows listed (moves ++ so.made) now.desks (drained ++ h)) (sym held) so.under_way.shows);
@@ -154,45 +154,44 @@ moves_settled old now new step is so_far room steps channel desks held listed es
 -- ---- an event
 
 pub stands_further : (listed : List Instrument) (es : List Event) (e : Event) (drained : List ℕ) (old mid new : View)
-    → StandsAt (es ++ e ∷ []) mid.arbiter → state mid.arbiter ≡ state old.arbiter → IsSameChannel old.arbiter mid.arbiter → mid.desks ≡ old.desks → mid.held ≡ old.held
-    → new.arbiter.room ≡ mid.arbiter.room → Advances mid new → Stands listed es drained old → Stands listed (es ++ e ∷ []) drained new
-stands_further listed es e drained old mid new taken keeps channel desks held room advances stands =
-    let ids = ids_of listed in
-    let before = trace old.arbiter.room ids es in
+    → StandsAt (es ++ e ∷ []) mid.arbiter → state mid.arbiter ≡ state old.arbiter → mid.arbiter.channel ≡ old.arbiter.channel → mid.desks ≡ old.desks → mid.held ≡ old.held
+    → new.arbiter.channel ≡ mid.arbiter.channel → Advances mid new → Stands listed es drained old → Stands listed (es ++ e ∷ []) drained new
+stands_further listed es e drained old mid new taken keeps channel desks held kept advances stands =
+    let before = trace old.arbiter.channel es in
     let under : IsUnderWay listed (es ++ e ∷ []) before drained mid = record {
       stands = taken;
-      ids = channel.ids ∙ stands.settled.ids;
+      ids = ap (λ (c : Channel). c.ids) channel ∙ stands.settled.ids;
       shows =
           subst (λ (ds : List Desk). Shows listed before ds (drained ++ mid.held)) (sym desks)
           (subst (λ (h : List ℕ). Shows listed before old.desks (drained ++ h)) (sym held) stands.shows);
     } in
     let moved = advances listed (es ++ e ∷ []) before drained under in
-    let settles : Settles old.arbiter.room ids (es ++ e ∷ []) (state_at old.arbiter.room ids es) moved.made =
-    subst (λ (s : State). Settles old.arbiter.room ids (es ++ e ∷ []) s moved.made) (keeps ∙ stands.settled.state)
-    (subst (λ (r : ℕ). Settles r ids (es ++ e ∷ []) (state mid.arbiter) moved.made) channel.room moved.settles) in
-    let law = law_of_events old.arbiter.room ids es e moved.made settles in
-    let same : new.arbiter.room ≡ old.arbiter.room = room ∙ channel.room in
+    let settles : Settles old.arbiter.channel (es ++ e ∷ []) (state_at old.arbiter.channel es) moved.made =
+    subst (λ (s : State). Settles old.arbiter.channel (es ++ e ∷ []) s moved.made) (keeps ∙ stands.settled.state)
+    (subst (λ (c : Channel). Settles c (es ++ e ∷ []) (state mid.arbiter) moved.made) channel moved.settles) in
+    let law = law_of_events old.arbiter.channel es e moved.made settles in
+    let same : new.arbiter.channel ≡ old.arbiter.channel = kept ∙ channel in
     record {
       settled = record {
         stands = moved.under_way.stands;
         ids = moved.under_way.ids;
         state =
             moved.state ∙ ap (λ (s : State). after_all s moved.made) (keeps ∙ stands.settled.state) ∙ sym law.1
-            ∙ ap (λ (r : ℕ). state_at r ids (es ++ e ∷ [])) (sym same);
+            ∙ ap (λ (c : Channel). state_at c (es ++ e ∷ [])) (sym same);
       };
       shows =
-          subst (λ (r : ℕ). Shows listed (trace r ids (es ++ e ∷ [])) new.desks (drained ++ new.held)) (sym same)
+          subst (λ (c : Channel). Shows listed (trace c (es ++ e ∷ [])) new.desks (drained ++ new.held)) (sym same)
           (subst (λ (ms : List Move). Shows listed ms new.desks (drained ++ new.held)) (sym law.0) moved.under_way.shows);
     }
 
 -- before any event
 pub stands_at_start : (listed : List Instrument) (arbiter : ArbiterView) (desks : List Desk) (v : View) → v.arbiter ≡ arbiter → v.desks ≡ desks → v.held ≡ []
-    → StandsAt [] arbiter → state arbiter ≡ start arbiter.ids → arbiter.ids ≡ ids_of listed → desks ≡ map desk_at_start listed → Stands listed [] [] v
+    → StandsAt [] arbiter → state arbiter ≡ start arbiter.channel → arbiter.channel.ids ≡ ids_of listed → desks ≡ map desk_at_start listed → Stands listed [] [] v
 stands_at_start listed arbiter desks v arb ds held stands begins ids are = record {
   settled = record {
     stands = subst (StandsAt []) (sym arb) stands;
-    ids = ap (λ (a : ArbiterView). a.ids) arb ∙ ids;
-    state = ap state arb ∙ begins ∙ ap start ids;
+    ids = ap (λ (a : ArbiterView). a.channel.ids) arb ∙ ids;
+    state = ap state arb ∙ begins ∙ ap (λ (a : ArbiterView). start a.channel) (sym arb);
   };
   shows = subst (λ (h : List ℕ). Shows listed [] v.desks h) (sym held) (shows_nothing listed v.desks (ds ∙ are));
 }

@@ -6,9 +6,10 @@ use Rattle.mdp_templates.specs.Snapshot.{SnapshotContent}
 use Rattle.mdp_templates.specs.declared.instrument.Instrument.{Instrument}
 use Rattle.mdp_books.specs.Feed.{sent, book_at}
 use Rattle.mdp_engine.specs.Feed.{IsFeed, IsIn, IsJumpedTo}
-use Rattle.mdp_engine.specs.Lines.{Footing, lines}
+use Rattle.mdp_engine.specs.Owed.{Footing, lines}
 use Rattle.mdp_arbiter.specs.Machine.{Move}
-use Rattle.mdp_engine.specs.Shown.{Start, shown_lines, steps_of}
+use Rattle.mdp_desks.specs.Shown.{Start, shown_lines}
+use Rattle.mdp_engine.specs.Owed.{steps_of}
 use Rattle.mdp_arbiter.specs.Machine.Move.{passed, jumped}
 
 -- From packet `next` on, each packet that passes is the feed's next, and a jump's snapshots are books of the feed that

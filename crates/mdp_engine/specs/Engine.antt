@@ -7,13 +7,15 @@ use Rattle.mdp_templates.specs.declared.instrument.Instrument.{Instrument}
 use Rattle.mdp_books.specs.Feed.{Sent, sent, book_at, since_end, touches, has_end, behind}
 use Rattle.mdp_arbiter.specs.Accepted.{Event}
 use Rattle.mdp_arbiter.specs.Machine.{Move, Settles, after_all, trace, state_at}
-use Rattle.mdp_arbiter.specs.Slots.{ids_of}
-use Rattle.mdp_arbiter.specs.Standing.{View as ArbiterView, view_code as arbiter_code, StandsAt, state}
-use Rattle.mdp_engine.specs.declared.desk.Desk.{Desk}
-use Rattle.mdp_engine.specs.contracts.desk.Desk as desk
-use Rattle.mdp_engine.specs.Lines.{Footing, footings, lines}
-use Rattle.mdp_engine.specs.Shown.{steps_of}
-use Rattle.mdp_engine.specs.Standing.{Shows}
+use Rattle.mdp_arbiter.specs.Channel.{ids_of}
+use Rattle.mdp_arbiter.specs.Arbiter.{View as ArbiterView, state}
+use Rattle.mdp_arbiter.specs.Codes.{view_code as arbiter_code}
+use Rattle.mdp_arbiter.specs.Standing.{StandsAt}
+use Rattle.mdp_desks.specs.declared.desk.Desk.{Desk}
+use Rattle.mdp_desks.specs.contracts.desk.Desk as desk
+use Rattle.mdp_engine.specs.Owed.{Footing, footings, lines}
+use Rattle.mdp_engine.specs.Owed.{steps_of}
+use Rattle.mdp_desks.specs.Standing.{Shows}
 use Rattle.mdp_engine.specs.Honest.{IsHonest}
 
 -- an engine as contracts see it: its arbiter, its desks, the lines that it holds, and whether memory ran out
@@ -35,13 +37,13 @@ view_code =
 -- its arbiter stands at the events and has made all their moves
 pub record IsSettled (listed : List Instrument) (es : List Event) (v : ArbiterView) : Type 0 where
   pub stands : StandsAt es v
-  pub ids : v.ids ≡ ids_of listed
-  pub state : state v ≡ state_at v.room (ids_of listed) es
+  pub ids : v.channel.ids ≡ ids_of listed
+  pub state : state v ≡ state_at v.channel es
 
 -- An engine stands at these events, of which this text was drained: its desks and its text are what the moves show.
 pub record Stands (listed : List Instrument) (es : List Event) (drained : List ℕ) (v : View) : Type 0 where
   pub settled : IsSettled listed es v.arbiter
-  pub shows : Shows listed (trace v.arbiter.room (ids_of listed) es) v.desks (drained ++ v.held)
+  pub shows : Shows listed (trace v.arbiter.channel es) v.desks (drained ++ v.held)
 
 -- A security is to be printed at the next event end behind its base: an entry has named it since the last event end,
 -- or there was a jump and no event end behind the base yet.
@@ -59,8 +61,8 @@ pub record DeskStands (feed : List PacketContent) (next : ℕ) (i : Footing) (de
 -- and its text is the lines that the feed owes for the moves so far.
 pub record StandsUnder (listed : List Instrument) (feed : List PacketContent) (es : List Event) (drained : List ℕ) (v : View) : Type 0 where
   pub settled : IsSettled listed es v.arbiter
-  pub desks : AllZip (DeskStands feed v.arbiter.next) (footings listed (steps_of (trace v.arbiter.room (ids_of listed) es))) v.desks
-  pub text : drained ++ v.held ≡ lines listed feed (steps_of (trace v.arbiter.room (ids_of listed) es))
+  pub desks : AllZip (DeskStands feed v.arbiter.next) (footings listed (steps_of (trace v.arbiter.channel es))) v.desks
+  pub text : drained ++ v.held ≡ lines listed feed (steps_of (trace v.arbiter.channel es))
 
 -- Under a complete feed that the events agree with, what the moves show is what the feed has, and the other way round.
 abbrev pub StandsAlike : Type 0
@@ -72,13 +74,13 @@ StandsAlike = (listed : List Instrument) (feed : List PacketContent) (es : List 
 -- an engine has taken in these events and shown these moves, and may make more
 pub record IsUnderWay (listed : List Instrument) (es : List Event) (moves : List Move) (drained : List ℕ) (v : View) : Type 0 where
   pub stands : StandsAt es v.arbiter
-  pub ids : v.arbiter.ids ≡ ids_of listed
+  pub ids : v.arbiter.channel.ids ≡ ids_of listed
   pub shows : Shows listed moves v.desks (drained ++ v.held)
 
 -- from one view to another the moves that are possible were made, until none is, and shown
 pub record HasMoved (listed : List Instrument) (es : List Event) (moves : List Move) (drained : List ℕ) (old new : View) : Type 0 where
   pub made : List Move
-  pub settles : Settles old.arbiter.room (ids_of listed) es (state old.arbiter) made
+  pub settles : Settles old.arbiter.channel es (state old.arbiter) made
   pub state : state new.arbiter ≡ after_all (state old.arbiter) made
   pub under_way : IsUnderWay listed es (moves ++ made) drained new
 

@@ -6,7 +6,7 @@ use Rattle.mdp_templates.specs.Snapshot.{SnapshotContent}
 use Rattle.mdp_templates.specs.declared.instrument.Instrument.{Instrument}
 use Rattle.mdp_arbiter.specs.Accepted.{Event, accepted_packets, accepted_snapshots, first_of, newest_snapshot}
 use Rattle.mdp_arbiter.specs.Machine.{trace}
-use Rattle.mdp_arbiter.specs.Slots.{ids_of}
+use Rattle.mdp_arbiter.specs.Channel.{ids_of, channel_of}
 use Rattle.mdp_engine.specs.Feed.{IsFeed, IsIn, IsSnapshotOf}
 use Rattle.mdp_engine.specs.Agreed.{AreOf}
 
@@ -19,7 +19,8 @@ pub record IsHonest (ids : List ℤ) (feed : List PacketContent) (es : List Even
 
 -- the moves of honest events are the complete feed's
 abbrev pub HonestMovesAgree : Type 0
-HonestMovesAgree = (listed : List Instrument) (feed : List PacketContent) (room : ℕ) (es : List Event) → IsHonest (ids_of listed) feed es → AreOf listed feed 1 (trace room (ids_of listed) es)
+HonestMovesAgree = (listed : List Instrument) (feed : List PacketContent) (room : ℕ) (es : List Event)
+    → IsHonest (ids_of listed) feed es → AreOf listed feed 1 (trace (channel_of listed room) es)
 
 -- Where each packet has a number that a complete feed can have, and no snapshot is of one of these securities, there
 -- is a complete feed that the events agree with.

@@ -1,10 +1,9 @@
 pub mod Feed
-pub mod Lines
-pub mod Shown
+pub mod Owed
 pub mod Agreed
-pub mod Desks
-pub mod Standing
-pub mod Slots
+pub mod Spreads
 pub mod Honest
 pub mod Engine
 pub mod Steps
+pub mod Rounds
+pub mod RoundLaws

@@ -7,10 +7,10 @@ use Rattle.mdp_arbiter.specs.Accepted.{Event as Accepted}
 use Rattle.mdp_arbiter.specs.Accepted.Event.{came, recovered, closed}
 use Rattle.mdp_arbiter.specs.declared.step.Step.{Step}
 use Rattle.mdp_arbiter.specs.declared.step.Step.TheVariants.{Pass, Jump}
-use Rattle.mdp_engine.specs.declared.desk.Desk.{Desk}
+use Rattle.mdp_desks.specs.declared.desk.Desk.{Desk}
 use Rattle.mdp_engine.specs.declared.event.Event.{Event}
 use Rattle.mdp_engine.specs.declared.event.Event.TheVariants.{Packet, Snapshot, Close}
-use Rattle.mdp_engine.specs.Desks.{passed_desks, passed_text, rebased_desks}
+use Rattle.mdp_desks.specs.Desks.{passed_desks, passed_text, rebased_desks}
 
 -- the event of the recovery machine that came
 abbrev pub event_of : {A : Type 0} → Event A → Accepted

@@ -2,16 +2,16 @@
 
 ghost use Rattle.std.specs.Prelude.{◌≡◌, ◌++◌, ◌&&◌, ◌||◌, nat_lt, map, length, OnOk};
 ghost use Rattle.std.specs.List.{flat_map};
-ghost use Rattle.mdp_arbiter.specs.Slots.{ids_of};
 ghost use Rattle.mdp_quotes.specs.Best.{best_of};
-ghost use Rattle.mdp_engine.specs.Desks.{desk_standing, spread_line};
-ghost use Rattle.mdp_engine.specs.Lines.{verdicts_text, spread_text, audit_text};
-ghost use Rattle.mdp_engine.specs.Slots.{listed_in, marks_of, AreSlotsOf, IsUnder};
+ghost use Rattle.mdp_desks.specs.Desks.{desk_standing};
+ghost use Rattle.mdp_engine.specs.Spreads.{spread_line};
+ghost use Rattle.mdp_desks.specs.Lines.{verdicts_text, spread_text, audit_text};
+ghost use Rattle.mdp_desks.specs.Beside.{listed_in, marks_of};
+ghost use Rattle.mdp_engine.specs.Spreads.{AreSpreadsOf, IsUnder};
 
-use crate::desk::Desk;
-use crate::marked::Marked;
 use crate::spreads::Spread;
 use mdp_books::Book;
+use mdp_desks::{Desk, Marked};
 use mdp_print::put_audit;
 use mdp_quotes::{Best, audit};
 use mdp_templates::Memory;
@@ -122,7 +122,7 @@ pub(crate) fn put_audits<A: Allocator>(
     spreads: &[Spread],
 ) -> Result<(), Memory>
     requires marks { marked.now ≡ marks_of desks.now }
-    requires slots { AreSlotsOf (listed_in desks.now) (ids_of (listed_in desks.now)) spreads.now }
+    requires spreads { AreSpreadsOf (listed_in desks.now) spreads.now }
     ensures { OnOk result (out.new.items ≡ out.old.items ++ flat_map (audit_text packet message (map (desk_standing packet) desks.now)) (map (desk_standing packet) desks.now)) }
 {
     for spread in spreads {

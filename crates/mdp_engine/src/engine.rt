@@ -7,16 +7,17 @@ ghost use Rattle.mdp_templates.specs.Instrument.{AreFit};
 ghost use Rattle.mdp_templates.specs.declared.instrument.Instrument.{Instrument};
 ghost use Rattle.mdp_arbiter.specs.Accepted.{Event as Accepted};
 ghost use Rattle.mdp_arbiter.specs.Machine.{State, is_lost, state_at, trace};
-ghost use Rattle.mdp_arbiter.specs.Slots.{ids_of};
-ghost use Rattle.mdp_arbiter.specs.Standing.{IsSameChannel, StandsAt, state};
+ghost use Rattle.mdp_arbiter.specs.Channel.{ids_of, channel_of};
+ghost use Rattle.mdp_arbiter.specs.Arbiter.{is_lost_now, state};
+ghost use Rattle.mdp_arbiter.specs.Standing.{StandsAt};
 ghost use Rattle.mdp_engine.specs.Engine.{Advances, Stands, StandsUnder};
 ghost use Rattle.mdp_engine.specs.Feed.{IsFeed};
 ghost use Rattle.mdp_engine.specs.Honest.{IsHonest};
-ghost use Rattle.mdp_engine.specs.Lines.{lines};
-ghost use Rattle.mdp_engine.specs.Shown.{steps_of};
+ghost use Rattle.mdp_engine.specs.Owed.{lines};
+ghost use Rattle.mdp_engine.specs.Owed.{steps_of};
 ghost use Rattle.mdp_engine.specs.Steps.{event_of, stepped_desks, stepped_text};
 
-use crate::desks::Desks;
+use crate::audited_desks::AuditedDesks;
 use crate::event::Event;
 use mdp_arbiter::{Arbiter, Step};
 use mdp_templates::{Instrument, Memory, Packet};
@@ -31,7 +32,7 @@ use std::marker::Model;
 #[derive(Drop)]
 pub struct Engine<A: Allocator, W: Window<Packet<A>> + Drop> {
     arbiter: Arbiter<A, W>,
-    desks: Desks<A>,
+    desks: AuditedDesks<A>,
     held: Vec<u8, A>,
     has_failed: bool,
 }
@@ -59,13 +60,14 @@ impl<A: Allocator + Copy, W: Window<Packet<A>> + Drop> Engine<A, W> {
         requires empty { (W.view window).held ≡ map.empty }
         ensures stands { IfOk result (λ engine. Stands instruments.now [] [] engine) }
         ensures under { IfOk result (λ engine. (feed : List PacketContent) → IsFeed feed → StandsUnder instruments.now feed [] [] engine) }
-        ensures room { IfOk result (λ engine. engine.arbiter.room ≡ (W.view window).room) }
+        ensures channel { IfOk result (λ engine. engine.arbiter.channel
+            ≡ channel_of instruments.now (W.view window).room) }
         ensures sound { IfOk result (λ engine. engine.has_failed ≡ false) }
         ensures empty { IfOk result (λ engine. engine.held ≡ []) }
     {
         Ok(Engine {
             arbiter: Arbiter::new(alloc, instruments, window)?,
-            desks: Desks::new(alloc, instruments)?,
+            desks: AuditedDesks::new(alloc, instruments)?,
             held: Vec::new(alloc),
             has_failed: false,
         })
@@ -75,15 +77,16 @@ impl<A: Allocator + Copy, W: Window<Packet<A>> + Drop> Engine<A, W> {
     pub fn next(&self) -> u64
         ensures next { result ≡ self.now.arbiter.next }
         ensures stands { (listed : List Instrument) (es : List Accepted) (drained : List ℕ) → Stands listed es drained self.now
-            → result ≡ (state_at self.now.arbiter.room (ids_of listed) es).next }
+            → result ≡ (state_at self.now.arbiter.channel es).next }
     {
         self.arbiter.next()
     }
 
     /// Whether the receiver is lost: a packet came that is so far ahead that the next one is given up.
     pub fn lost(&self) -> bool
-        ensures { (listed : List Instrument) (es : List Accepted) (drained : List ℕ) → Stands listed es drained self.now
-            → result ≡ is_lost self.now.arbiter.room es (state_at self.now.arbiter.room (ids_of listed) es) }
+        ensures now { result ≡ is_lost_now self.now.arbiter }
+        ensures stands { (listed : List Instrument) (es : List Accepted) (drained : List ℕ) → Stands listed es drained self.now
+            → result ≡ is_lost self.now.arbiter.channel es (state_at self.now.arbiter.channel es) }
     {
         self.arbiter.lost()
     }
@@ -99,7 +102,7 @@ impl<A: Allocator + Copy, W: Window<Packet<A>> + Drop> Engine<A, W> {
         ensures under { OnOk result ((listed : List Instrument) (feed : List PacketContent) (es : List Accepted) (drained : List ℕ)
             → IsHonest (ids_of listed) feed (es ++ event_of event ∷ []) → StandsUnder listed feed es drained self.old
             → StandsUnder listed feed (es ++ event_of event ∷ []) drained self.new) }
-        ensures room { OnOk result (self.new.arbiter.room ≡ self.old.arbiter.room) }
+        ensures channel { OnOk result (self.new.arbiter.channel ≡ self.old.arbiter.channel) }
         ensures sound { OnOk result (self.new.has_failed ≡ false) }
         ensures fails { IfErr result (λ _. self.new.has_failed ≡ true) }
         ensures stays { self.old.has_failed ≡ true → IsErr result }
@@ -152,7 +155,7 @@ impl<A: Allocator + Copy, W: Window<Packet<A>> + Drop> Engine<A, W> {
     fn advance(&mut self, event: Event<A>) -> Result<(), Memory>
         ensures stands { OnOk result ((listed : List Instrument) (es : List Accepted) (drained : List ℕ) → Stands listed es drained self.old
             → Stands listed (es ++ event_of event ∷ []) drained self.new) }
-        ensures room { OnOk result (self.new.arbiter.room ≡ self.old.arbiter.room) }
+        ensures channel { OnOk result (self.new.arbiter.channel ≡ self.old.arbiter.channel) }
         ensures sound { OnOk result (self.new.has_failed ≡ self.old.has_failed) }
     {
         self.take_in(event)?;
@@ -164,7 +167,7 @@ impl<A: Allocator + Copy, W: Window<Packet<A>> + Drop> Engine<A, W> {
     fn take_in(&mut self, event: Event<A>) -> Result<(), Memory>
         ensures stands { OnOk result ((es : List Accepted) → StandsAt es self.old.arbiter → StandsAt (es ++ event_of event ∷ []) self.new.arbiter) }
         ensures keeps { OnOk result (state self.new.arbiter ≡ state self.old.arbiter) }
-        ensures channel { OnOk result (IsSameChannel self.old.arbiter self.new.arbiter) }
+        ensures channel { OnOk result (self.new.arbiter.channel ≡ self.old.arbiter.channel) }
         ensures rest { OnOk result (self.new ≡ record self.old { arbiter = self.new.arbiter }) }
     {
         match event {
@@ -187,7 +190,7 @@ impl<A: Allocator + Copy, W: Window<Packet<A>> + Drop> Engine<A, W> {
     /// Makes moves until none is possible.
     fn move_on(&mut self) -> Result<(), Memory>
         ensures advances { OnOk result (Advances self.old self.new) }
-        ensures room { OnOk result (self.new.arbiter.room ≡ self.old.arbiter.room) }
+        ensures channel { OnOk result (self.new.arbiter.channel ≡ self.old.arbiter.channel) }
         ensures sound { OnOk result (self.new.has_failed ≡ self.old.has_failed) }
     {
         while let Some(step) = self.arbiter.step() {
@@ -232,7 +235,8 @@ pub fn replay<A: Allocator + Copy, W: Window<Packet<A>> + Drop>(
     requires first { (W.view window).first ≡ 1 }
     requires empty { (W.view window).held ≡ map.empty }
     ensures { IfOk result (λ text. (feed : List PacketContent) → IsHonest (ids_of instruments.now) feed (map event_of events.now)
-        → text.items ≡ lines instruments.now feed (steps_of (trace (W.view window).room (ids_of instruments.now) (map event_of events.now)))) }
+        → text.items ≡ lines instruments.now feed
+        (steps_of (trace (channel_of instruments.now (W.view window).room) (map event_of events.now)))) }
 {
     let mut engine = Engine::new(alloc, instruments, window)?;
     for event in events {

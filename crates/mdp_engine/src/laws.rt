@@ -3,6 +3,7 @@
 ghost use Rattle.mdp_engine.specs.Agreed.{ShowsWhatIsOwed};
 ghost use Rattle.mdp_engine.specs.Engine.{StandsAlike};
 ghost use Rattle.mdp_engine.specs.Honest.{HonestMovesAgree, LawOfHonestFeeds};
+ghost use Rattle.mdp_engine.specs.RoundLaws.{LawOfAscent, LawOfBatches, LawOfCuts, LawOfFirstRounds, LawOfRuns, LawOfWorkers};
 
 /// Moves that are a complete feed's show exactly the lines that the feed owes.
 pub fn shows_what_is_owed()
@@ -25,4 +26,36 @@ pub fn stands_alike()
 /// no snapshot is of a listed security.
 pub fn honest_feeds_exist()
     ensures { LawOfHonestFeeds }
+{}
+
+/// Whatever the number of workers, what the collector makes of their reports is what the moves show.
+pub fn law_of_workers()
+    ensures { LawOfWorkers }
+{}
+
+/// The recovery machine's moves ascend, whatever came: packets pass in number order, and each jump has a snapshot of each
+/// listed security.
+pub fn law_of_ascent()
+    ensures { LawOfAscent }
+{}
+
+/// Batches of reports are the rounds of all their moments, wherever they are cut.
+pub fn law_of_batches()
+    ensures { LawOfBatches }
+{}
+
+/// What is made of the first rounds begins what is made of all.
+pub fn law_of_first_rounds()
+    ensures { LawOfFirstRounds }
+{}
+
+/// The moments of moves that come batch by batch are those of all of them.
+pub fn law_of_cuts()
+    ensures { LawOfCuts }
+{}
+
+/// Whatever the number of workers and wherever their reports are cut into batches, the collector's text is the one that a
+/// complete feed owes which agrees with the events.
+pub fn law_of_runs()
+    ensures { LawOfRuns }
 {}

@@ -1,19 +1,19 @@
 //! The engine: what comes on a channel in, and out the lines that each event end owes of the listed securities' books.
 #![tactic(auto)]
 
+mod audited_desks;
 mod audits;
-mod desk;
-mod desks;
 mod engine;
 mod event;
 mod laws;
-mod lines;
-mod marked;
 mod spreads;
 #[cfg(test)]
 mod tests;
 
-pub use desks::Desks;
+pub use audited_desks::AuditedDesks;
 pub use engine::{Engine, replay};
 pub use event::Event;
-pub use laws::{honest_feeds_exist, honest_moves_agree, shows_what_is_owed, stands_alike};
+pub use laws::{
+    honest_feeds_exist, honest_moves_agree, law_of_ascent, law_of_batches, law_of_cuts,
+    law_of_first_rounds, law_of_runs, law_of_workers, shows_what_is_owed, stands_alike,
+};

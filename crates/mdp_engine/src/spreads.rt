@@ -1,7 +1,7 @@
 //! The places of calendar spreads and of their legs.
 
 ghost use Rattle.std.specs.Prelude.{◌≡◌, IfOk};
-ghost use Rattle.mdp_engine.specs.Slots.{slot_in, spread_at, spread_in, spreads_from};
+ghost use Rattle.mdp_engine.specs.Spreads.{slot_in, spread_at, spread_in, spreads_from};
 
 use mdp_arbiter::Slots;
 use mdp_templates::{Instrument, InstrumentKind, Memory};

@@ -8,29 +8,27 @@ use Rattle.mdp_sbe.specs.Answer.{HasOneAnswer}
 use Rattle.mdp_sbe.specs.Answer.HasOneAnswer.{is_good, is_refused}
 use Rattle.mdp_templates.specs.Incremental.{IsPacket, IsRefusedPacket}
 use Rattle.mdp_templates.specs.Recovery.{AreSnapshots, AreRefusedSnapshots}
-use Rattle.mdp_templates.specs.Refused.{Feed as Kind}
-use Rattle.mdp_templates.specs.Refused.Feed.{incremental, recovery}
+use Rattle.mdp_templates.specs.Refused.{FeedKind as Kind}
+use Rattle.mdp_templates.specs.Refused.FeedKind.{incremental, recovery}
 use Rattle.mdp_templates.specs.declared.instrument.Instrument.{Instrument}
 use Rattle.mdp_templates.proofs.OneAnswer.{one_packet, one_datagram}
 use Rattle.mdp_print.specs.Texts.{last_line}
-use Rattle.mdp_print.specs.declared.feed.Feed.{Feed}
+use Rattle.mdp_templates.specs.declared.feed.Feed.{Feed}
 use Rattle.mdp_capture.specs.Record.{RecordContent, Received, Datagram, Close}
 use Rattle.mdp_arbiter.specs.Accepted.{Event, came, recovered, closed}
 use Rattle.mdp_arbiter.specs.Machine.{Move, state_at, trace, go_on, is_lost}
-use Rattle.mdp_arbiter.specs.Slots.{ids_of}
+use Rattle.mdp_arbiter.specs.Channel.{Channel, channel_of}
 use Rattle.mdp_arbiter.proofs.Runs.{law_of_fronts}
 use Rattle.mdp_engine.specs.Engine.{View, Stands}
-use Rattle.mdp_engine.specs.Shown.{showed, shown_after, shown_lines}
-use Rattle.mdp_engine.proofs.Agreeing.{shows_what_is_owed}
-use Rattle.mdp_engine.proofs.Honesty.{honest_moves_agree}
+use Rattle.mdp_desks.specs.Shown.{showed, shown_after, shown_lines}
 use Rattle.mdp_pipeline.specs.declared.run.Run.{Run}
 use Rattle.mdp_pipeline.specs.declared.summary.Summary.{Summary}
 use Rattle.mdp_pipeline.specs.declared.summary.RunFault.{RunFault}
 use Rattle.mdp_pipeline.specs.Merge.{Arrival, in_order}
-use Rattle.mdp_pipeline.specs.Reading.{Reading, Said, Says, brings, refused, IsReading, AreReadings, events_in, events_of, kind_of}
-use Rattle.mdp_pipeline.specs.Output.{Begins, Prints, all_refusal_lines, is_lost_after, next_after}
+use Rattle.mdp_pipeline.specs.Reading.{Reading, Said, Says, brings, refused, IsReading, AreReadings, brought_by, by_feed, events_of, kind_of, refusals_text}
+use Rattle.mdp_pipeline.specs.Output.{end_lines, is_lost_after, moves_of, next_after, shown_output}
 use Rattle.mdp_pipeline.specs.RefusalTexts.{RefusalTexts}
-use Rattle.mdp_pipeline.specs.Running.{TakesAs, Writes}
+use Rattle.mdp_pipeline.specs.Running.{BeginsAll, PrintsAll, TakesAs, Writes}
 use Rattle.mdp_pipeline.proofs.Written.{HasTaken, all_written, taken_more}
 
 -- ---- what records say that were not reached
@@ -50,7 +48,7 @@ says_something recovery (Datagram bytes) = said_of_snapshots bytes (one_datagram
 says_something incremental Close = (brings [], refl)
 says_something recovery Close = (brings (closed ∷ []), refl)
 
-readings_exist : (arrivals : List Arrival) → (readings : List Reading) × AreReadings arrivals readings
+pub readings_exist : (arrivals : List Arrival) → (readings : List Reading) × AreReadings arrivals readings
 readings_exist [] = ([], record { of = refl; each = tt })
 readings_exist (arrival ∷ arrivals) =
     let here = says_something (kind_of arrival.feed) arrival.entry.received in
@@ -62,7 +60,7 @@ each-append : (readings more : List Reading) → AllByRecursion IsReading readin
 each-append [] more each later = later
 each-append (r ∷ readings) more each later = (each.0, each-append readings more each.1 later)
 
-readings-append : (arrivals left : List Arrival) (readings more : List Reading) → AreReadings arrivals readings → AreReadings left more → AreReadings (arrivals ++ left) (readings ++ more)
+pub readings-append : (arrivals left : List Arrival) (readings more : List Reading) → AreReadings arrivals readings → AreReadings left more → AreReadings (arrivals ++ left) (readings ++ more)
 readings-append arrivals left readings more are later = record {
   of =
       map-append (λ (r : Reading). r.arrival) readings more
@@ -73,27 +71,15 @@ readings-append arrivals left readings more are later = record {
 
 -- ---- the text of the whole
 
--- the text with no complete feed: what the moves show, the refused datagrams, and the last line
 abbrev end_of : List Instrument → ℕ → List Reading → List ℕ
-end_of listed room readings = all_refusal_lines readings ++ last_line (next_after listed room (events_of readings)) (is_lost_after listed room (events_of readings))
-
-abbrev moves_of : List Instrument → ℕ → List Reading → List Move
-moves_of listed room readings = trace room (ids_of listed) (events_of readings)
+end_of listed room readings = end_lines listed room (refusals_text (by_feed readings)) (events_of readings)
 
 abbrev text_of : List Instrument → ℕ → List Reading → List ℕ
-text_of listed room readings = shown_lines listed (moves_of listed room readings) ++ end_of listed room readings
+text_of listed room readings = shown_output listed room (refusals_text (by_feed readings)) (events_of readings)
 
 text_prints : (listed : List Instrument) (room : ℕ) (arrivals : List Arrival) (readings : List Reading) → AreReadings arrivals readings
-    → Prints listed room arrivals (text_of listed room readings) (next_after listed room (events_of readings)) (is_lost_after listed room (events_of readings))
-text_prints listed room arrivals readings are = record {
-  readings = readings;
-  are = are;
-  next_is = refl;
-  lost_is = refl;
-  owed = λ feed honest.
-      ap (λ (t : List ℕ). t ++ end_of listed room readings)
-      (shows_what_is_owed listed feed (moves_of listed room readings) honest.complete (honest_moves_agree listed feed room (events_of readings) honest));
-}
+    → PrintsAll listed room arrivals (text_of listed room readings) (next_after listed room (events_of readings)) (is_lost_after listed room (events_of readings))
+text_prints listed room arrivals readings are = record { readings = readings; are = are; next_is = refl; lost_is = refl; shown = refl }
 
 -- what the moves show begins with what the first ones show
 shown_after-append : (listed : List Instrument) (before moves more : List Move) → shown_after listed before (moves ++ more) ≡ shown_after listed before moves ++ shown_after listed (before ++ moves) more
@@ -107,21 +93,21 @@ shown_after-append listed before (m ∷ moves) more =
 -- what is shown of the readings behind these ones
 abbrev shown_later : List Instrument → ℕ → List Reading → List Reading → List ℕ
 shown_later listed room readings more =
-    let moves = moves_of listed room readings in
-    shown_after listed moves (go_on room (ids_of listed) (events_of readings) (state_at room (ids_of listed) (events_of readings)) (events_of more))
+    let moves = moves_of listed room (events_of readings) in
+    shown_after listed moves (go_on (channel_of listed room) (events_of readings) (state_at (channel_of listed room) (events_of readings)) (events_of more))
 
-shown-front : (listed : List Instrument) (room : ℕ) (readings more : List Reading) → shown_lines listed (moves_of listed room (readings ++ more)) ≡ shown_lines listed (moves_of listed room readings) ++ shown_later listed room readings more
+shown-front : (listed : List Instrument) (room : ℕ) (readings more : List Reading) → shown_lines listed (moves_of listed room (events_of (readings ++ more))) ≡ shown_lines listed (moves_of listed room (events_of readings)) ++ shown_later listed room readings more
 shown-front listed room readings more =
     let es = events_of readings in
-    let later = go_on room (ids_of listed) es (state_at room (ids_of listed) es) (events_of more) in
-    ap (λ (t : List Event). shown_lines listed (trace room (ids_of listed) t)) (flat_map-append (λ (r : Reading). events_in r.said) readings more)
-    ∙ ap (shown_lines listed) (law_of_fronts room (ids_of listed) es (events_of more))
-    ∙ shown_after-append listed [] (moves_of listed room readings) later
+    let later = go_on (channel_of listed room) es (state_at (channel_of listed room) es) (events_of more) in
+    ap (λ (t : List Event). shown_lines listed (trace (channel_of listed room) t)) (flat_map-append (λ (r : Reading). brought_by r.said) readings more)
+    ∙ ap (shown_lines listed) (law_of_fronts (channel_of listed room) es (events_of more))
+    ∙ shown_after-append listed [] (moves_of listed room (events_of readings)) later
 
 -- ---- a beginning
 
 -- Nothing went out.
-pub begins_none : (listed : List Instrument) (room : ℕ) (arrivals : List Arrival) (taken : List ℕ) → Begins listed room arrivals taken taken
+pub begins_none : (listed : List Instrument) (room : ℕ) (arrivals : List Arrival) (taken : List ℕ) → BeginsAll listed room arrivals taken taken
 begins_none listed room arrivals taken =
     let readings = readings_exist arrivals in
     record {
@@ -136,7 +122,7 @@ begins_none listed room arrivals taken =
     }
 
 -- the text of all readings, where so much was sent of what the first ones show, and so much is held
-text_begins : (listed : List Instrument) (room : ℕ) (readings more : List Reading) (sent held : List ℕ) (n : ℕ) → sent ++ held ≡ shown_lines listed (moves_of listed room readings)
+text_begins : (listed : List Instrument) (room : ℕ) (readings more : List Reading) (sent held : List ℕ) (n : ℕ) → sent ++ held ≡ shown_lines listed (moves_of listed room (events_of readings))
     → text_of listed room (readings ++ more) ≡ (sent ++ take n held) ++ (drop n held ++ (shown_later listed room readings more ++ end_of listed room (readings ++ more)))
 text_begins listed room readings more sent held n shown =
     let later = shown_later listed room readings more in
@@ -150,16 +136,16 @@ text_begins listed room readings more sent held n shown =
 
 -- The first records were taken, and of the text that is held so many bytes went out.
 pub begins_so_far : (listed : List Instrument) (room : ℕ) (arrivals done left : List Arrival) (start taken taken' : List ℕ) (engine : View) (held : List ℕ) (refusals : RefusalTexts) (n : ℕ)
-    → arrivals ≡ done ++ left → taken' ≡ taken ++ take n held → Writes listed room done start taken engine held refusals → Begins listed room arrivals start taken'
+    → arrivals ≡ done ++ left → taken' ≡ taken ++ take n held → Writes listed room done start taken engine held refusals → BeginsAll listed room arrivals start taken'
 begins_so_far listed room arrivals done left start taken taken' engine held refusals n parts went so_far =
     let readings = so_far.over.readings in
     let more = readings_exist left in
     let all = readings ++ more.0 in
     let run = so_far.over.run in
     let front = so_far.sent ++ held in
-    let shown : front ≡ shown_lines listed (moves_of listed room readings) =
+    let shown : front ≡ shown_lines listed (moves_of listed room (events_of readings)) =
     sym (append-nil front) ∙ ap (λ (t : List ℕ). front ++ t) (sym run.drained) ∙ run.stands.shows.text_is
-    ∙ ap (λ (r : ℕ). shown_lines listed (trace r (ids_of listed) (events_of readings))) run.covers in
+    ∙ ap (λ (c : Channel). shown_lines listed (trace c (events_of readings))) run.channel in
     record {
       text = text_of listed room all;
       next = next_after listed room (events_of all);
@@ -173,16 +159,16 @@ begins_so_far listed room arrivals done left start taken taken' engine held refu
 
 -- All records were taken, and of the text that is held so many bytes went out.
 pub begins_at_end : (listed : List Instrument) (room : ℕ) (arrivals : List Arrival) (start taken taken' : List ℕ) (engine : View) (held : List ℕ) (refusals : RefusalTexts) (n : ℕ)
-    → taken' ≡ taken ++ take n held → Writes listed room arrivals start taken engine held refusals → Begins listed room arrivals start taken'
+    → taken' ≡ taken ++ take n held → Writes listed room arrivals start taken engine held refusals → BeginsAll listed room arrivals start taken'
 begins_at_end listed room arrivals start taken taken' engine held refusals n went so_far =
     begins_so_far listed room arrivals arrivals [] start taken taken' engine held refusals n (sym (append-nil arrivals)) went so_far
 
 -- The text went out, and of the refusals and the last line so many bytes.
 pub begins_in_end : (listed : List Instrument) (room : ℕ) (arrivals : List Arrival) (start taken taken' : List ℕ) (engine : View) (held end : List ℕ) (refusals : RefusalTexts) (next : ℕ) (lost : Bool) (n : ℕ)
     → taken' ≡ (taken ++ held) ++ take n end → end ≡ (refusals.a ++ (refusals.b ++ refusals.s)) ++ last_line next lost
-    → ((listed : List Instrument) (es : List Event) (drained : List ℕ) → Stands listed es drained engine → next ≡ (state_at engine.arbiter.room (ids_of listed) es).next)
-    → ((listed : List Instrument) (es : List Event) (drained : List ℕ) → Stands listed es drained engine → lost ≡ is_lost engine.arbiter.room es (state_at engine.arbiter.room (ids_of listed) es))
-    → Writes listed room arrivals start taken engine held refusals → Begins listed room arrivals start taken'
+    → ((listed : List Instrument) (es : List Event) (drained : List ℕ) → Stands listed es drained engine → next ≡ (state_at engine.arbiter.channel es).next)
+    → ((listed : List Instrument) (es : List Event) (drained : List ℕ) → Stands listed es drained engine → lost ≡ is_lost engine.arbiter.channel es (state_at engine.arbiter.channel es))
+    → Writes listed room arrivals start taken engine held refusals → BeginsAll listed room arrivals start taken'
 begins_in_end listed room arrivals start taken taken' engine held end refusals next lost n went end_is next_is lost_is so_far =
     let all = all_written listed room arrivals start taken ((taken ++ held) ++ end) engine held end refusals next lost refl end_is next_is lost_is so_far in
     let front = so_far.sent ++ held in
@@ -204,7 +190,7 @@ begins_in_end listed room arrivals start taken taken' engine held end refusals n
 
 -- a run whose records are not all taken
 pub taken_begins : (listed : List Instrument) (room : ℕ) (a b s : List RecordContent) (start taken : List ℕ) (engine : View) (held : List ℕ) (refusals : RefusalTexts) (a' b' s' : List RecordContent)
-    → HasTaken listed room a b s start taken engine held refusals a' b' s' → Begins listed room (in_order a b s) start taken
+    → HasTaken listed room a b s start taken engine held refusals a' b' s' → BeginsAll listed room (in_order a b s) start taken
 taken_begins listed room a b s start taken engine held refusals a' b' s' so_far =
     begins_so_far listed room (in_order a b s) so_far.done (in_order a' b' s') start taken taken engine held refusals 0 so_far.left (sym (append-nil taken)) so_far.writes
 
@@ -214,15 +200,15 @@ pub piece_begins : {A : Type 0} (listed : List Instrument) (room : ℕ) (a b s :
     → TakesAs (kind_of feed) feed entry.line entry.received old new
     → taken' ≡ taken ++ take n new.text.items
     → HasTaken listed room a b s start taken old.engine old.text.items old.refusals a' b' s'
-    → Begins listed room (in_order a b s) start taken'
+    → BeginsAll listed room (in_order a b s) start taken'
 piece_begins listed room a b s start taken taken' old new a' b' s' a'' b'' s'' feed entry n next takes went so_far =
     let on = taken_more listed room a b s start taken taken old new new a' b' s' a'' b'' s'' feed entry next takes (λ arrivals writes. writes) so_far in
     begins_so_far listed room (in_order a b s) on.done (in_order a'' b'' s'') start taken taken' new.engine new.text.items new.refusals n on.left went on.writes
 
 -- a run whose end failed
 pub run_begins : (listed : List Instrument) (room : ℕ) (arrivals : List Arrival) (start taken after : List ℕ) (engine : View) (held : List ℕ) (refusals : RefusalTexts) (result : Result Summary RunFault)
-    → IfErr result (λ (fault : RunFault). (listed : List Instrument) (room : ℕ) (arrivals : List Arrival) (start : List ℕ) → Writes listed room arrivals start taken engine held refusals → Begins listed room arrivals start after)
+    → IfErr result (λ (fault : RunFault). (listed : List Instrument) (room : ℕ) (arrivals : List Arrival) (start : List ℕ) → Writes listed room arrivals start taken engine held refusals → BeginsAll listed room arrivals start after)
     → Writes listed room arrivals start taken engine held refusals
-    → IfErr result (λ (fault : RunFault). Begins listed room arrivals start after)
+    → IfErr result (λ (fault : RunFault). BeginsAll listed room arrivals start after)
 run_begins listed room arrivals start taken after engine held refusals (Ok summary) begins so_far = tt
 run_begins listed room arrivals start taken after engine held refusals (Err fault) begins so_far = begins listed room arrivals start so_far

@@ -1,9 +1,9 @@
 -- Which record comes next in the order of the lines.
 use Rattle.std.proofs.Common.{◌≡◌, ℕ, Bool, true, false, cond, List, [], ◌∷◌, Option, Some, None, refl, sym, ap, ◌∙◌}
 use Rattle.mdp_capture.specs.Record.{RecordContent}
-use Rattle.mdp_print.specs.declared.feed.Feed.{Feed}
-use Rattle.mdp_print.specs.declared.feed.Feed.TheVariants as feeds
-use Rattle.mdp_pipeline.specs.Merge.{Arrival, arrivals, merged, in_order, head_line, is_first, first_feed}
+use Rattle.mdp_templates.specs.declared.feed.Feed.{Feed}
+use Rattle.mdp_templates.specs.declared.feed.Feed.TheVariants as feeds
+use Rattle.mdp_pipeline.specs.Merge.{Arrival, arrivals, by_line, in_order, head_line, is_first, first_feed}
 
 -- ---- two lists
 
@@ -11,24 +11,24 @@ abbrev line_of : List Arrival → Option ℕ
 line_of [] = None
 line_of (x ∷ xs) = Some x.entry.line
 
-merged-nil : (xs : List Arrival) → merged xs [] ≡ xs
-merged-nil [] = refl
-merged-nil (x ∷ xs) = refl
+by_line-nil : (xs : List Arrival) → by_line xs [] ≡ xs
+by_line-nil [] = refl
+by_line-nil (x ∷ xs) = refl
 
-merged_left : (x : Arrival) (xs ys : List Arrival) → is_first (Some x.entry.line) (line_of ys) ≡ true → merged (x ∷ xs) ys ≡ x ∷ merged xs ys
-merged_left x xs [] first = ap (λ (t : List Arrival). x ∷ t) (sym (merged-nil xs))
-merged_left x xs (y ∷ ys) first = ap (λ (b : Bool). cond b (x ∷ merged xs (y ∷ ys)) (y ∷ merged (x ∷ xs) ys)) first
+by_line_left : (x : Arrival) (xs ys : List Arrival) → is_first (Some x.entry.line) (line_of ys) ≡ true → by_line (x ∷ xs) ys ≡ x ∷ by_line xs ys
+by_line_left x xs [] first = ap (λ (t : List Arrival). x ∷ t) (sym (by_line-nil xs))
+by_line_left x xs (y ∷ ys) first = ap (λ (b : Bool). cond b (x ∷ by_line xs (y ∷ ys)) (y ∷ by_line (x ∷ xs) ys)) first
 
-merged_right : (xs : List Arrival) (y : Arrival) (ys : List Arrival) → is_first (line_of xs) (Some y.entry.line) ≡ false → merged xs (y ∷ ys) ≡ y ∷ merged xs ys
-merged_right [] y ys later = refl
-merged_right (x ∷ xs) y ys later = ap (λ (b : Bool). cond b (x ∷ merged xs (y ∷ ys)) (y ∷ merged (x ∷ xs) ys)) later
+by_line_right : (xs : List Arrival) (y : Arrival) (ys : List Arrival) → is_first (line_of xs) (Some y.entry.line) ≡ false → by_line xs (y ∷ ys) ≡ y ∷ by_line xs ys
+by_line_right [] y ys later = refl
+by_line_right (x ∷ xs) y ys later = ap (λ (b : Bool). cond b (x ∷ by_line xs (y ∷ ys)) (y ∷ by_line (x ∷ xs) ys)) later
 
-lesser_line : (xs ys : List Arrival) (b : Bool) → is_first (line_of xs) (line_of ys) ≡ b → line_of (merged xs ys) ≡ cond b (line_of xs) (line_of ys)
+lesser_line : (xs ys : List Arrival) (b : Bool) → is_first (line_of xs) (line_of ys) ≡ b → line_of (by_line xs ys) ≡ cond b (line_of xs) (line_of ys)
 lesser_line [] ys true is = absurd cc
 lesser_line [] ys false is = refl
-lesser_line (x ∷ xs) ys true is = ap line_of (merged_left x xs ys is)
+lesser_line (x ∷ xs) ys true is = ap line_of (by_line_left x xs ys is)
 lesser_line (x ∷ xs) [] false is = absurd cc
-lesser_line (x ∷ xs) (y ∷ ys) false is = ap line_of (merged_right (x ∷ xs) y ys is)
+lesser_line (x ∷ xs) (y ∷ ys) false is = ap line_of (by_line_right (x ∷ xs) y ys is)
 
 -- ---- records of a feed
 
@@ -53,8 +53,8 @@ first_a x xs b s true true bs before_b before_s found =
     let rest = arrivals feeds.A xs in
     let others = arrivals feeds.B b in
     let snapshots = arrivals feeds.S s in
-    ap (λ (t : List Arrival). merged t snapshots) (merged_left r rest others (ap (is_first (Some x.line)) (line-arrivals feeds.B b) ∙ before_b))
-    ∙ merged_left r (merged rest others) snapshots (ap (is_first (Some x.line)) (line-arrivals feeds.S s) ∙ before_s)
+    ap (λ (t : List Arrival). by_line t snapshots) (by_line_left r rest others (ap (is_first (Some x.line)) (line-arrivals feeds.B b) ∙ before_b))
+    ∙ by_line_left r (by_line rest others) snapshots (ap (is_first (Some x.line)) (line-arrivals feeds.S s) ∙ before_s)
 first_a x xs b s true false bs before_b before_s found = absurd cc
 first_a x xs b s false sa bs before_b before_s found = absurd (not_a bs found)
 
@@ -70,8 +70,8 @@ first_b a y ys s false sa true before_b before_s found =
     let others = arrivals feeds.A a in
     let rest = arrivals feeds.B ys in
     let snapshots = arrivals feeds.S s in
-    ap (λ (t : List Arrival). merged t snapshots) (merged_right others r rest (ap (λ (l : Option ℕ). is_first l (Some y.line)) (line-arrivals feeds.A a) ∙ before_b))
-    ∙ merged_left r (merged others rest) snapshots (ap (is_first (Some y.line)) (line-arrivals feeds.S s) ∙ before_s)
+    ap (λ (t : List Arrival). by_line t snapshots) (by_line_right others r rest (ap (λ (l : Option ℕ). is_first l (Some y.line)) (line-arrivals feeds.A a) ∙ before_b))
+    ∙ by_line_left r (by_line others rest) snapshots (ap (is_first (Some y.line)) (line-arrivals feeds.S s) ∙ before_s)
 first_b a y ys s false sa false before_b before_s found = absurd cc
 
 pub next_is_b : (a : List RecordContent) (y : RecordContent) (ys s : List RecordContent) → first_feed (head_line a) (Some y.line) (head_line s) ≡ feeds.B

@@ -1,7 +1,7 @@
 -- What a run has written, record by record.
 use Rattle.std.proofs.Common.{◌≡◌, ℕ, ◌+◌, ◌<◌, Bool, true, false, cond, List, [], ◌∷◌, ◌++◌, map, take, length, get_or, refl, sym, ap, subst, ◌∙◌, append_assoc, arith}
 use Rattle.std.specs.Prelude.{Result, Ok, Err, IfOk, IfErr, ◌^◌, ◌-◌}
-use Rattle.std.specs.List.{AllByRecursion, filter, flat_map}
+use Rattle.std.specs.List.{AllByRecursion}
 use Rattle.std.proofs.Math.Nat.{zero-min}
 use Rattle.std.proofs.lemmas.List.{append-nil, map-append, take_more}
 use Rattle.std.proofs.lemmas.List.Elements.{filter-append}
@@ -9,25 +9,23 @@ use Rattle.std.proofs.lemmas.List.Concat.{flat_map-append}
 use Rattle.mdp_templates.specs.Snapshot.{SnapshotContent}
 use Rattle.mdp_templates.specs.declared.instrument.Instrument.{Instrument}
 use Rattle.mdp_print.specs.Texts.{last_line}
-use Rattle.mdp_print.specs.declared.feed.Feed.{Feed}
-use Rattle.mdp_print.specs.declared.feed.Feed.TheVariants as feeds
+use Rattle.mdp_templates.specs.declared.feed.Feed.{Feed}
+use Rattle.mdp_templates.specs.declared.feed.Feed.TheVariants as feeds
 use Rattle.mdp_capture.specs.Record.{RecordContent}
 use Rattle.mdp_arbiter.specs.Accepted.{Event, recovered}
 use Rattle.mdp_arbiter.specs.Machine.{state_at, trace, is_lost}
-use Rattle.mdp_arbiter.specs.Slots.{ids_of}
+use Rattle.mdp_arbiter.specs.Channel.{Channel}
 use Rattle.mdp_engine.specs.Engine.{View, Stands}
-use Rattle.mdp_engine.specs.Lines.{lines}
-use Rattle.mdp_engine.specs.Shown.{steps_of}
-use Rattle.mdp_engine.proofs.Under.{stands_owed}
+use Rattle.mdp_desks.specs.Shown.{shown_lines}
 use Rattle.mdp_pipeline.specs.declared.run.Run.{Run}
 use Rattle.mdp_pipeline.specs.declared.summary.Summary.{Summary}
 use Rattle.mdp_pipeline.specs.declared.summary.RunFault.{RunFault}
 use Rattle.mdp_pipeline.specs.Counted.{HasCounted, counted, written_before}
 use Rattle.mdp_pipeline.specs.Merge.{Arrival, in_order}
-use Rattle.mdp_pipeline.specs.Reading.{Reading, Said, brings, refused, IsReading, AreReadings, events_in, events_of, is_on, kind_of, refusal_lines, refusal_text}
-use Rattle.mdp_pipeline.specs.Output.{Prints, all_refusal_lines, is_lost_after, next_after}
+use Rattle.mdp_pipeline.specs.Reading.{Reading, Said, brings, refused, IsReading, AreReadings, brought_by, by_feed, events_of, is_on, kind_of, readings_on, refusal_lines, refusal_text, refusals_text}
+use Rattle.mdp_pipeline.specs.Output.{is_lost_after, moves_of, next_after}
 use Rattle.mdp_pipeline.specs.RefusalTexts.{RefusalTexts}
-use Rattle.mdp_pipeline.specs.Running.{GoesOn, HasRun, RunsOver, TakesAs, Writes, after_said, refusals_of}
+use Rattle.mdp_pipeline.specs.Running.{GoesOn, HasRun, PrintsAll, RunsOver, TakesAs, Writes, after_said, refusals_of}
 use Rattle.mdp_pipeline.proofs.Taking.{goes_more}
 
 -- ---- a reading more
@@ -45,24 +43,21 @@ readings-push arrivals readings reading are is = record {
   each = each-push readings reading are.each is;
 }
 
-events-push : (readings : List Reading) (reading : Reading) → events_of (readings ++ reading ∷ []) ≡ events_of readings ++ events_in reading.said
+events-push : (readings : List Reading) (reading : Reading) → events_of (readings ++ reading ∷ []) ≡ events_of readings ++ brought_by reading.said
 events-push readings reading =
-    flat_map-append (λ (r : Reading). events_in r.said) readings (reading ∷ [])
-    ∙ ap (λ (t : List Event). events_of readings ++ t) (append-nil (events_in reading.said))
+    flat_map-append (λ (r : Reading). brought_by r.said) readings (reading ∷ [])
+    ∙ ap (λ (t : List Event). events_of readings ++ t) (append-nil (brought_by reading.said))
 
 -- the lines of one feed
-abbrev flat_text : List Reading → List ℕ
-flat_text readings = flat_map (λ (r : Reading). refusal_text r.arrival r.said) readings
-
-line_if : (reading : Reading) (b : Bool) → flat_text (cond b (reading ∷ []) []) ≡ cond b (refusal_text reading.arrival reading.said) []
-line_if reading true = append-nil (refusal_text reading.arrival reading.said)
+line_if : (reading : Reading) (b : Bool) → refusal_lines (cond b (reading ∷ []) []) ≡ cond b (refusal_text reading.arrival.feed reading.arrival.entry.line reading.said) []
+line_if reading true = append-nil (refusal_text reading.arrival.feed reading.arrival.entry.line reading.said)
 line_if reading false = refl
 
-lines-push : (feed : Feed) (readings : List Reading) (reading : Reading) → refusal_lines feed (readings ++ reading ∷ []) ≡ refusal_lines feed readings ++ cond (is_on feed reading) (refusal_text reading.arrival reading.said) []
+lines-push : (feed : Feed) (readings : List Reading) (reading : Reading) → refusal_lines (readings_on feed (readings ++ reading ∷ [])) ≡ refusal_lines (readings_on feed readings) ++ cond (is_on feed reading.arrival) (refusal_text reading.arrival.feed reading.arrival.entry.line reading.said) []
 lines-push feed readings reading =
-    ap flat_text (filter-append (is_on feed) readings (reading ∷ []))
-    ∙ flat_map-append (λ (r : Reading). refusal_text r.arrival r.said) (filter (is_on feed) readings) (filter (is_on feed) (reading ∷ []))
-    ∙ ap (λ (t : List ℕ). refusal_lines feed readings ++ t) (line_if reading (is_on feed reading))
+    ap refusal_lines (filter-append (λ (r : Reading). is_on feed r.arrival) readings (reading ∷ []))
+    ∙ flat_map-append (λ (r : Reading). refusal_text r.arrival.feed r.arrival.entry.line r.said) (readings_on feed readings) (readings_on feed (reading ∷ []))
+    ∙ ap (λ (t : List ℕ). refusal_lines (readings_on feed readings) ++ t) (line_if reading (is_on feed reading.arrival))
 
 nothing_if : (text : List ℕ) (b : Bool) → text ++ cond b [] [] ≡ text
 nothing_if text true = append-nil text
@@ -75,18 +70,18 @@ refusals-push : (readings : List Reading) (feed : Feed) (entry : RecordContent) 
 refusals-push readings feed entry (brings events) =
     let r = reading_of (record { feed = feed; entry = entry }) (brings events) in
     same_texts _ _ _ _ _ _
-    (lines-push feeds.A readings r ∙ nothing_if (refusal_lines feeds.A readings) (is_on feeds.A r))
-    (lines-push feeds.B readings r ∙ nothing_if (refusal_lines feeds.B readings) (is_on feeds.B r))
-    (lines-push feeds.S readings r ∙ nothing_if (refusal_lines feeds.S readings) (is_on feeds.S r))
+    (lines-push feeds.A readings r ∙ nothing_if (refusal_lines (readings_on feeds.A readings)) (is_on feeds.A r.arrival))
+    (lines-push feeds.B readings r ∙ nothing_if (refusal_lines (readings_on feeds.B readings)) (is_on feeds.B r.arrival))
+    (lines-push feeds.S readings r ∙ nothing_if (refusal_lines (readings_on feeds.S readings)) (is_on feeds.S r.arrival))
 refusals-push readings feeds.A entry (refused refusal) =
     let r = reading_of (record { feed = feeds.A; entry = entry }) (refused refusal) in
-    same_texts _ _ _ _ _ _ (lines-push feeds.A readings r) (lines-push feeds.B readings r ∙ append-nil (refusal_lines feeds.B readings)) (lines-push feeds.S readings r ∙ append-nil (refusal_lines feeds.S readings))
+    same_texts _ _ _ _ _ _ (lines-push feeds.A readings r) (lines-push feeds.B readings r ∙ append-nil (refusal_lines (readings_on feeds.B readings))) (lines-push feeds.S readings r ∙ append-nil (refusal_lines (readings_on feeds.S readings)))
 refusals-push readings feeds.B entry (refused refusal) =
     let r = reading_of (record { feed = feeds.B; entry = entry }) (refused refusal) in
-    same_texts _ _ _ _ _ _ (lines-push feeds.A readings r ∙ append-nil (refusal_lines feeds.A readings)) (lines-push feeds.B readings r) (lines-push feeds.S readings r ∙ append-nil (refusal_lines feeds.S readings))
+    same_texts _ _ _ _ _ _ (lines-push feeds.A readings r ∙ append-nil (refusal_lines (readings_on feeds.A readings))) (lines-push feeds.B readings r) (lines-push feeds.S readings r ∙ append-nil (refusal_lines (readings_on feeds.S readings)))
 refusals-push readings feeds.S entry (refused refusal) =
     let r = reading_of (record { feed = feeds.S; entry = entry }) (refused refusal) in
-    same_texts _ _ _ _ _ _ (lines-push feeds.A readings r ∙ append-nil (refusal_lines feeds.A readings)) (lines-push feeds.B readings r ∙ append-nil (refusal_lines feeds.B readings)) (lines-push feeds.S readings r)
+    same_texts _ _ _ _ _ _ (lines-push feeds.A readings r ∙ append-nil (refusal_lines (readings_on feeds.A readings))) (lines-push feeds.B readings r ∙ append-nil (refusal_lines (readings_on feeds.B readings))) (lines-push feeds.S readings r)
 
 -- a record more
 read_more : {A : Type 0} (listed : List Instrument) (room : ℕ) (readings : List Reading) (feed : Feed) (entry : RecordContent) (sent : List ℕ) (old new : Run A)
@@ -95,10 +90,10 @@ read_more : {A : Type 0} (listed : List Instrument) (room : ℕ) (readings : Lis
 read_more listed room readings feed entry sent old new takes run =
     let reading = reading_of (record { feed = feed; entry = entry }) takes.said in
     record {
-      stands = subst (λ (es : List Event). Stands listed es (sent ++ new.text.items) new.engine) (sym (events-push readings reading)) (takes.goes.stands listed (events_of readings) sent run.stands);
-      drained = takes.goes.drained run.drained;
-      covers = takes.goes.room ∙ run.covers;
-      refusals_are = takes.refusals ∙ ap (after_said feed entry.line takes.said) run.refusals_are ∙ sym (refusals-push readings feed entry takes.said);
+      stands = subst (λ (es : List Event). Stands listed es (sent ++ new.text.items) new.engine) (sym (events-push readings reading)) (takes.takes.goes.stands listed (events_of readings) sent run.stands);
+      drained = takes.takes.goes.drained run.drained;
+      channel = takes.takes.goes.channel ∙ run.channel;
+      refusals_are = takes.takes.refusals ∙ ap (after_said feed entry.line takes.said) run.refusals_are ∙ sym (refusals-push readings feed entry takes.said);
     }
 
 -- ---- what went out
@@ -170,22 +165,22 @@ taken_all listed room a b s start taken engine held refusals a' b' s' none so_fa
 
 pub all_written : (listed : List Instrument) (room : ℕ) (arrivals : List Arrival) (start taken taken' : List ℕ) (engine : View) (held end : List ℕ) (refusals : RefusalTexts) (next : ℕ) (lost : Bool)
     → taken' ≡ (taken ++ held) ++ end → end ≡ (refusals.a ++ (refusals.b ++ refusals.s)) ++ last_line next lost
-    → ((listed : List Instrument) (es : List Event) (drained : List ℕ) → Stands listed es drained engine → next ≡ (state_at engine.arbiter.room (ids_of listed) es).next)
-    → ((listed : List Instrument) (es : List Event) (drained : List ℕ) → Stands listed es drained engine → lost ≡ is_lost engine.arbiter.room es (state_at engine.arbiter.room (ids_of listed) es))
+    → ((listed : List Instrument) (es : List Event) (drained : List ℕ) → Stands listed es drained engine → next ≡ (state_at engine.arbiter.channel es).next)
+    → ((listed : List Instrument) (es : List Event) (drained : List ℕ) → Stands listed es drained engine → lost ≡ is_lost engine.arbiter.channel es (state_at engine.arbiter.channel es))
     → Writes listed room arrivals start taken engine held refusals
-    → (text : List ℕ) × (taken' ≡ start ++ text) × Prints listed room arrivals text next lost
+    → (text : List ℕ) × (taken' ≡ start ++ text) × PrintsAll listed room arrivals text next lost
 all_written listed room arrivals start taken taken' engine held end refusals next lost went end_is next_is lost_is so_far =
     let readings = so_far.over.readings in
     let es = events_of readings in
     let run = so_far.over.run in
     let front = so_far.sent ++ held in
-    let next_after_all : next ≡ next_after listed room es = next_is listed es front run.stands ∙ ap (λ (r : ℕ). next_after listed r es) run.covers in
-    let lost_after_all : lost ≡ is_lost_after listed room es = lost_is listed es front run.stands ∙ ap (λ (r : ℕ). is_lost_after listed r es) run.covers in
-    let ending : end ≡ all_refusal_lines readings ++ last_line (next_after listed room es) (is_lost_after listed room es) =
+    let next_after_all : next ≡ next_after listed room es = next_is listed es front run.stands ∙ ap (λ (c : Channel). (state_at c es).next) run.channel in
+    let lost_after_all : lost ≡ is_lost_after listed room es = lost_is listed es front run.stands ∙ ap (λ (c : Channel). is_lost c es (state_at c es)) run.channel in
+    let ending : end ≡ refusals_text (by_feed readings) ++ last_line (next_after listed room es) (is_lost_after listed room es) =
     end_is
     ∙ ap (λ (t : RefusalTexts). (t.a ++ (t.b ++ t.s)) ++ last_line next lost) run.refusals_are
-    ∙ ap (λ (n : ℕ). all_refusal_lines readings ++ last_line n lost) next_after_all
-    ∙ ap (λ (l : Bool). all_refusal_lines readings ++ last_line (next_after listed room es) l) lost_after_all in
+    ∙ ap (λ (n : ℕ). refusals_text (by_feed readings) ++ last_line n lost) next_after_all
+    ∙ ap (λ (l : Bool). refusals_text (by_feed readings) ++ last_line (next_after listed room es) l) lost_after_all in
     let sent_all : taken' ≡ start ++ (front ++ end) =
     went ∙ ap (λ (t : List ℕ). (t ++ held) ++ end) so_far.taken_is ∙ ap (λ (t : List ℕ). t ++ end) (append_assoc start so_far.sent held) ∙ append_assoc start front end in (
       front ++ end,
@@ -195,11 +190,11 @@ all_written listed room arrivals start taken taken' engine held end refusals nex
         are = so_far.over.are;
         next_is = next_after_all;
         lost_is = lost_after_all;
-        owed = λ feed honest.
-            let front_is : front ≡ lines listed feed (steps_of (trace room (ids_of listed) es)) =
-            sym (append-nil front) ∙ ap (λ (t : List ℕ). front ++ t) (sym run.drained) ∙ (stands_owed listed feed es front engine honest run.stands).text
-            ∙ ap (λ (r : ℕ). lines listed feed (steps_of (trace r (ids_of listed) es))) run.covers in
-            ap (λ (t : List ℕ). t ++ end) front_is ∙ ap (λ (t : List ℕ). lines listed feed (steps_of (trace room (ids_of listed) es)) ++ t) ending;
+        shown =
+            let front_is : front ≡ shown_lines listed (moves_of listed room es) =
+            sym (append-nil front) ∙ ap (λ (t : List ℕ). front ++ t) (sym run.drained) ∙ run.stands.shows.text_is
+            ∙ ap (λ (c : Channel). shown_lines listed (trace c es)) run.channel in
+            ap (λ (t : List ℕ). t ++ end) front_is ∙ ap (λ (t : List ℕ). shown_lines listed (moves_of listed room es) ++ t) ending;
       },
     )
 
@@ -224,9 +219,9 @@ fault_counted start taken after written (Err fault) told so_far = told start so_
 
 pub run_printed : (listed : List Instrument) (room : ℕ) (arrivals : List Arrival) (start taken after : List ℕ) (engine : View) (held : List ℕ) (refusals : RefusalTexts) (result : Result Summary RunFault)
     → IfOk result (λ (summary : Summary). (listed : List Instrument) (room : ℕ) (arrivals : List Arrival) (start : List ℕ) → Writes listed room arrivals start taken engine held refusals
-    → (text : List ℕ) × (after ≡ start ++ text) × Prints listed room arrivals text summary.next summary.lost)
+    → (text : List ℕ) × (after ≡ start ++ text) × PrintsAll listed room arrivals text summary.next summary.lost)
     → Writes listed room arrivals start taken engine held refusals
-    → IfOk result (λ (summary : Summary). (text : List ℕ) × (after ≡ start ++ text) × Prints listed room arrivals text summary.next summary.lost)
+    → IfOk result (λ (summary : Summary). (text : List ℕ) × (after ≡ start ++ text) × PrintsAll listed room arrivals text summary.next summary.lost)
 run_printed listed room arrivals start taken after engine held refusals (Ok summary) prints so_far = prints listed room arrivals start so_far
 run_printed listed room arrivals start taken after engine held refusals (Err fault) prints so_far = tt
 

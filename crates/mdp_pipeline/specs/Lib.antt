@@ -1,7 +1,10 @@
 pub mod Merge
 pub mod Reading
+pub mod Merging
+pub mod Decoding
 pub mod Output
 pub mod RefusalTexts
 pub mod Running
 pub mod Faults
 pub mod Counted
+pub mod Readers

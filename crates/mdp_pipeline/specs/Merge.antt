@@ -1,8 +1,8 @@
 -- The records of the three feeds in the order of the capture's lines.
 use Rattle.std.specs.Prelude.{ℕ, Bool, true, false, nat_le, if◌then◌else◌, List, [], ◌∷◌, map, Option, Some, None}
 use Rattle.mdp_capture.specs.Record.{RecordContent}
-use Rattle.mdp_print.specs.declared.feed.Feed.{Feed}
-use Rattle.mdp_print.specs.declared.feed.Feed.TheVariants as feeds
+use Rattle.mdp_templates.specs.declared.feed.Feed.{Feed}
+use Rattle.mdp_templates.specs.declared.feed.Feed.TheVariants as feeds
 
 -- a record, and the feed that it came on
 pub record Arrival : Type 0 where
@@ -13,14 +13,14 @@ abbrev pub arrivals : Feed → List RecordContent → List Arrival
 arrivals feed records = map (λ (entry : RecordContent). record { feed = feed; entry = entry }) records
 
 -- turn by turn the first record of that list whose first record has the lesser line; of equal lines the first list's
-abbrev pub merged : List Arrival → List Arrival → List Arrival
-merged [] ys = ys
-merged (x ∷ xs) [] = x ∷ xs
-merged (x ∷ xs) (y ∷ ys) = if nat_le x.entry.line y.entry.line then x ∷ merged xs (y ∷ ys) else y ∷ merged (x ∷ xs) ys
+abbrev pub by_line : List Arrival → List Arrival → List Arrival
+by_line [] ys = ys
+by_line (x ∷ xs) [] = x ∷ xs
+by_line (x ∷ xs) (y ∷ ys) = if nat_le x.entry.line y.entry.line then x ∷ by_line xs (y ∷ ys) else y ∷ by_line (x ∷ xs) ys
 
 -- of equal lines feed A's record, then B's, then S's
 abbrev pub in_order : List RecordContent → List RecordContent → List RecordContent → List Arrival
-in_order a b s = merged (merged (arrivals feeds.A a) (arrivals feeds.B b)) (arrivals feeds.S s)
+in_order a b s = by_line (by_line (arrivals feeds.A a) (arrivals feeds.B b)) (arrivals feeds.S s)
 
 -- ---- which list goes first
 

@@ -1,52 +1,69 @@
--- What a run over the records of a channel's feeds prints, for every complete feed that agrees with what was accepted.
+-- What a run over the records of a channel's feeds prints, and what a complete feed that agrees with them has to do with it.
 use Rattle.std.specs.Prelude.{◌≡◌, ℕ, List, ◌++◌, Bool}
 use Rattle.mdp_templates.specs.Packet.{PacketContent}
 use Rattle.mdp_templates.specs.declared.instrument.Instrument.{Instrument}
-use Rattle.mdp_print.specs.declared.feed.Feed.TheVariants as feeds
 use Rattle.mdp_print.specs.Texts.{last_line}
+use Rattle.mdp_capture.specs.Record.{RecordContent}
 use Rattle.mdp_arbiter.specs.Accepted.{Event}
-use Rattle.mdp_arbiter.specs.Machine.{is_lost, state_at, trace}
-use Rattle.mdp_arbiter.specs.Slots.{ids_of}
+use Rattle.mdp_arbiter.specs.Machine.{Move, is_lost, state_at, trace}
+use Rattle.mdp_arbiter.specs.Channel.{ids_of, channel_of}
+use Rattle.mdp_desks.specs.Shown.{shown_lines}
 use Rattle.mdp_engine.specs.Honest.{IsHonest}
-use Rattle.mdp_engine.specs.Lines.{lines}
-use Rattle.mdp_engine.specs.Shown.{steps_of}
-use Rattle.mdp_pipeline.specs.Merge.{Arrival}
-use Rattle.mdp_pipeline.specs.Reading.{Reading, AreReadings, events_of, refusal_lines}
+use Rattle.mdp_engine.specs.Owed.{lines, steps_of}
+use Rattle.mdp_pipeline.specs.Reading.{Readings, AreReadingsOf, refusals_text}
+use Rattle.mdp_pipeline.specs.Merging.{Tagged, IsMerge, IsByLine, events_in}
 
--- The number of the packet that comes next after these events, and whether the receiver is lost then.
+-- ---- the text for these events
+
+-- The moves of the recovery machine, the number of the packet that comes next, and whether the receiver is lost then.
+abbrev pub moves_of : List Instrument → ℕ → List Event → List Move
+moves_of listed room events = trace (channel_of listed room) events
+
 abbrev pub next_after : List Instrument → ℕ → List Event → ℕ
-next_after listed room events = (state_at room (ids_of listed) events).next
+next_after listed room events = (state_at (channel_of listed room) events).next
 
 abbrev pub is_lost_after : List Instrument → ℕ → List Event → Bool
-is_lost_after listed room events = is_lost room events (state_at room (ids_of listed) events)
+is_lost_after listed room events = is_lost (channel_of listed room) events (state_at (channel_of listed room) events)
 
--- a line for each refused datagram, feed A's, then B's, then S's
-abbrev pub all_refusal_lines : List Reading → List ℕ
-all_refusal_lines readings = refusal_lines feeds.A readings ++ (refusal_lines feeds.B readings ++ refusal_lines feeds.S readings)
+-- what stands behind the moves' lines: those of the refused datagrams, and the last line
+abbrev pub end_lines : List Instrument → ℕ → List ℕ → List Event → List ℕ
+end_lines listed room refusals events = refusals ++ last_line (next_after listed room events) (is_lost_after listed room events)
 
--- The text of a run under a complete feed: the lines that the feed owes for the moves of the events, the refused
--- datagrams, and the last line.
-abbrev pub output : List Instrument → List PacketContent → ℕ → List Reading → List ℕ
-output listed feed room readings =
-    lines listed feed (steps_of (trace room (ids_of listed) (events_of readings)))
-    ++ (all_refusal_lines readings ++ last_line (next_after listed room (events_of readings)) (is_lost_after listed room (events_of readings)))
+-- the text that the moves themselves show, whatever came
+abbrev pub shown_output : List Instrument → ℕ → List ℕ → List Event → List ℕ
+shown_output listed room refusals events = shown_lines listed (moves_of listed room events) ++ end_lines listed room refusals events
 
--- What is printed, which number comes next, and whether the receiver is lost at the end: these records say what they
--- say, and for every complete feed that agrees with the events the text is that feed's.
-pub record Prints (listed : List Instrument) (room : ℕ) (arrivals : List Arrival) (text : List ℕ) (next : ℕ) (lost : Bool) : Type 0 where
-  pub readings : List Reading
-  pub are : AreReadings arrivals readings
-  pub next_is : next ≡ next_after listed room (events_of readings)
-  pub lost_is : lost ≡ is_lost_after listed room (events_of readings)
-  pub owed : (feed : List PacketContent) → IsHonest (ids_of listed) feed (events_of readings) → text ≡ output listed feed room readings
+-- the text that a complete feed defines: the lines that it owes for the moves
+abbrev pub output : List Instrument → List PacketContent → ℕ → List ℕ → List Event → List ℕ
+output listed feed room refusals events = lines listed feed (steps_of (moves_of listed room events)) ++ end_lines listed room refusals events
+
+-- ---- a run
+
+-- What a run over these records prints, where this is the merge of what they brought: the text that the merge's moves show. It
+-- is the text of every complete feed that agrees with the merge.
+pub record Prints (listed : List Instrument) (room : ℕ) (a b s : List RecordContent) (merge : List Tagged) (text : List ℕ) (next : ℕ) (lost : Bool) : Type 0 where
+  pub readings : Readings
+  pub are : AreReadingsOf a b s readings
+  pub merges : IsMerge readings merge
+  pub next_is : next ≡ next_after listed room (events_in merge)
+  pub lost_is : lost ≡ is_lost_after listed room (events_in merge)
+  pub shown : text ≡ shown_output listed room (refusals_text readings) (events_in merge)
+  pub owed : (feed : List PacketContent) → IsHonest (ids_of listed) feed (events_in merge) → text ≡ output listed feed room (refusals_text readings) (events_in merge)
 
 -- What went out of a run that ended early is a beginning of the text that the whole run prints.
-pub record Begins (listed : List Instrument) (room : ℕ) (arrivals : List Arrival) (start taken : List ℕ) : Type 0 where
+pub record Begins (listed : List Instrument) (room : ℕ) (a b s : List RecordContent) (merge : List Tagged) (start taken : List ℕ) : Type 0 where
   pub text : List ℕ
   pub next : ℕ
   pub lost : Bool
-  pub prints : Prints listed room arrivals text next lost
+  pub prints : Prints listed room a b s merge text next lost
   pub sent : List ℕ
   pub rest : List ℕ
   pub taken_is : taken ≡ start ++ sent
   pub whole : text ≡ sent ++ rest
+
+-- the same of the one merge that follows the capture's lines
+abbrev pub PrintsByLine : List Instrument → ℕ → List RecordContent → List RecordContent → List RecordContent → List ℕ → ℕ → Bool → Type 0
+PrintsByLine listed room a b s text next lost = (merge : List Tagged) × IsByLine a b s merge × Prints listed room a b s merge text next lost
+
+abbrev pub BeginsByLine : List Instrument → ℕ → List RecordContent → List RecordContent → List RecordContent → List ℕ → List ℕ → Type 0
+BeginsByLine listed room a b s start taken = (merge : List Tagged) × IsByLine a b s merge × Begins listed room a b s merge start taken

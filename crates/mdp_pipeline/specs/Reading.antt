@@ -1,20 +1,20 @@
 -- What the records of a channel's feeds say: the events that each brings, or why it is refused.
-use Rattle.std.specs.Prelude.{◌≡◌, ◌==◌, ℕ, Bool, List, [], ◌∷◌, map}
+use Rattle.std.specs.Prelude.{◌≡◌, ◌==◌, ℕ, Bool, List, [], ◌∷◌, ◌++◌, map}
 use Rattle.std.specs.List.{AllByRecursion, filter, flat_map}
 use Rattle.mdp_sbe.specs.declared.refusal.Refusal.{Refusal}
 use Rattle.mdp_templates.specs.Packet.{PacketContent}
 use Rattle.mdp_templates.specs.Snapshot.{SnapshotContent}
 use Rattle.mdp_templates.specs.Incremental.{IsPacket}
 use Rattle.mdp_templates.specs.Recovery.{AreSnapshots}
-use Rattle.mdp_templates.specs.Refused.{Feed as Kind, IsRefusedAs}
-use Rattle.mdp_templates.specs.Refused.Feed.{incremental, recovery}
-use Rattle.mdp_capture.specs.Record.{Received, Datagram, Close}
-use Rattle.mdp_print.specs.declared.feed.Feed.{Feed}
-use Rattle.mdp_print.specs.declared.feed.Feed.TheVariants as feeds
-use Rattle.mdp_print.specs.Feed.{feed_letter}
+use Rattle.mdp_templates.specs.Refused.{FeedKind as Kind, IsRefusedAs}
+use Rattle.mdp_templates.specs.Refused.FeedKind.{incremental, recovery}
+use Rattle.mdp_capture.specs.Record.{RecordContent, Received, Datagram, Close}
+use Rattle.mdp_templates.specs.declared.feed.Feed.{Feed}
+use Rattle.mdp_templates.specs.declared.feed.Feed.TheVariants as feeds
+use Rattle.mdp_templates.specs.Feed.{feed_letter}
 use Rattle.mdp_print.specs.Texts.{refusal_line}
 use Rattle.mdp_arbiter.specs.Accepted.{Event, came, recovered, closed}
-use Rattle.mdp_pipeline.specs.Merge.{Arrival}
+use Rattle.mdp_pipeline.specs.Merge.{Arrival, arrivals}
 
 -- a record brings events, in order, or is refused
 pub data Said : Type 0 where
@@ -47,22 +47,48 @@ pub record AreReadings (arrivals : List Arrival) (readings : List Reading) : Typ
   pub of : map (λ (r : Reading). r.arrival) readings ≡ arrivals
   pub each : AllByRecursion IsReading readings
 
-abbrev pub events_in : Said → List Event
-events_in (brings events) = events
-events_in (refused refusal) = []
+abbrev pub brought_by : Said → List Event
+brought_by (brings events) = events
+brought_by (refused refusal) = []
 
 -- the events that were brought, in order
 abbrev pub events_of : List Reading → List Event
-events_of readings = flat_map (λ (r : Reading). events_in r.said) readings
+events_of readings = flat_map (λ (r : Reading). brought_by r.said) readings
 
--- the line of a datagram that was refused
-abbrev pub refusal_text : Arrival → Said → List ℕ
-refusal_text arrival (brings events) = []
-refusal_text arrival (refused refusal) = refusal_line arrival.feed arrival.entry.line refusal
+-- the line of a datagram that was refused, which came from this line of the capture
+abbrev pub refusal_text : Feed → ℕ → Said → List ℕ
+refusal_text feed line (brings events) = []
+refusal_text feed line (refused refusal) = refusal_line feed line refusal
 
-abbrev pub is_on : Feed → Reading → Bool
-is_on feed r = feed_letter r.arrival.feed == feed_letter feed
+-- a line for each datagram that was refused, in order
+abbrev pub refusal_lines : List Reading → List ℕ
+refusal_lines readings = flat_map (λ (r : Reading). refusal_text r.arrival.feed r.arrival.entry.line r.said) readings
 
--- a line for each datagram of a feed that was refused, in order
-abbrev pub refusal_lines : Feed → List Reading → List ℕ
-refusal_lines feed readings = flat_map (λ (r : Reading). refusal_text r.arrival r.said) (filter (is_on feed) readings)
+-- ---- the three feeds
+
+pub record Readings : Type 0 where
+  pub a : List Reading
+  pub b : List Reading
+  pub s : List Reading
+
+-- the readings of the records of A, of B and of S
+pub record AreReadingsOf (a b s : List RecordContent) (readings : Readings) : Type 0 where
+  pub a_are : AreReadings (arrivals feeds.A a) readings.a
+  pub b_are : AreReadings (arrivals feeds.B b) readings.b
+  pub s_are : AreReadings (arrivals feeds.S s) readings.s
+
+-- the lines of feed A's refused datagrams, then of B's, then of S's
+abbrev pub refusals_text : Readings → List ℕ
+refusals_text readings = refusal_lines readings.a ++ (refusal_lines readings.b ++ refusal_lines readings.s)
+
+-- ---- readings of all feeds in one list
+
+abbrev pub is_on : Feed → Arrival → Bool
+is_on feed arrival = feed_letter arrival.feed == feed_letter feed
+
+-- those of one feed
+abbrev pub readings_on : Feed → List Reading → List Reading
+readings_on feed readings = filter (λ (r : Reading). is_on feed r.arrival) readings
+
+abbrev pub by_feed : List Reading → Readings
+by_feed readings = record { a = readings_on feeds.A readings; b = readings_on feeds.B readings; s = readings_on feeds.S readings }

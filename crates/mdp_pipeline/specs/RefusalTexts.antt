@@ -2,8 +2,8 @@
 use Rattle.std.specs.Prelude.{ℕ, List, [], ◌++◌, refl}
 use Rattle.std.specs.Coded.{Coded, code_by, coded×, coded_ℕ, coded_list}
 use Rattle.mdp_sbe.specs.declared.refusal.Refusal.{Refusal}
-use Rattle.mdp_print.specs.declared.feed.Feed.{Feed}
-use Rattle.mdp_print.specs.declared.feed.Feed.TheVariants as feeds
+use Rattle.mdp_templates.specs.declared.feed.Feed.{Feed}
+use Rattle.mdp_templates.specs.declared.feed.Feed.TheVariants as feeds
 use Rattle.mdp_print.specs.Texts.{refusal_line}
 
 pub record RefusalTexts : Type 0 where

@@ -1,20 +1,22 @@
 -- What a run has come to after these readings.
-use Rattle.std.specs.Prelude.{◌≡◌, ℕ, List, [], ◌∷◌, ◌++◌}
+use Rattle.std.specs.Prelude.{◌≡◌, ℕ, List, [], ◌∷◌, ◌++◌, Bool}
 use Rattle.mdp_templates.specs.declared.instrument.Instrument.{Instrument}
-use Rattle.mdp_print.specs.declared.feed.Feed.{Feed}
-use Rattle.mdp_print.specs.declared.feed.Feed.TheVariants as feeds
+use Rattle.mdp_templates.specs.declared.feed.Feed.{Feed}
+use Rattle.mdp_templates.specs.declared.feed.Feed.TheVariants as feeds
+use Rattle.mdp_arbiter.specs.Channel.{channel_of}
 use Rattle.mdp_arbiter.specs.Accepted.{Event}
 use Rattle.mdp_engine.specs.Engine.{View, Stands}
 use Rattle.mdp_pipeline.specs.Merge.{Arrival}
-use Rattle.mdp_templates.specs.Refused.{Feed as Kind}
+use Rattle.mdp_templates.specs.Refused.{FeedKind as Kind}
 use Rattle.mdp_capture.specs.Record.{Received}
 use Rattle.mdp_pipeline.specs.declared.run.Run.{Run}
+use Rattle.mdp_pipeline.specs.Output.{is_lost_after, next_after, shown_output}
 use Rattle.mdp_pipeline.specs.RefusalTexts.{RefusalTexts, with_refusal}
-use Rattle.mdp_pipeline.specs.Reading.{Reading, AreReadings, Said, Says, brings, refused, events_in, events_of, kind_of, refusal_lines}
+use Rattle.mdp_pipeline.specs.Reading.{Reading, AreReadings, Said, Says, brings, refused, brought_by, by_feed, events_of, kind_of, readings_on, refusal_lines, refusals_text}
 
 -- the lines of those that these readings refuse
 abbrev pub refusals_of : List Reading → RefusalTexts
-refusals_of readings = record { a = refusal_lines feeds.A readings; b = refusal_lines feeds.B readings; s = refusal_lines feeds.S readings }
+refusals_of readings = record { a = refusal_lines (readings_on feeds.A readings); b = refusal_lines (readings_on feeds.B readings); s = refusal_lines (readings_on feeds.S readings) }
 
 abbrev pub after_said : Feed → ℕ → Said → RefusalTexts → RefusalTexts
 after_said feed line (brings events) texts = texts
@@ -25,20 +27,24 @@ after_said feed line (refused refusal) texts = with_refusal feed line refusal te
 pub record GoesOn (events : List Event) (engine : View) (text : List ℕ) (engine' : View) (text' : List ℕ) : Type 0 where
   pub stands : (listed : List Instrument) (before : List Event) (sent : List ℕ) → Stands listed before (sent ++ text) engine → Stands listed (before ++ events) (sent ++ text') engine'
   pub drained : engine.held ≡ [] → engine'.held ≡ []
-  pub room : engine'.arbiter.room ≡ engine.arbiter.room
+  pub channel : engine'.arbiter.channel ≡ engine.arbiter.channel
+
+-- a run has taken in what a record says
+pub record TakesSaid {A : Type 0} (feed : Feed) (line : ℕ) (said : Said) (old new : Run A) : Type 0 where
+  pub goes : GoesOn (brought_by said) old.engine old.text.items new.engine new.text.items
+  pub refusals : new.refusals ≡ after_said feed line said old.refusals
 
 -- a run has taken in what came on a feed of this kind, as it says
 pub record TakesAs {A : Type 0} (kind : Kind) (feed : Feed) (line : ℕ) (received : Received) (old new : Run A) : Type 0 where
   pub said : Said
   pub says : Says kind received said
-  pub goes : GoesOn (events_in said) old.engine old.text.items new.engine new.text.items
-  pub refusals : new.refusals ≡ after_said feed line said old.refusals
+  pub takes : TakesSaid feed line said old new
 
 -- the engine stands at the events of these readings after the text so far, and holds no line back
 pub record HasRun (listed : List Instrument) (room : ℕ) (readings : List Reading) (engine : View) (text : List ℕ) (refusals : RefusalTexts) : Type 0 where
   pub stands : Stands listed (events_of readings) text engine
   pub drained : engine.held ≡ []
-  pub covers : engine.arbiter.room ≡ room
+  pub channel : engine.arbiter.channel ≡ channel_of listed room
   pub refusals_are : refusals ≡ refusals_of readings
 
 -- a record more, and what it says
@@ -58,3 +64,24 @@ pub record Writes (listed : List Instrument) (room : ℕ) (arrivals : List Arriv
   pub sent : List ℕ
   pub taken_is : taken ≡ start ++ sent
   pub over : RunsOver listed room arrivals engine (sent ++ held) refusals
+
+-- ---- runs over records of all feeds in one list
+
+-- the text of these records, in this order: what their moves show
+pub record PrintsAll (listed : List Instrument) (room : ℕ) (arrivals : List Arrival) (text : List ℕ) (next : ℕ) (lost : Bool) : Type 0 where
+  pub readings : List Reading
+  pub are : AreReadings arrivals readings
+  pub next_is : next ≡ next_after listed room (events_of readings)
+  pub lost_is : lost ≡ is_lost_after listed room (events_of readings)
+  pub shown : text ≡ shown_output listed room (refusals_text (by_feed readings)) (events_of readings)
+
+-- what went out is a beginning of it
+pub record BeginsAll (listed : List Instrument) (room : ℕ) (arrivals : List Arrival) (start taken : List ℕ) : Type 0 where
+  pub text : List ℕ
+  pub next : ℕ
+  pub lost : Bool
+  pub prints : PrintsAll listed room arrivals text next lost
+  pub sent : List ℕ
+  pub rest : List ℕ
+  pub taken_is : taken ≡ start ++ sent
+  pub whole : text ≡ sent ++ rest

@@ -4,10 +4,10 @@ ghost use Rattle.std.specs.Prelude.{◌≡◌, ◌≤◌, ◌<◌, ◌^◌, ◌-
 ghost use Rattle.mdp_templates.specs.Instrument.{AreFit};
 ghost use Rattle.mdp_pipeline.specs.Counted.{HasCounted, written_before};
 ghost use Rattle.mdp_pipeline.specs.Faults.{FailsBy};
-ghost use Rattle.mdp_pipeline.specs.Output.{Begins, Prints};
-ghost use Rattle.mdp_pipeline.specs.Running.{Writes};
+ghost use Rattle.mdp_pipeline.specs.Output.{BeginsByLine, PrintsByLine};
+ghost use Rattle.mdp_pipeline.specs.Running.{BeginsAll, PrintsAll, Writes};
 ghost use Rattle.mdp_templates.specs.declared.instrument.Instrument.{Instrument};
-ghost use Rattle.mdp_pipeline.specs.Merge.{Arrival, in_order};
+ghost use Rattle.mdp_pipeline.specs.Merge.{Arrival};
 
 use crate::merge::InOrder;
 use crate::run::Run;
@@ -88,8 +88,8 @@ pub fn run_in_order<W: CountedWrite, A: Allocator + Copy>(
     requires least { 1 ≤ window }
     requires most { window ≤ 65536 }
     ensures text { IfOk result (λ summary. (text : List ℕ) × (W.taken writer.new ≡ W.taken writer.old ++ text)
-        × Prints instruments.now window (in_order a.now b.now s.now) text summary.next summary.lost) }
-    ensures begins { IfErr result (λ _. Begins instruments.now window (in_order a.now b.now s.now) (W.taken writer.old) (W.taken writer.new)) }
+        × PrintsByLine instruments.now window a.now b.now s.now text summary.next summary.lost) }
+    ensures begins { IfErr result (λ _. BeginsByLine instruments.now window a.now b.now s.now (W.taken writer.old) (W.taken writer.new)) }
     ensures written { IfOk result (λ summary. HasCounted (W.taken writer.old) (W.taken writer.new) summary.written) }
     ensures told { IfErr result (λ fault. HasCounted (W.taken writer.old) (W.taken writer.new) (written_before fault)) }
     ensures failed { FailsBy result (W.failed writer.old) (W.failed writer.new) }
@@ -117,9 +117,9 @@ fn finish<W: CountedWrite, A: Allocator + Copy>(
     requires { W.failed writer.old < 2 ^ 64 - 1 }
     ensures text { IfOk result (λ summary. (listed : List Instrument) (room : ℕ) (arrivals : List Arrival) (start : List ℕ) →
         Writes listed room arrivals start (W.taken writer.old) run.engine run.text.items run.refusals →
-        (text : List ℕ) × (W.taken writer.new ≡ start ++ text) × Prints listed room arrivals text summary.next summary.lost) }
+        (text : List ℕ) × (W.taken writer.new ≡ start ++ text) × PrintsAll listed room arrivals text summary.next summary.lost) }
     ensures begins { IfErr result (λ _. (listed : List Instrument) (room : ℕ) (arrivals : List Arrival) (start : List ℕ) →
-        Writes listed room arrivals start (W.taken writer.old) run.engine run.text.items run.refusals → Begins listed room arrivals start (W.taken writer.new)) }
+        Writes listed room arrivals start (W.taken writer.old) run.engine run.text.items run.refusals → BeginsAll listed room arrivals start (W.taken writer.new)) }
     ensures counts { IfOk result (λ summary. (start : List ℕ) → HasCounted start (W.taken writer.old) written → HasCounted start (W.taken writer.new) summary.written) }
     ensures told { IfErr result (λ fault. (start : List ℕ) → HasCounted start (W.taken writer.old) written → HasCounted start (W.taken writer.new) (written_before fault)) }
     ensures failed { FailsBy result (W.failed writer.old) (W.failed writer.new) }

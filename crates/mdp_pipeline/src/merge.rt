@@ -4,7 +4,7 @@ ghost use Rattle.std.specs.Prelude.{◌≡◌, [], ◌∷◌, MatchOption};
 ghost use Rattle.mdp_pipeline.specs.Merge.{first_feed, head_line, in_order, is_first};
 
 use mdp_capture::Record;
-use mdp_print::Feed;
+use mdp_templates::Feed;
 use std::alloc::Allocator;
 
 /// The records that are left of each feed.

@@ -4,9 +4,9 @@ ghost use Rattle.std.specs.Prelude.{◌≡◌, ◌++◌, IfOk, OnOk};
 ghost use Rattle.mdp_print.specs.Texts.{last_line};
 ghost use Rattle.mdp_pipeline.specs.RefusalTexts.{no_refusals, with_refusal};
 
-use mdp_print::{Feed, put_last, put_refusal};
+use mdp_print::{put_last, put_refusal};
 use mdp_sbe::Refusal;
-use mdp_templates::Memory;
+use mdp_templates::{Feed, Memory};
 use std::alloc::Allocator;
 use std::marker::Model;
 

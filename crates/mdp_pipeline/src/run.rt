@@ -2,18 +2,17 @@
 
 ghost use Rattle.std.specs.Prelude.{◌≡◌, ◌≤◌, [], ◌∷◌, ℕ, IfOk, OnOk, map};
 ghost use Rattle.mdp_templates.specs.Instrument.{AreFit};
-ghost use Rattle.mdp_capture.specs.Record.{Datagram, Close};
-ghost use Rattle.mdp_templates.specs.Refused.Feed.{incremental, recovery};
 ghost use Rattle.mdp_arbiter.specs.Accepted.{recovered};
 ghost use Rattle.mdp_engine.specs.Steps.{event_of};
+ghost use Rattle.mdp_pipeline.specs.Decoding.{said_of};
 ghost use Rattle.mdp_pipeline.specs.Reading.{kind_of};
-ghost use Rattle.mdp_pipeline.specs.Running.{GoesOn, HasRun, TakesAs};
+ghost use Rattle.mdp_pipeline.specs.Running.{GoesOn, HasRun, TakesAs, TakesSaid};
 
+use crate::decoding::{Decoded, read_record};
 use crate::refusals::Refusals;
 use mdp_capture::Record;
 use mdp_engine::{Engine, Event};
-use mdp_print::Feed;
-use mdp_templates::{Fault, Instrument, Memory, Packet, Snapshot, read_packet, read_snapshots};
+use mdp_templates::{Feed, Instrument, Memory, Packet, Snapshot};
 use mdp_window::RingWindow;
 use std::alloc::Allocator;
 
@@ -64,93 +63,25 @@ impl<A: Allocator + Copy> Run<A> {
         Ok(())
     }
 
-    // Takes a datagram of feed A or B.
-    fn receive_packet(
-        &mut self,
-        alloc: A,
-        feed: Feed,
-        line: u32,
-        bytes: &[u8],
-    ) -> Result<(), Memory>
-        ensures { OnOk result (TakesAs incremental feed line (Datagram bytes.now) self.old self.new) }
+    // Takes what a record on this line of a feed says. Of a datagram that is refused its line alone is kept.
+    fn take_in(&mut self, feed: Feed, line: u32, decoded: Decoded<A>) -> Result<(), Memory>
+        ensures { OnOk result (TakesSaid feed line (said_of decoded) self.old self.new) }
     {
-        match read_packet(alloc, bytes) {
-            Ok(packet) => {
-                self.on(Event::Packet(packet))?;
-                Ok(())
-            }
-            Err(Fault::Refused(refusal)) => {
-                self.refusals.put(feed, line, refusal)?;
-                Ok(())
-            }
-            Err(Fault::Memory) => Err(Memory),
+        match decoded {
+            Decoded::Packet(packet) => self.on(Event::Packet(packet))?,
+            Decoded::Snapshots(snapshots) => self.recover(&snapshots)?,
+            Decoded::Close => self.on(Event::Close)?,
+            Decoded::Nothing => {}
+            Decoded::Refused(refusal) => self.refusals.put(feed, line, refusal)?,
         }
+        Ok(())
     }
 
-    // Takes a datagram of feed S.
-    fn receive_snapshots(&mut self, alloc: A, line: u32, bytes: &[u8]) -> Result<(), Memory>
-        ensures { OnOk result (TakesAs recovery Feed.S line (Datagram bytes.now) self.old self.new) }
-    {
-        match read_snapshots(alloc, bytes) {
-            Ok(snapshots) => {
-                self.recover(&snapshots)?;
-                Ok(())
-            }
-            Err(Fault::Refused(refusal)) => {
-                self.refusals.put(Feed::S, line, refusal)?;
-                Ok(())
-            }
-            Err(Fault::Memory) => Err(Memory),
-        }
-    }
-
-    // Takes a datagram of a feed.
-    fn receive(&mut self, alloc: A, feed: Feed, line: u32, bytes: &[u8]) -> Result<(), Memory>
-        ensures { OnOk result (TakesAs (kind_of feed) feed line (Datagram bytes.now) self.old self.new) }
-    {
-        match feed {
-            Feed::A => {
-                self.receive_packet(alloc, Feed::A, line, bytes)?;
-                Ok(())
-            }
-            Feed::B => {
-                self.receive_packet(alloc, Feed::B, line, bytes)?;
-                Ok(())
-            }
-            Feed::S => {
-                self.receive_snapshots(alloc, line, bytes)?;
-                Ok(())
-            }
-        }
-    }
-
-    // Takes a close, which counts on feed S alone.
-    fn close(&mut self, feed: Feed) -> Result<(), Memory>
-        ensures { OnOk result ((line : ℕ) → TakesAs (kind_of feed) feed line Close self.old self.new) }
-    {
-        match feed {
-            Feed::A => Ok(()),
-            Feed::B => Ok(()),
-            Feed::S => {
-                self.on(Event::Close)?;
-                Ok(())
-            }
-        }
-    }
-
-    /// Takes a record of a feed. Of a datagram that is refused its line alone is kept.
+    /// Takes a record of a feed.
     pub fn take(&mut self, alloc: A, feed: Feed, record: &Record<A>) -> Result<(), Memory>
         ensures { OnOk result (TakesAs (kind_of feed) feed «record».now.line «record».now.received self.old self.new) }
     {
-        match record.bytes() {
-            Some(bytes) => {
-                self.receive(alloc, feed, record.line(), bytes)?;
-                Ok(())
-            }
-            None => {
-                self.close(feed)?;
-                Ok(())
-            }
-        }
+        let decoded = read_record(alloc, feed, record)?;
+        self.take_in(feed, record.line(), decoded)
     }
 }

@@ -9,8 +9,8 @@ use Rattle.mdp_books.specs.declared.book.Place.{Place}
 use Rattle.mdp_quotes.specs.declared.total.Total.{Total}
 use Rattle.mdp_quotes.specs.declared.verdict.Verdict.{Verdict}
 use Rattle.mdp_quotes.specs.declared.verdict.Verdict.TheVariants.{Neither, Missing, Extra, Better, Worse, Equal, EqualLess, EqualMore}
-use Rattle.mdp_print.specs.declared.feed.Feed.{Feed}
-use Rattle.mdp_print.specs.Feed.{feed_letter}
+use Rattle.mdp_templates.specs.declared.feed.Feed.{Feed}
+use Rattle.mdp_templates.specs.Feed.{feed_letter}
 
 -- one space, the price in units of 10^-9, `x`, and the size
 unfoldable pub quote_text : ℤ → ℤ → List ℕ

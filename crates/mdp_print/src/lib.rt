@@ -7,7 +7,6 @@
 
 mod book_lines;
 mod counting;
-mod feed;
 mod pieces;
 mod short_text;
 mod status_lines;
@@ -19,7 +18,6 @@ mod writing;
 
 pub use book_lines::{put_consolidated, put_direct, put_implied};
 pub use counting::Counting;
-pub use feed::Feed;
 pub use short_text::{ShortText, TextFromEnd};
 pub use status_lines::{put_fault, put_jump, put_last, put_refusal};
 pub use verdict_lines::put_audit;

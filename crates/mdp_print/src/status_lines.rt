@@ -4,12 +4,11 @@ ghost use Rattle.std.specs.Prelude.{◌≡◌, ◌+◌, ◌<◌, ◌++◌, lengt
 ghost use Rattle.mdp_print.specs.Texts.{place_text, fault_line, jump_line, refusal_line, last_line};
 ghost use Rattle.mdp_print.specs.Pieces.{BeginsWith};
 
-use crate::feed::Feed;
 use crate::pieces::{put, put_event, settle};
 use crate::short_text::ShortText;
 use mdp_books::Place;
 use mdp_sbe::Refusal;
-use mdp_templates::Memory;
+use mdp_templates::{Feed, Memory};
 use std::alloc::Allocator;
 
 /// The end of an `F` line: the place of an entry.

@@ -8,4 +8,5 @@ pub mod Incremental
 pub mod Recovery
 pub mod Side
 pub mod Refused
+pub mod Feed
 pub mod Framed

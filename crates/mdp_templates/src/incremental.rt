@@ -7,7 +7,7 @@ ghost use Rattle.mdp_templates.specs.Incremental.{IsBook, IsCarrier, IsIncrement
 ghost use Rattle.mdp_templates.specs.Layout.{IsRefusedLayout};
 ghost use Rattle.mdp_templates.specs.Entry.{entry_of};
 ghost use Rattle.mdp_templates.specs.Refused.{IsRefusedAs};
-ghost use Rattle.mdp_templates.specs.Refused.Feed.{incremental};
+ghost use Rattle.mdp_templates.specs.Refused.FeedKind.{incremental};
 ghost use Rattle.mdp_sbe.specs.Framing.{IsRefusedRoot};
 
 use crate::entry::Entry;

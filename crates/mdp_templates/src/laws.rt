@@ -7,7 +7,7 @@ ghost use Rattle.mdp_templates.specs.Incremental.{IsPacket};
 ghost use Rattle.mdp_templates.specs.Packet.{PacketContent};
 ghost use Rattle.mdp_templates.specs.Recovery.{AreSnapshots};
 ghost use Rattle.mdp_templates.specs.Refused.{IsRefusedAs};
-ghost use Rattle.mdp_templates.specs.Refused.Feed.{incremental, recovery};
+ghost use Rattle.mdp_templates.specs.Refused.FeedKind.{incremental, recovery};
 ghost use Rattle.mdp_templates.specs.Snapshot.{SnapshotContent};
 
 /// On each feed every text has exactly one value or exactly one refusal, never both.

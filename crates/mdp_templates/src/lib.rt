@@ -4,6 +4,7 @@
 
 mod entry;
 mod fault;
+mod feed;
 mod incremental;
 mod instrument;
 mod laws;
@@ -17,6 +18,7 @@ mod template;
 
 pub use entry::{Action, Entry, Kind, Level};
 pub use fault::{Fault, Memory};
+pub use feed::Feed;
 pub use incremental::read_packet;
 pub use instrument::{Instrument, InstrumentKind, Name, are_fit};
 pub use laws::{datagrams_are_framed, one_answer};

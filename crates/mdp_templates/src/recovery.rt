@@ -7,7 +7,7 @@ ghost use Rattle.mdp_templates.specs.declared.entry.Kind.TheVariants as kinds;
 ghost use Rattle.mdp_templates.specs.Recovery.{IsWhole, HasBadSide, IsSnapshot, IsRefusedSnapshot, IsRecovery, IsRefusedRecovery, Give, AreSnapshots};
 ghost use Rattle.mdp_templates.specs.Side.{AreShallow};
 ghost use Rattle.mdp_templates.specs.Refused.{IsRefusedAs};
-ghost use Rattle.mdp_templates.specs.Refused.Feed.{recovery};
+ghost use Rattle.mdp_templates.specs.Refused.FeedKind.{recovery};
 
 use crate::entry::Kind;
 use crate::fault::Fault;

@@ -1,5 +1,5 @@
 -- What a ring of places holds at each number.
-use Rattle.std.proofs.Common.{◌≡◌, ℕ, suc, cond, List, [], ◌∷◌, ◌++◌, length, get_or, drop, replicate, refl, sym, ap, ◌∙◌, Bool, true, false, ltb, eqb, ◌<◌, ◌≤◌, ◌+◌, ◌-◌, ◌≢◌, ◌⊎◌, min, max, arith, inl, inr, length-append, length-drop}
+use Rattle.std.proofs.Common.{◌≡◌, ℕ, suc, cond, List, [], ◌∷◌, ◌++◌, length, get_or, replicate, refl, sym, ap, ◌∙◌, Bool, true, false, ltb, eqb, ◌<◌, ◌≤◌, ◌+◌, ◌-◌, ◌≢◌, ◌⊎◌, min, max, arith, inl, inr, length-append, length-drop}
 use Rattle.std.proofs.lemmas.Grind.{common_steps, get_or_tail, get_or-set_at}
 use Rattle.std.proofs.lemmas.Bool.{le-ltb, false≢true}
 use Rattle.std.proofs.lemmas.List.{length-replicate, get_or-drop, get_or_past, get_or-replicate, get_or_append_left, get_or-append_right, get_or-set_other}

@@ -36,14 +36,15 @@ module _ {T : Type 0} where
   abbrev pub HoldsAlso : ℕ → ℕ → T → FinMap nat_cmp T → FinMap nat_cmp T → Type 0
   HoldsAlso first number item old new = (k : ℕ) → get new k ≡ (if nat_lt k first then None else (if k == number then Some item else get old k))
 
-  -- What putting an item of this number answers, and does: it is kept exactly where its number isn't old and none is
-  -- held there, but for want of memory. The window moves up just so far that the number is its last.
+  -- What putting an item of this number answers, and does: it comes back exactly where its number is old or held, else
+  -- it is kept, but for want of memory. The window moves up just so far that the number is its last.
   abbrev pub Puts : Bool → ℕ → T → View T → View T → Put T → Type 0
   Puts allocates number item old new Kept =
       (old.first ≤ number) × (get old.held number ≡ None)
       × (new.first ≡ max old.first (number + 1 - old.room)) × (new.room ≡ old.room) × HoldsAlso new.first number item old.held new.held
   Puts allocates number item old new (Back back) = ((number < old.first) ⊎ IsSome (get old.held number)) × (back ≡ item) × (new ≡ old)
-  Puts allocates number item old new (Memory back) = (allocates ≡ true) × (back ≡ item) × (new ≡ old)
+  Puts allocates number item old new (Memory back) =
+      (allocates ≡ true) × (back ≡ item) × (new ≡ old) × (old.first ≤ number) × (get old.held number ≡ None)
 
   -- what taking the first item answers, and does
   abbrev pub Takes : View T → View T → Option T → Type 0

@@ -1,4 +1,4 @@
-//! Packets of a channel that came ahead of the next number.
+//! A reorder buffer: packets that arrived before the one that is due.
 #![tactic(auto, using(crate::proofs::Lookups::lookups))]
 
 mod map_window;

@@ -30,7 +30,7 @@ pub enum Put<T> {
     Kept,
     /// It is handed back, since its number lies below the window or is held already.
     Back(T),
-    /// It is handed back, since memory was refused.
+    /// It is handed back, since memory was refused for a number that would be held.
     Memory(T),
 }
 

@@ -1,6 +1,6 @@
 use Rattle.std.proofs.Common.{◌≡◌, ◌++◌, drop}
 use Rattle.std.specs.List.{flat_map}
-use Rattle.mdp_engine.specs.Desks.{spread_line}
+use Rattle.mdp_engine.specs.Spreads.{spread_line}
 use Rattle.mdp_engine.proofs.audits.put_audits.Given as goal
 
 -- the text with the lines of the spreads that are left is the whole

@@ -2,10 +2,10 @@ use Rattle.std.proofs.Common.{◌≡◌, ◌++◌, ℕ, List, [], map, take, ap,
 use Rattle.std.proofs.lemmas.List.{take_all}
 use Rattle.mdp_arbiter.specs.Accepted.{Event as Accepted}
 use Rattle.mdp_arbiter.specs.Machine.{trace}
-use Rattle.mdp_arbiter.specs.Slots.{ids_of}
+use Rattle.mdp_arbiter.specs.Channel.{Channel}
 use Rattle.mdp_engine.specs.Engine.{Stands}
-use Rattle.mdp_engine.specs.Lines.{lines}
-use Rattle.mdp_engine.specs.Shown.{steps_of}
+use Rattle.mdp_engine.specs.Owed.{lines}
+use Rattle.mdp_engine.specs.Owed.{steps_of}
 use Rattle.mdp_engine.specs.Steps.{event_of}
 use Rattle.mdp_engine.proofs.Under.{stands_owed, taken_more}
 use Rattle.mdp_engine.proofs.engine.replay.Goals as goal
@@ -16,7 +16,7 @@ loop-event-preserved g c = record {
       subst (λ (es : List Accepted). Stands c.args.instruments.now es [] c.on.new.self)
       (taken_more c.args.events.now c.loop-event.event-index c.event-item.result (event_of c.in_ok-copy.field-0) c.loop-event-test.true c.event-item.is c.in_ok-copy.ensures)
       (c.in_ok-on.ensures.stands c.args.instruments.now (map event_of (take c.loop-event.event-index c.args.events.now)) [] c.loop-event.invariant.stands);
-  room = c.in_ok-on.ensures.room ∙ c.loop-event.invariant.room;
+  channel = c.in_ok-on.ensures.channel ∙ c.loop-event.invariant.channel;
 }
 
 pub returns : goal.returns
@@ -28,4 +28,4 @@ returns g c = λ feed honest.
     let stands = subst (λ events. Stands listed (map event_of events) [] engine) all c.loop-event.invariant.stands in
     c.in_ok-drain_lines.ensures.text ∙ ap (λ (t : List ℕ). t ++ engine.held) c.new-text.ensures.items
     ∙ (stands_owed listed feed es [] engine honest stands).text
-    ∙ ap (λ (r : ℕ). lines listed feed (steps_of (trace r (ids_of listed) es))) c.loop-event.invariant.room
+    ∙ ap (λ (ch : Channel). lines listed feed (steps_of (trace ch es))) c.loop-event.invariant.channel

@@ -1,4 +1,5 @@
 use Rattle.std.proofs.Common.{◌≡◌, [], map, take}
+use Rattle.mdp_arbiter.specs.Channel.{channel_of}
 use Rattle.mdp_engine.specs.Engine.{Stands}
 use Rattle.mdp_engine.specs.Steps.{event_of}
 use Rattle.mdp_engine.proofs.engine.replay.Given as goal
@@ -7,5 +8,5 @@ use Rattle.mdp_engine.proofs.engine.replay.Given as goal
 abbrev pub invariant-loop-event : goal.invariant-loop-event
 invariant-loop-event g l = record {
   stands : Stands l.instruments (map event_of (take l.event-index l.events)) [] l.engine;
-  room : l.engine.arbiter.room ≡ (g.W.Window.view l.fn.window).room;
+  channel : l.engine.arbiter.channel ≡ channel_of l.instruments (g.W.Window.view l.fn.window).room;
 }

@@ -1,5 +1,5 @@
 use Rattle.std.proofs.Common.{◌≡◌, ◌++◌, drop}
-use Rattle.mdp_engine.specs.Slots.{spreads_from}
+use Rattle.mdp_engine.specs.Spreads.{spreads_from}
 use Rattle.mdp_engine.proofs.spreads.spreads_of.Given as goal
 
 -- the spreads so far, with those of the instruments that are left, are all

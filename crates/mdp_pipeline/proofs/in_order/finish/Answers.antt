@@ -10,7 +10,7 @@ pub returns-clause-text : goal.returns-clause-text
 returns-clause-text g c = λ listed room arrivals start writes.
     let went = c.in_ok-hand_on-2.ensures.taken ∙ ap (λ (t : List ℕ). t ++ c.in-Ok.end.items) c.in_ok-hand_on.ensures.taken in
     all_written listed room arrivals start (g.W.CountedWrite.taken c.args.writer.now) _ c.args.run.engine c.args.run.text.items c.in-Ok.end.items c.args.run.refusals c.next-next.result c.lost-lost.result
-    went c.in-Ok.ensures c.next-next.ensures.stands c.lost-lost.ensures writes
+    went c.in-Ok.ensures c.next-next.ensures.stands c.lost-lost.ensures.stands writes
 
 -- there was no memory for the refusals, and nothing more went out
 pub returns-in_default-clause-begins : goal.returns-in_default-clause-begins
@@ -34,4 +34,4 @@ returns-in_err-hand_on-2-clause-begins g c =
     let front = c.in_err-hand_on-2.ensures.begins in
     let went = front.1 ∙ ap (λ (t : List ℕ). t ++ take front.0 c.in-Ok.end.items) c.in_ok-hand_on.ensures.taken in
     begins_in_end listed room arrivals start (g.W.CountedWrite.taken c.args.writer.now) (g.W.CountedWrite.taken c.hand_on-2.new.writer) c.args.run.engine c.args.run.text.items c.in-Ok.end.items c.args.run.refusals c.next-next.result c.lost-lost.result front.0
-    went c.in-Ok.ensures c.next-next.ensures.stands c.lost-lost.ensures writes)
+    went c.in-Ok.ensures c.next-next.ensures.stands c.lost-lost.ensures.stands writes)

@@ -3,6 +3,7 @@ use Rattle.std.proofs.lemmas.Result.{err_from_is_err_and}
 use Rattle.mdp_pipeline.specs.Merge.{in_order}
 use Rattle.mdp_pipeline.proofs.Written.{taken_none, taken_more, taken_all, run_printed, run_counted, fault_counted, counted_none}
 use Rattle.mdp_pipeline.proofs.Beginnings.{begins_none, run_begins, taken_begins, piece_begins}
+use Rattle.mdp_pipeline.proofs.Merges.{begins_by_line, ended_by_line, failed_by_line}
 use Rattle.mdp_pipeline.proofs.in_order.run_in_order.Goals as goal
 
 pub loop-feed-init : goal.loop-feed-init
@@ -47,7 +48,8 @@ returns-clause-text g c =
     let run = c.loop-feed.run in
     let here = c.loop-feed.records in
     let writes = taken_all listed c.args.window c.args.a.now c.args.b.now c.args.s.now start taken run.engine run.text.items run.refusals here.a.now here.b.now here.s.now c.in_default-next.ensures c.loop-feed.invariant.taken in
-    run_printed listed c.args.window (in_order c.args.a.now c.args.b.now c.args.s.now) start taken (g.W.CountedWrite.taken c.finish.new.writer) run.engine run.text.items run.refusals c.finish.result c.finish.ensures.text writes
+    ended_by_line listed c.args.window c.args.a.now c.args.b.now c.args.s.now start (g.W.CountedWrite.taken c.finish.new.writer) c.finish.result
+    (run_printed listed c.args.window (in_order c.args.a.now c.args.b.now c.args.s.now) start taken (g.W.CountedWrite.taken c.finish.new.writer) run.engine run.text.items run.refusals c.finish.result c.finish.ensures.text writes)
 
 pub returns-clause-written : goal.returns-clause-written
 returns-clause-written g c =
@@ -60,15 +62,17 @@ returns-clause-told g c =
 -- no run was made
 pub returns-in_default-clause-begins : goal.returns-in_default-clause-begins
 returns-in_default-clause-begins g c =
-    begins_none c.args.instruments.now c.args.window (in_order c.args.a.now c.args.b.now c.args.s.now) (g.W.CountedWrite.taken c.args.writer.now)
+    begins_by_line c.args.instruments.now c.args.window c.args.a.now c.args.b.now c.args.s.now (g.W.CountedWrite.taken c.args.writer.now) (g.W.CountedWrite.taken c.args.writer.now)
+    (begins_none c.args.instruments.now c.args.window (in_order c.args.a.now c.args.b.now c.args.s.now) (g.W.CountedWrite.taken c.args.writer.now))
 
 -- a record was not taken
 pub returns-in_default-take-clause-begins : goal.returns-in_default-take-clause-begins
 returns-in_default-take-clause-begins g c =
     let run = c.loop-feed.run in
     let here = c.loop-feed.records in
-    taken_begins c.args.instruments.now c.args.window c.args.a.now c.args.b.now c.args.s.now (g.W.CountedWrite.taken c.args.writer.now) (g.W.CountedWrite.taken c.loop-feed.writer)
-    run.engine run.text.items run.refusals here.a.now here.b.now here.s.now c.loop-feed.invariant.taken
+    begins_by_line c.args.instruments.now c.args.window c.args.a.now c.args.b.now c.args.s.now (g.W.CountedWrite.taken c.args.writer.now) (g.W.CountedWrite.taken c.loop-feed.writer)
+    (taken_begins c.args.instruments.now c.args.window c.args.a.now c.args.b.now c.args.s.now (g.W.CountedWrite.taken c.args.writer.now) (g.W.CountedWrite.taken c.loop-feed.writer)
+    run.engine run.text.items run.refusals here.a.now here.b.now here.s.now c.loop-feed.invariant.taken)
 
 -- a write of a piece failed
 pub returns-in_err-hand_on_pieces-clause-begins : goal.returns-in_err-hand_on_pieces-clause-begins
@@ -78,9 +82,10 @@ returns-in_err-hand_on_pieces-clause-begins g c =
     let there = c.next.new.self in
     let front = c.in_err-hand_on_pieces.ensures.begins in
     rw fault.1
+    (begins_by_line c.args.instruments.now c.args.window c.args.a.now c.args.b.now c.args.s.now (g.W.CountedWrite.taken c.args.writer.now) (g.W.CountedWrite.taken c.hand_on_pieces.new.writer)
     (piece_begins c.args.instruments.now c.args.window c.args.a.now c.args.b.now c.args.s.now (g.W.CountedWrite.taken c.args.writer.now) (g.W.CountedWrite.taken c.loop-feed.writer) (g.W.CountedWrite.taken c.hand_on_pieces.new.writer)
     c.loop-feed.run c.take.new.self here.a.now here.b.now here.s.now there.a.now there.b.now there.s.now c.in-Some.feed c.in-Some.record.now front.0
-    c.in-Some.ensures c.in-Ok-take.ensures front.1 c.loop-feed.invariant.taken)
+    c.in-Some.ensures c.in-Ok-take.ensures front.1 c.loop-feed.invariant.taken))
 
 pub returns-clause-begins : goal.returns-clause-begins
 returns-clause-begins g c =
@@ -90,4 +95,5 @@ returns-clause-begins g c =
     let run = c.loop-feed.run in
     let here = c.loop-feed.records in
     let writes = taken_all listed c.args.window c.args.a.now c.args.b.now c.args.s.now start taken run.engine run.text.items run.refusals here.a.now here.b.now here.s.now c.in_default-next.ensures c.loop-feed.invariant.taken in
-    run_begins listed c.args.window (in_order c.args.a.now c.args.b.now c.args.s.now) start taken (g.W.CountedWrite.taken c.finish.new.writer) run.engine run.text.items run.refusals c.finish.result c.finish.ensures.begins writes
+    failed_by_line listed c.args.window c.args.a.now c.args.b.now c.args.s.now start (g.W.CountedWrite.taken c.finish.new.writer) c.finish.result
+    (run_begins listed c.args.window (in_order c.args.a.now c.args.b.now c.args.s.now) start taken (g.W.CountedWrite.taken c.finish.new.writer) run.engine run.text.items run.refusals c.finish.result c.finish.ensures.begins writes)

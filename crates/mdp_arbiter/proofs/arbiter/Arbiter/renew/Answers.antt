@@ -6,7 +6,7 @@ use Rattle.std.proofs.lemmas.Option.{slice_get_within, slice_get_read}
 use mir.Val.{SFits}
 use mir.Syntax.{w32}
 use Rattle.mdp_arbiter.specs.Accepted.{is_newer}
-use Rattle.mdp_arbiter.proofs.Renewals.{renewed-set}
+use Rattle.mdp_arbiter.proofs.Renewals.{newest_after-set}
 use Rattle.mdp_arbiter.proofs.arbiter.Arbiter.renew.Goals as goal
 
 pub returns : goal.returns
@@ -18,5 +18,5 @@ returns g c =
     let within : c.in-Some.slot < length c.self.inside.newest.items = omega (arith, slice_get_within c.self.inside.slots c.in-Some.slot c.args.snapshot.security at, c.self.invariant.8) in
     let there : slice_get c.self.inside.newest.items c.in-Some.slot ≡ Some c.index.result.now = slice_get_read c.self.inside.newest.items _ _ _ refl within c.index.ensures in
     let newer : is_newer c.index.result.now c.args.snapshot ≡ true = grind (arith, common_steps, c.renews.ensures, c.if-not-renews.false) in
-    let set = renewed-set c.self.inside.slots c.args.snapshot c.self.inside.newest.items c.in-Some.slot c.index.result.now at only there newer in
-    rw (← c.self.view_is) (c.if-self.false, rw set refl)
+    let set = newest_after-set c.self.inside.slots c.args.snapshot c.self.inside.newest.items c.in-Some.slot c.index.result.now at only there newer in
+    rw (← c.self.view_is) (c.if-self.false, (c.in-Some.slot, c.index.result.now, at, there, newer), rw set refl)

@@ -15,4 +15,4 @@ returns-clause-moves g c =
     let past : c.self.inside.top ≤ c.from-last.result + c.self.inside.room = fresh_least _ _ _ _ fresh least in
     let first : (g.W.Window.view c.drop_below.new.self).first ≡ c.from-last.result + 1 = omega (arith, c.drop_below.ensures.0, c.self.invariant.0, past, c.if-self-2.false) in
     rw (← c.self.view_is) (jumps _ _ c.from-last.result c.if-self.false c.if-self-2.false fresh least c.self.invariant.6 (omega arith) refl c.max-self-inside.ensures
-    (grind (arith, common_steps, c.copy_all.ensures, c.deref-3.ensures.value)) (record { room = refl; ids = refl }) refl refl (rw first at c.drop_below.ensures.2))
+    (grind (arith, common_steps, c.copy_all.ensures, c.deref-3.ensures.value)) refl refl refl (rw first at c.drop_below.ensures.2))

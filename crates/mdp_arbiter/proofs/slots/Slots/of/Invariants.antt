@@ -1,5 +1,5 @@
 use Rattle.std.proofs.Common.{◌≡◌, take}
-use Rattle.mdp_arbiter.specs.Slots.{ids_of}
+use Rattle.mdp_arbiter.specs.Channel.{ids_of}
 use Rattle.mdp_arbiter.proofs.slots.Slots.of.Given as goal
 
 abbrev pub invariant-loop-instrument : goal.invariant-loop-instrument

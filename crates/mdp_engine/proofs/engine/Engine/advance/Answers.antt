@@ -9,4 +9,4 @@ returns-clause-stands g c = λ listed es drained stands.
     stands_further listed es (event_of c.args.event) drained c.args.self.now c.take_in.new.self c.move_on.new.self
     (c.in_ok-take_in.ensures.stands es stands.settled.stands) c.in_ok-take_in.ensures.keeps c.in_ok-take_in.ensures.channel
     (ap (λ (v : View). v.desks) c.in_ok-take_in.ensures.rest) (ap (λ (v : View). v.held) c.in_ok-take_in.ensures.rest)
-    c.in_ok-move_on.ensures.room c.in_ok-move_on.ensures.advances stands
+    c.in_ok-move_on.ensures.channel c.in_ok-move_on.ensures.advances stands

@@ -6,7 +6,7 @@ use Rattle.mdp_engine.proofs.engine.Engine.move_on.Given as goal
 abbrev pub invariant-loop-step : goal.invariant-loop-step
 invariant-loop-step g l = record {
   moves : MovesTo l.initial.self l.self;
-  room : l.self.arbiter.room ≡ l.initial.self.arbiter.room;
+  channel : l.self.arbiter.channel ≡ l.initial.self.arbiter.channel;
   sound : l.self.has_failed ≡ l.initial.self.has_failed;
 }
 

@@ -1,0 +1,6 @@
+pub mod Marks
+pub mod Hearing
+pub mod Passing
+pub mod Showing
+pub mod Moments
+pub mod Sharing

@@ -1,0 +1,100 @@
+-- A desk that isn't marked has no lines at an event end, and is as it was behind it.
+use Rattle.std.proofs.Common.{◌≡◌, ◌<◌, ◌≤◌, ℕ, zero, suc, ◌+◌, Bool, true, false, List, [], ◌∷◌, ◌++◌, length, map, take, drop, get_or, set, replicate, Option, refl, sym, ap, subst, ◌∙◌, arith}
+use Rattle.std.specs.List.{flat_map}
+use Rattle.std.specs.Prelude.{nat_lt}
+use Rattle.std.proofs.lemmas.List.{map-set, get_or-map}
+use Rattle.mdp_templates.specs.Snapshot.{SnapshotContent}
+use Rattle.mdp_templates.specs.declared.instrument.Instrument.{Instrument}
+use Rattle.mdp_desks.specs.declared.desk.Desk.{Desk}
+use Rattle.mdp_desks.specs.Lines.{text_of}
+use Rattle.mdp_desks.specs.Desks.{desk_at_start, desk_settled, desk_standing, desk_jumped, rebased_desks}
+use Rattle.mdp_desks.specs.Beside.{marks_of}
+
+-- ---- one desk
+
+pub no_lines : (k j : ℕ) (d : Desk) → d.marked ≡ false → text_of k j (desk_standing k d) ≡ []
+no_lines k j d is = by_base (nat_lt d.base k) refl
+  where
+    by_base : (b : Bool) → nat_lt d.base k ≡ b → text_of k j (desk_standing k d) ≡ []
+    by_base true over = rw (over, is) refl
+    by_base false under = rw under refl
+
+pub still : (k : ℕ) (d : Desk) → d.marked ≡ false → desk_settled k d ≡ d
+still k d is = by_base (nat_lt d.base k) refl
+  where
+    by_base : (b : Bool) → nat_lt d.base k ≡ b → desk_settled k d ≡ d
+    by_base true over = rw over (ap (λ (b : Bool). record { instrument = d.instrument; base = d.base; book = d.book; marked = b }) (sym is))
+    by_base false under = rw under refl
+
+-- ---- the desks from one place on
+
+abbrev pub lines_in : ℕ → ℕ → List Desk → List ℕ
+lines_in k j ds = flat_map (text_of k j) (map (desk_standing k) ds)
+
+pub lines_from : (k j : ℕ) (ds : List Desk) (n : ℕ) → ((i : ℕ) → i < n → get_or (marks_of ds) i false ≡ false) → lines_in k j (drop n ds) ≡ lines_in k j ds
+lines_from k j ds zero none = refl
+lines_from k j [] (suc n) none = refl
+lines_from k j (d ∷ ds) (suc n) none =
+    lines_from k j ds n (λ i less. none (suc i) (omega (arith, less)))
+    ∙ ap (λ (t : List ℕ). t ++ lines_in k j ds) (sym (no_lines k j d (none 0 (omega arith))))
+
+pub no_lines_from : (k j : ℕ) (ds : List Desk) (n : ℕ) → ((i : ℕ) → n ≤ i → get_or (marks_of ds) i false ≡ false) → lines_in k j (drop n ds) ≡ []
+no_lines_from k j [] zero none = refl
+no_lines_from k j [] (suc n) none = refl
+no_lines_from k j (d ∷ ds) zero none =
+    ap (λ (t : List ℕ). t ++ lines_in k j ds) (no_lines k j d (none 0 (omega arith)))
+    ∙ no_lines_from k j ds zero (λ i from. none (suc i) (omega arith))
+no_lines_from k j (d ∷ ds) (suc n) none = no_lines_from k j ds n (λ i from. none (suc i) (omega (arith, from)))
+
+-- ---- desks that are settled one after another
+
+abbrev pub settled_to : ℕ → ℕ → List Desk → List Desk
+settled_to k n ds = map (desk_settled k) (take n ds) ++ drop n ds
+
+pub settled_from : (k : ℕ) (ds : List Desk) (n : ℕ) → ((i : ℕ) → i < n → get_or (marks_of ds) i false ≡ false) → ds ≡ settled_to k n ds
+settled_from k ds zero none = refl
+settled_from k [] (suc n) none = refl
+settled_from k (d ∷ ds) (suc n) none =
+    let first = sym (still k d (none 0 (omega arith))) in
+    let others = settled_from k ds n (λ i less. none (suc i) (omega (arith, less))) in
+    cc (first, others)
+
+pub all_settled_at : (k : ℕ) (ds : List Desk) (n : ℕ) → ((i : ℕ) → n ≤ i → get_or (marks_of ds) i false ≡ false) → settled_to k n ds ≡ map (desk_settled k) ds
+all_settled_at k [] zero none = refl
+all_settled_at k [] (suc n) none = refl
+all_settled_at k (d ∷ ds) zero none =
+    let first = sym (still k d (none 0 (omega arith))) in
+    let others = all_settled_at k ds zero (λ i from. none (suc i) (omega arith)) in
+    cc (first, others)
+all_settled_at k (d ∷ ds) (suc n) none = ap (λ (t : List Desk). desk_settled k d ∷ t) (all_settled_at k ds n (λ i from. none (suc i) (omega (arith, from))))
+
+-- ---- the start
+
+pub marks_at_start : (listed : List Instrument) → replicate (length listed) false ≡ marks_of (map desk_at_start listed)
+marks_at_start [] = refl
+marks_at_start (i ∷ is) = ap (λ (t : List Bool). false ∷ t) (marks_at_start is)
+
+-- ---- one mark beside its desk
+
+pub marks_put : (ds : List Desk) (marks new : List Bool) (n : ℕ) (here : Desk) (mark : Bool) → marks ≡ marks_of ds → new ≡ set marks n mark → mark ≡ here.marked → new ≡ marks_of (set ds n here)
+marks_put ds marks new n here mark are is same =
+    is ∙ ap (λ (ms : List Bool). set ms n mark) are ∙ ap (set (marks_of ds) n) same ∙ sym (map-set (λ (d : Desk). d.marked) ds n here)
+
+pub mark_at : (ds : List Desk) (marks : List Bool) (n : ℕ) (here : Desk) → marks ≡ marks_of ds → n < length ds → here ≡ get_or ds n here → get_or marks n false ≡ here.marked
+mark_at ds marks n here are less at =
+    ap (λ (ms : List Bool). get_or ms n false) are ∙ get_or-map (λ (d : Desk). d.marked) ds n here false less ∙ ap (λ (d : Desk). d.marked) (sym at)
+
+-- ---- one desk more that takes its snapshot
+
+rebased_next : (n : ℕ) (bases : List (Option SnapshotContent)) (ds : List Desk) (base : Option SnapshotContent) (here d : Desk) → n < length ds → n < length bases → base ≡ get_or bases n base → here ≡ desk_jumped base (get_or ds n d)
+    → take (suc n) (set ds n here) ++ rebased_desks (drop (suc n) bases) (drop (suc n) (set ds n here)) ≡ take n ds ++ rebased_desks (drop n bases) (drop n ds)
+rebased_next n bases [] base here d less short at is = absurd (omega (arith, less))
+rebased_next n [] (x ∷ ds) base here d less short at is = absurd (omega (arith, short))
+rebased_next zero (b ∷ bases) (x ∷ ds) base here d less short at is = ap (λ (t : Desk). t ∷ rebased_desks bases ds) (is ∙ ap (λ (o : Option SnapshotContent). desk_jumped o x) at)
+rebased_next (suc n) (b ∷ bases) (x ∷ ds) base here d less short at is = ap (λ (t : List Desk). x ∷ t) (rebased_next n bases ds base here d (omega (arith, less)) (omega (arith, short)) at is)
+
+pub rebased_more : (n : ℕ) (bases : List (Option SnapshotContent)) (ds : List Desk) (base : Option SnapshotContent) (here d : Desk) → n < length ds → n < length bases → base ≡ get_or bases n base → here ≡ desk_jumped base (get_or ds n d)
+    → take (n + 1) (set ds n here) ++ rebased_desks (drop (n + 1) bases) (drop (n + 1) (set ds n here)) ≡ take n ds ++ rebased_desks (drop n bases) (drop n ds)
+rebased_more n bases ds base here d less short at is =
+    let one : suc n ≡ n + 1 = omega arith in
+    subst (λ (m : ℕ). take m (set ds n here) ++ rebased_desks (drop m bases) (drop m (set ds n here)) ≡ take n ds ++ rebased_desks (drop n bases) (drop n ds)) one (rebased_next n bases ds base here d less short at is)

@@ -1,0 +1,14 @@
+use Rattle.std.proofs.Common.{◌≡◌, take, map, sym, ap, ◌∙◌, arith}
+use Rattle.std.proofs.lemmas.List.{take_all}
+use Rattle.mdp_desks.specs.Desks.{desk_at_start}
+use Rattle.mdp_desks.specs.Beside.{marks_of}
+use Rattle.mdp_desks.proofs.Hearing.{beside_start}
+use Rattle.mdp_desks.proofs.Passing.{marks_at_start}
+use Rattle.mdp_desks.proofs.desks.Desks.new.Goals as goal
+
+pub invariant_of-result : goal.invariant_of-result
+invariant_of-result g c =
+    let listed = c.args.instruments.now in
+    let all : take c.loop-instrument.instrument-index listed ≡ listed = take_all c.loop-instrument.instrument-index listed (omega arith) in
+    let desks : c.loop-instrument.desks.items ≡ map desk_at_start listed = c.loop-instrument.invariant.desks ∙ ap (map desk_at_start) all in
+    beside_start listed c.loop-instrument.desks.items c.in_ok-slots.slots c.in_ok-marked.marked c.requires desks c.in_ok-slots.ensures (c.in_ok-marked.ensures ∙ marks_at_start listed ∙ ap marks_of (sym desks))

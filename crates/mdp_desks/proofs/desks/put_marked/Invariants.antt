@@ -1,0 +1,9 @@
+use Rattle.std.proofs.Common.{◌≡◌, ◌++◌, drop, map}
+use Rattle.std.specs.List.{flat_map}
+use Rattle.mdp_desks.specs.Lines.{text_of}
+use Rattle.mdp_desks.specs.Desks.{desk_standing}
+use Rattle.mdp_desks.proofs.desks.put_marked.Given as goal
+
+-- the text with the lines that are left is the whole
+abbrev pub invariant-loop-n : goal.invariant-loop-n
+invariant-loop-n g l = l.out.items ++ flat_map (text_of l.packet l.message) (map (desk_standing l.packet) (drop l.n l.desks)) ≡ l.initial.out.items ++ flat_map (text_of l.packet l.message) (map (desk_standing l.packet) l.desks)

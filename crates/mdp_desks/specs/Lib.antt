@@ -1,0 +1,9 @@
+pub mod Lines
+pub mod Shown
+pub mod Desks
+pub mod Beside
+pub mod Standing
+pub mod Moments
+pub mod Shares
+pub mod Reports
+pub mod ShareLaws

@@ -1,0 +1,44 @@
+-- What the moves show, moment by moment: at each event end what it shows of each listed security, and each jump.
+use Rattle.std.specs.Prelude.{Option, ℕ, List, [], ◌∷◌, ◌++◌, if◌then◌else◌, map}
+use Rattle.mdp_templates.specs.declared.instrument.Instrument.{Instrument}
+use Rattle.mdp_books.specs.Feed.{Sent, sent_in}
+use Rattle.mdp_print.specs.Texts.{jump_line}
+use Rattle.mdp_arbiter.specs.Machine.{Move}
+use Rattle.mdp_arbiter.specs.Machine.Move.{passed, jumped}
+use Rattle.mdp_desks.specs.Lines.{Seen, lines_as}
+use Rattle.mdp_desks.specs.Shown.{Start, shown, shown_seen}
+
+-- message `message` of packet `packet` ends an event; or recovery jumps from one number to a later one
+pub data Moment : Type 0 where
+  ended : ℕ → ℕ → List (Option Seen) → Moment
+  leapt : ℕ → ℕ → Moment
+
+-- all lines of a moment
+abbrev pub moment_text : Moment → List ℕ
+moment_text (ended packet message seen) = lines_as packet message seen
+moment_text (leapt old new) = jump_line old new
+
+abbrev pub moment_at : List Start → List Sent → Sent → List Moment
+moment_at starts since m = if m.end then ended m.packet m.message (map (shown_seen since m) starts) ∷ [] else []
+
+-- at each message in turn
+abbrev pub moments_from : List Start → List Sent → List Sent → List Moment
+moments_from starts since [] = []
+moments_from starts since (m ∷ ms) = moment_at starts since m ++ moments_from starts (since ++ m ∷ []) ms
+
+-- those of a move that comes after these ones
+abbrev pub moments_of : List Instrument → List Move → Move → List Moment
+moments_of listed before (passed packet) = moments_from (shown listed before).starts (shown listed before).since (sent_in packet)
+moments_of listed before (jumped old new snapshots) = leapt old new ∷ []
+
+abbrev pub moments_after : List Instrument → List Move → List Move → List Moment
+moments_after listed before [] = []
+moments_after listed before (m ∷ moves) = moments_of listed before m ++ moments_after listed (before ++ m ∷ []) moves
+
+abbrev pub moments : List Instrument → List Move → List Moment
+moments listed moves = moments_after listed [] moves
+
+-- batch by batch, where the first comes after these moves
+abbrev pub moments_by : List Instrument → List Move → List (List Move) → List (List Moment)
+moments_by listed before [] = []
+moments_by listed before (batch ∷ batches) = moments_after listed before batch ∷ moments_by listed (before ++ batch) batches

@@ -1,0 +1,203 @@
+//! The desks of all listed securities.
+
+ghost use Rattle.std.specs.Prelude.{◌≡◌, ◌≢◌, ◌++◌, ◌≤◌, ℕ, AllPairs, IfOk, OnOk, IfSome, IfNone, Some, slice_get, map, length};
+ghost use Rattle.std.specs.List.{flat_map};
+ghost use Rattle.mdp_arbiter.specs.Channel.{ids_of};
+ghost use Rattle.mdp_desks.specs.Beside.{listed_in, marks_of};
+ghost use Rattle.mdp_desks.specs.Desks.{desk_at_start, desk_heard, desk_settled, desk_standing, desks_through, rebased_desks};
+ghost use Rattle.mdp_desks.specs.Lines.{text_of};
+
+use crate::desk::Desk;
+use crate::marked::Marked;
+use mdp_arbiter::Slots;
+use mdp_books::Place;
+use mdp_templates::{Entry, Instrument, Memory, Snapshot};
+use std::alloc::Allocator;
+use std::marker::Model;
+
+/// The desks of the listed securities, seen as their list.
+#[derive(Drop)]
+pub struct Desks<A: Allocator> {
+    slots: Slots<A>,
+    desks: Vec<Desk, A>,
+    marked: Marked<A>,
+}
+
+impl<A: Allocator> Model for Desks<A> {
+    ghost use Rattle.std.specs.Prelude.{List};
+    ghost use Rattle.mdp_desks.specs.declared.desk.Desk.{Desk};
+    ghost use Rattle.mdp_desks.specs.Beside.{AreBeside};
+
+    ghost Value = { List Desk };
+
+    ghost view = { λ d. d.desks.items };
+
+    ghost invariant = { λ d. AreBeside d.desks.items d.slots d.marked };
+}
+
+// The place of the security that an entry names, if it is listed.
+fn slot_named<A: Allocator + Copy>(slots: &Slots<A>, entry: &Entry) -> Option<usize>
+    ensures some { IfSome result (λ slot. slice_get slots.now slot ≡ Some entry.now.security) }
+    ensures none { IfNone result ((slot : ℕ) → slice_get slots.now slot ≡ Some entry.now.security → ⊥) }
+{
+    slots.slot_of(entry.security)
+}
+
+// Appends the lines of a desk, whose mark is this one; with none the desk isn't looked at.
+fn put_desk<A: Allocator>(
+    out: &mut Vec<u8, A>,
+    packet: u32,
+    message: u64,
+    desk: &Desk,
+    mark: bool,
+) -> Result<(), Memory>
+    requires { mark ≡ desk.now.marked }
+    ensures { OnOk result (out.new.items ≡ out.old.items ++ text_of packet message (desk_standing packet desk.now)) }
+{
+    if mark {
+        desk.put(out, packet, message)?;
+    }
+    Ok(())
+}
+
+// Appends the lines of the desks that are marked.
+fn put_marked<A: Allocator>(
+    out: &mut Vec<u8, A>,
+    packet: u32,
+    message: u64,
+    desks: &[Desk],
+    marked: &Marked<A>,
+) -> Result<(), Memory>
+    requires { marked.now ≡ marks_of desks.now }
+    ensures { OnOk result (out.new.items ≡ out.old.items ++ flat_map (text_of packet message) (map (desk_standing packet) desks.now)) }
+{
+    for n in marked.low()..marked.high() {
+        put_desk(out, packet, message, &desks[n], marked.is_set(n))?;
+    }
+    Ok(())
+}
+
+// Forgets the mark of a desk where an event ended, and returns the mark that it has then.
+fn settle_desk(desk: &mut Desk, mark: bool, packet: u32) -> bool
+    requires { mark ≡ desk.old.marked }
+    ensures desk { desk.new ≡ desk_settled packet desk.old }
+    ensures mark { result ≡ desk.new.marked }
+{
+    if !mark {
+        return false;
+    }
+    desk.settle(packet);
+    desk.marked
+}
+
+// Forgets the marks where an event ended.
+fn settle_all<A: Allocator>(desks: &mut [Desk], marked: &mut Marked<A>, packet: u32)
+    requires { marked.old ≡ marks_of desks.old }
+    ensures desks { desks.new ≡ map (desk_settled packet) desks.old }
+    ensures marks { marked.new ≡ marks_of desks.new }
+{
+    for n in marked.low()..marked.high() {
+        let mark = settle_desk(&mut desks[n], marked.is_set(n), packet);
+        marked.put(n, mark);
+    }
+    marked.narrow();
+}
+
+fn rebase_all<A: Allocator>(desks: &mut [Desk], marked: &mut Marked<A>, bases: &[Option<Snapshot>])
+    requires { marked.old ≡ marks_of desks.old }
+    ensures desks { desks.new ≡ rebased_desks bases.now desks.old }
+    ensures marks { marked.new ≡ marks_of desks.new }
+{
+    let both = desks.len().min(bases.len());
+    for n in 0..both {
+        desks[n].jump(&bases[n]);
+        marked.put(n, desks[n].marked);
+    }
+}
+
+impl<A: Allocator + Copy> Desks<A> {
+    /// Makes the desks of these securities, whose ids all differ, before any packet.
+    pub fn new(alloc: A, instruments: &[Instrument]) -> Result<Desks<A>, Memory>
+        requires { AllPairs (λ earlier later. earlier.id ≢ later.id) instruments.now }
+        ensures { IfOk result (λ d. d ≡ map desk_at_start instruments.now) }
+    {
+        let slots = Slots::of(alloc, instruments)?;
+        let mut desks = Vec::with_capacity(alloc, instruments.len())?;
+        for instrument in instruments {
+            desks.push(Desk::new(instrument.copy()))?;
+        }
+        let marked = Marked::none(alloc, instruments.len())?;
+        Ok(Desks {
+            slots,
+            desks,
+            marked,
+        })
+    }
+
+    /// Lends the desks, in listed order.
+    pub fn as_slice(&self) -> &[Desk]
+        ensures { result.now ≡ self.now }
+    {
+        &self.desks
+    }
+
+    /// Lends the marks of the desks, in listed order.
+    pub fn marked(&self) -> &Marked<A>
+        ensures { result.now ≡ marks_of self.now }
+    {
+        &self.marked
+    }
+
+    /// Lends the places of the securities.
+    pub fn slots(&self) -> &Slots<A>
+        ensures { result.now ≡ ids_of (listed_in self.now) }
+    {
+        &self.slots
+    }
+
+    // Takes an entry, which is for one desk at most.
+    fn enter(&mut self, place: Place, entry: &Entry)
+        ensures { self.new ≡ map (desk_heard place entry.now) self.old }
+    {
+        if let Some(slot) = slot_named(&self.slots, entry) {
+            self.desks[slot].enter(place, entry);
+            self.marked.put(slot, self.desks[slot].marked);
+        }
+    }
+
+    /// Takes the entries of message `message` of packet `packet`, at most 255, each at the desk of its security.
+    pub fn hear(&mut self, packet: u32, message: u64, entries: &[Entry])
+        requires { length entries.now ≤ 255 }
+        ensures { self.new ≡ desks_through packet message 1 entries.now self.old }
+    {
+        for n in 0..entries.len() {
+            let place = Place {
+                packet,
+                message,
+                entry: n as u8 + 1,
+            };
+            self.enter(place, &entries[n]);
+        }
+    }
+
+    /// Appends the lines of the books that an event end in message `message` of packet `packet` prints.
+    pub fn put_books(&self, out: &mut Vec<u8, A>, packet: u32, message: u64) -> Result<(), Memory>
+        ensures { OnOk result (out.new.items ≡ out.old.items ++ flat_map (text_of packet message) (map (desk_standing packet) self.now)) }
+    {
+        put_marked(out, packet, message, &self.desks, &self.marked)
+    }
+
+    /// Forgets the marks where an event ended in packet `packet`.
+    pub fn settle(&mut self, packet: u32)
+        ensures { self.new ≡ map (desk_settled packet) self.old }
+    {
+        settle_all(&mut self.desks, &mut self.marked, packet);
+    }
+
+    /// Replaces each book by its security's snapshot, listed side by side, where there is one.
+    pub fn rebase(&mut self, bases: &[Option<Snapshot>])
+        ensures { self.new ≡ rebased_desks bases.now self.old }
+    {
+        rebase_all(&mut self.desks, &mut self.marked, bases);
+    }
+}

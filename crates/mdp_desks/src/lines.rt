@@ -1,0 +1,71 @@
+//! The lines of a book where an event ends.
+
+ghost use Rattle.std.specs.Prelude.{◌≡◌, ◌++◌, OnOk, OnErr};
+ghost use Rattle.std.specs.Prelude.{IfSome};
+ghost use Rattle.mdp_quotes.specs.Consolidation.{consolidation_of};
+ghost use Rattle.mdp_print.specs.Texts.{consolidated_line};
+ghost use Rattle.mdp_desks.specs.Lines.{book_lines};
+
+use mdp_books::Book;
+use mdp_print::{put_consolidated, put_direct, put_fault, put_implied};
+use mdp_quotes::Live;
+use mdp_templates::Memory;
+use std::alloc::Allocator;
+
+// Appends the `C` line of a good book.
+fn put_totals<A: Allocator>(
+    out: &mut Vec<u8, A>,
+    packet: u32,
+    message: u64,
+    name: &[u8],
+    live: &Live,
+) -> Result<(), Memory>
+    ensures { OnOk result (IfSome (consolidation_of live.now) (λ quotes. out.new.items ≡ out.old.items ++ consolidated_line packet message name.now quotes.bids quotes.offers)) }
+{
+    match live.consolidated() {
+        Some(quotes) => put_consolidated(
+            out,
+            packet,
+            message,
+            name,
+            quotes.bids(),
+            quotes.offers(),
+        ),
+        None => Ok(()),
+    }
+}
+
+/// Appends the lines of a book where message `message` of packet `packet` ends an event: its direct,
+/// implied and consolidated sides, or the place of its first impossible entry.
+pub fn put_book<A: Allocator>(
+    out: &mut Vec<u8, A>,
+    packet: u32,
+    message: u64,
+    name: &[u8],
+    live: &Live,
+) -> Result<(), Memory>
+    ensures ok { OnOk result (out.new.items ≡ out.old.items ++ book_lines packet message name.now live.now) }
+{
+    match live.book() {
+        Book::Good(sides) => {
+            put_direct(
+                out,
+                packet,
+                message,
+                name,
+                sides.bids.levels(),
+                sides.offers.levels(),
+            )?;
+            put_implied(
+                out,
+                packet,
+                message,
+                name,
+                sides.implied_bids.levels(),
+                sides.implied_offers.levels(),
+            )?;
+            put_totals(out, packet, message, name, live)
+        }
+        Book::Fault(place) => put_fault(out, packet, message, name, place),
+    }
+}

@@ -1,7 +1,0 @@
-use Rattle.std.proofs.Common.{◌≡◌, ◌+◌, drop}
-use Rattle.mdp_engine.specs.Desks.{desks_through}
-use Rattle.mdp_engine.proofs.desks.Desks.hear.Given as goal
-
--- the entries that are left make of the desks what all make of those at first
-abbrev pub invariant-loop-n : goal.invariant-loop-n
-invariant-loop-n g l = desks_through l.packet l.message (l.n + 1) (drop l.n l.entries) l.self ≡ desks_through l.packet l.message 1 l.entries l.initial.self

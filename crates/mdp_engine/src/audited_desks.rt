@@ -1,0 +1,144 @@
+//! The desks of all listed securities, with their calendar spreads.
+
+ghost use Rattle.std.specs.Prelude.{◌≡◌, ◌++◌, ◌≤◌, IfOk, OnOk, map, length};
+ghost use Rattle.std.specs.List.{flat_map};
+ghost use Rattle.mdp_templates.specs.Instrument.{AreFit};
+ghost use Rattle.mdp_books.specs.Feed.{sent_as, sent_in};
+ghost use Rattle.mdp_print.specs.Texts.{jump_line};
+ghost use Rattle.mdp_desks.specs.Desks.{desk_at_start, desk_settled, desk_standing, desks_after, desks_text, desks_through, passed_desks, passed_text, rebased_desks};
+ghost use Rattle.mdp_desks.specs.Lines.{audit_text, lines_as};
+
+use crate::audits::put_audits;
+use crate::spreads::{Spread, spreads_of};
+use mdp_desks::Desks;
+use mdp_print::put_jump;
+use mdp_templates::{Entry, Instrument, Memory, Message, Packet, Snapshot};
+use std::alloc::Allocator;
+use std::marker::Model;
+
+/// The desks of the listed securities and the places of the calendar spreads among them, seen as the list of desks.
+#[derive(Drop)]
+pub struct AuditedDesks<A: Allocator> {
+    desks: Desks<A>,
+    spreads: Vec<Spread, A>,
+}
+
+impl<A: Allocator> Model for AuditedDesks<A> {
+    ghost use Rattle.std.specs.Prelude.{List};
+    ghost use Rattle.mdp_desks.specs.declared.desk.Desk.{Desk};
+    ghost use Rattle.mdp_desks.specs.Beside.{listed_in};
+    ghost use Rattle.mdp_engine.specs.Spreads.{AreSpreadsOf};
+
+    ghost Value = { List Desk };
+
+    ghost view = { λ d. d.desks };
+
+    ghost invariant = { λ d. AreSpreadsOf (listed_in d.desks) d.spreads.items };
+}
+
+impl<A: Allocator + Copy> AuditedDesks<A> {
+    /// Makes the desks of these securities before any packet.
+    pub fn new(alloc: A, instruments: &[Instrument]) -> Result<AuditedDesks<A>, Memory>
+        requires { AreFit instruments.now }
+        ensures { IfOk result (λ d. d ≡ map desk_at_start instruments.now) }
+    {
+        let desks = Desks::new(alloc, instruments)?;
+        let spreads = spreads_of(alloc, desks.slots(), instruments)?;
+        Ok(AuditedDesks { desks, spreads })
+    }
+
+    // Takes the entries of a message.
+    fn hear(&mut self, packet: u32, message: u64, entries: &[Entry])
+        requires { length entries.now ≤ 255 }
+        ensures { self.new ≡ desks_through packet message 1 entries.now self.old }
+    {
+        self.desks.hear(packet, message, entries);
+    }
+
+    // Appends the lines of the calendar spreads that an event end audits.
+    fn put_spreads(&self, out: &mut Vec<u8, A>, packet: u32, message: u64) -> Result<(), Memory>
+        ensures { OnOk result (out.new.items ≡ out.old.items ++ flat_map (audit_text packet message (map (desk_standing packet) self.now)) (map (desk_standing packet) self.now)) }
+    {
+        put_audits(
+            out,
+            packet,
+            message,
+            self.desks.as_slice(),
+            self.desks.marked(),
+            &self.spreads,
+        )
+    }
+
+    // Appends the lines that an event end owes.
+    #[tactic(auto, unfolding(mdp_desks::specs::Lines::lines_as))]
+    fn put(&self, out: &mut Vec<u8, A>, packet: u32, message: u64) -> Result<(), Memory>
+        ensures { OnOk result (out.new.items ≡ out.old.items ++ lines_as packet message (map (desk_standing packet) self.now)) }
+    {
+        self.desks.put_books(out, packet, message)?;
+        self.put_spreads(out, packet, message)
+    }
+
+    // Forgets the marks where an event ended.
+    fn settle(&mut self, packet: u32)
+        ensures { self.new ≡ map (desk_settled packet) self.old }
+    {
+        self.desks.settle(packet);
+    }
+
+    // Takes a message, and appends the lines that are owed where it ends an event.
+    fn take(
+        &mut self,
+        out: &mut Vec<u8, A>,
+        packet: u32,
+        message: u64,
+        taken: &Message<A>,
+    ) -> Result<(), Memory>
+        ensures desks { OnOk result (self.new ≡ desks_after (sent_as packet message taken.now) self.old) }
+        ensures text { OnOk result (out.new.items ≡ out.old.items ++ desks_text (sent_as packet message taken.now) self.old) }
+    {
+        self.hear(packet, message, taken.entries());
+        if taken.is_end() {
+            self.put(out, packet, message)?;
+            self.settle(packet);
+        }
+        Ok(())
+    }
+
+    /// Passes a packet, and appends the lines that its event ends owe. After want of memory the text and
+    /// the desks are of no more use.
+    pub fn pass(&mut self, out: &mut Vec<u8, A>, packet: &Packet<A>) -> Result<(), Memory>
+        ensures desks { OnOk result (self.new ≡ passed_desks (sent_in packet.now) self.old) }
+        ensures text { OnOk result (out.new.items ≡ out.old.items ++ passed_text (sent_in packet.now) self.old) }
+    {
+        let number = packet.number();
+        let messages = packet.messages();
+        for n in 0..messages.len() {
+            self.take(out, number, n as u64 + 1, &messages[n])?;
+        }
+        Ok(())
+    }
+
+    // Replaces each book by its security's snapshot, where there is one.
+    fn rebase(&mut self, bases: &[Option<Snapshot>])
+        ensures { self.new ≡ rebased_desks bases.now self.old }
+    {
+        self.desks.rebase(bases);
+    }
+
+    /// Jumps from packet number `old` to `new`: appends the line of the jump, and replaces each book by its security's
+    /// snapshot, listed side by side, where there is one. After want of memory the text and the desks are of no more use.
+    pub fn jump(
+        &mut self,
+        out: &mut Vec<u8, A>,
+        old: u64,
+        new: u64,
+        bases: &[Option<Snapshot>],
+    ) -> Result<(), Memory>
+        ensures desks { OnOk result (self.new ≡ rebased_desks bases.now self.old) }
+        ensures text { OnOk result (out.new.items ≡ out.old.items ++ jump_line old new) }
+    {
+        put_jump(out, old, new)?;
+        self.rebase(bases);
+        Ok(())
+    }
+}

@@ -1,0 +1,5 @@
+pub mod Rule
+pub mod Items
+pub mod Intakes
+pub mod Lanes
+pub mod Queues

@@ -1,0 +1,223 @@
+//! A reader: it decodes the records of one feed, and hands over their events batch by batch.
+
+ghost use Rattle.std.specs.Prelude.{◌≡◌, ◌++◌, false, [], List, map, OnOk, IfErr};
+ghost use Rattle.mdp_arbiter.specs.Accepted.{recovered};
+ghost use Rattle.mdp_capture.specs.Record.{RecordContent};
+ghost use Rattle.mdp_engine.specs.Steps.{event_of};
+ghost use Rattle.mdp_lanes.specs.Queues.{IntakeSenderView};
+ghost use Rattle.mdp_pipeline.specs.declared.batch.Batch.{Batch};
+ghost use Rattle.mdp_pipeline.specs.Decoding.{said_of};
+ghost use Rattle.mdp_pipeline.specs.Reading.{brought_by, refusal_text};
+ghost use Rattle.mdp_pipeline.specs.Readers.{HasHandedOver, HasPut, HasRead, HasReadOne, HasReadSoFar, all_events, events_held, has_ended};
+
+use crate::batch::Batch;
+use crate::decoding::{Decoded, read_record};
+use crate::gate::Gate;
+use mdp_capture::Record;
+use mdp_engine::Event;
+use mdp_lanes::IntakeSender;
+use mdp_print::put_refusal;
+use mdp_templates::{Feed, Memory, Snapshot};
+use std::alloc::Allocator;
+use std::mem;
+use std::sync::{OnceLock, Wait};
+
+/// How many events a batch holds at most. A reader's batches hold 1, 2, 4 events and so on up to this many: so its first event
+/// is handed over at once, and under load a batch costs little.
+const MOST_EVENTS: usize = 64;
+
+/// A reader's sender, and what it has read and not handed over yet.
+#[derive(Drop)]
+pub struct Reader<A: Allocator + Copy> {
+    pub sender: IntakeSender<Batch<A>, A>,
+    pub events: Vec<Event<A>, A>,
+    /// The lines of the refused datagrams.
+    pub refusals: Vec<u8, A>,
+    /// How many events the next batch is to hold.
+    pub size: usize,
+}
+
+/// What a reader leaves: its sender, which has ended, and the lines of its refused datagrams, unless memory ran out.
+#[derive(Drop)]
+pub struct ReaderOutcome<A: Allocator + Copy> {
+    pub sender: IntakeSender<Batch<A>, A>,
+    pub refusals: Result<Vec<u8, A>, Memory>,
+}
+
+// Appends snapshots as events, in their order.
+fn push_all<A: Allocator + Copy>(
+    events: &mut Vec<Event<A>, A>,
+    snapshots: &[Snapshot],
+) -> Result<(), Memory>
+    ensures { OnOk result (map event_of events.new.items ≡ map event_of events.old.items ++ map recovered snapshots.now) }
+{
+    for snapshot in snapshots {
+        events.push(Event::Snapshot(snapshot.copy()))?;
+    }
+    Ok(())
+}
+
+// The number of a feed, from 0, under which a gate is told of its reader.
+fn number_of(feed: Feed) -> usize {
+    match feed {
+        Feed::A => 0,
+        Feed::B => 1,
+        Feed::S => 2,
+    }
+}
+
+impl<A: Allocator + Copy> Reader<A> {
+    // Holds the events that a record on this line brings, or the line of its refusal.
+    fn hold(&mut self, feed: Feed, line: u32, decoded: Decoded<A>) -> Result<(), Memory>
+        ensures events { OnOk result (events_held self.new ≡ events_held self.old ++ brought_by (said_of decoded)) }
+        ensures refusals { OnOk result (self.new.refusals.items ≡ self.old.refusals.items ++ refusal_text feed line (said_of decoded)) }
+        ensures sender { self.new.sender ≡ self.old.sender }
+    {
+        match decoded {
+            Decoded::Packet(packet) => self.events.push(Event::Packet(packet))?,
+            Decoded::Snapshots(snapshots) => push_all(&mut self.events, &snapshots)?,
+            Decoded::Close => self.events.push(Event::Close)?,
+            Decoded::Nothing => {}
+            Decoded::Refused(refusal) => put_refusal(&mut self.refusals, feed, line, refusal)?,
+        }
+        Ok(())
+    }
+
+    // Hands over the events that are held, where they fill a batch.
+    fn hand_over<R: Wait>(&mut self, rt: &R, alloc: A)
+        requires { has_ended self.old.sender ≡ false }
+        ensures put { (batches : List (Batch A)) × HasPut self.old.sender batches self.new.sender × (events_held self.old ≡ all_events batches ++ events_held self.new) }
+        ensures goes_on { has_ended self.new.sender ≡ false }
+        ensures refusals { self.new.refusals ≡ self.old.refusals }
+    {
+        if self.events.len() < self.size {
+            return;
+        }
+        let events = mem::replace(&mut self.events, Vec::new(alloc));
+        let batch = Batch {
+            events,
+            is_last: false,
+        };
+        self.sender.put(rt, batch);
+        self.size = self.size.saturating_mul(2).min(MOST_EVENTS);
+    }
+
+    // Reads a record.
+    fn read<R: Wait>(
+        &mut self,
+        rt: &R,
+        alloc: A,
+        feed: Feed,
+        record: &Record<A>,
+    ) -> Result<(), Memory>
+        requires { has_ended self.old.sender ≡ false }
+        ensures one { OnOk result (HasReadOne feed «record».now self.old self.new) }
+        ensures stays { IfErr result (λ _. self.new.sender ≡ self.old.sender) }
+        ensures goes_on { has_ended self.new.sender ≡ false }
+    {
+        let decoded = read_record(alloc, feed, record)?;
+        self.hold(feed, record.line(), decoded)?;
+        self.hand_over(rt, alloc);
+        Ok(())
+    }
+
+    // Reads all records, of which none is read yet.
+    fn read_all<R: Wait, G: Gate>(
+        &mut self,
+        rt: &R,
+        alloc: A,
+        gate: &G,
+        feed: Feed,
+        records: &[Record<A>],
+    ) -> Result<(), Memory>
+        requires open { has_ended self.old.sender ≡ false }
+        requires events { self.old.events.items ≡ [] }
+        requires refusals { self.old.refusals.items ≡ [] }
+        ensures all { OnOk result (HasReadSoFar feed records.now self.old.sender self.new) }
+        ensures some { IfErr result (λ _. HasHandedOver feed records.now self.old.sender self.new.sender) }
+        ensures goes_on { has_ended self.new.sender ≡ false }
+    {
+        let mut place = 1u64;
+        for record in records {
+            gate.reads(number_of(feed), place);
+            self.read(rt, alloc, feed, record)?;
+            place = place.saturating_add(1);
+        }
+        gate.reads(number_of(feed), place);
+        Ok(())
+    }
+
+    // Hands over what is held as the last batch.
+    fn finish<R: Wait>(self, rt: &R) -> ReaderOutcome<A>
+        requires { has_ended self.sender ≡ false }
+        ensures { (feed : Feed) (records : List RecordContent) (before : IntakeSenderView (Batch A)) → HasReadSoFar feed records before self → HasRead feed records before result }
+    {
+        let Reader {
+            mut sender,
+            events,
+            refusals,
+            ..
+        } = self;
+        let batch = Batch {
+            events,
+            is_last: true,
+        };
+        sender.put(rt, batch);
+        ReaderOutcome {
+            sender,
+            refusals: Ok(refusals),
+        }
+    }
+}
+
+// Puts an empty last batch, for want of memory or because a reader is told to stop.
+fn stop<R: Wait, A: Allocator + Copy>(
+    rt: &R,
+    alloc: A,
+    mut sender: IntakeSender<Batch<A>, A>,
+) -> ReaderOutcome<A>
+    requires { has_ended sender ≡ false }
+    ensures { (feed : Feed) (records : List RecordContent) (before : IntakeSenderView (Batch A)) → HasHandedOver feed records before sender → HasRead feed records before result }
+{
+    let batch = Batch {
+        events: Vec::new(alloc),
+        is_last: true,
+    };
+    sender.put(rt, batch);
+    ReaderOutcome {
+        sender,
+        refusals: Err(Memory),
+    }
+}
+
+/// Decodes the records of a feed and hands over their events, once it is told to go; told to stop, it hands over none. In either
+/// way it puts its last batch.
+pub fn read_feed<R: Wait, G: Gate, A: Allocator + Copy>(
+    rt: &R,
+    go: &OnceLock<bool>,
+    alloc: A,
+    gate: &G,
+    feed: Feed,
+    records: &[Record<A>],
+    sender: IntakeSender<Batch<A>, A>,
+) -> ReaderOutcome<A>
+    requires { has_ended sender ≡ false }
+    ensures { HasRead feed records.now sender result }
+{
+    if !*go.wait(rt) {
+        return stop(rt, alloc, sender);
+    }
+    let mut reader = Reader {
+        sender,
+        events: Vec::new(alloc),
+        refusals: Vec::new(alloc),
+        size: 1,
+    };
+    match reader.read_all(rt, alloc, gate, feed, records) {
+        Ok(()) => reader.finish(rt),
+        Err(Memory) => {
+            let Reader { sender, .. } = reader;
+            stop(rt, alloc, sender)
+        }
+    }
+}
