@@ -22,8 +22,8 @@ use Rattle.mdp_capture.specs.Lines.{NumberedLine, instruments_of, numbered_lines
 use Rattle.mdp_capture.specs.Record.{RecordContent}
 use Rattle.mdp_capture.specs.declared.fault.CaptureRefusal.{CaptureRefusal}
 use Rattle.mdp_capture.specs.declared.fault.CaptureRefusal.TheVariants.{DuplicateId, InstrumentLate, NoInstrument, TooMany, UnknownLeg}
-use Rattle.mdp_capture.specs.declared.line.Feed.{Feed}
-use Rattle.mdp_capture.specs.declared.line.Feed.TheVariants as feeds
+use Rattle.mdp_templates.specs.declared.feed.Feed.{Feed}
+use Rattle.mdp_templates.specs.declared.feed.Feed.TheVariants as feeds
 use Rattle.mdp_capture.specs.declared.skip.SkippedLine.{SkippedLine}
 use Rattle.mdp_capture.proofs.Bringing.{Adds, NamesDiffer, all_lines, line_at, lines_from, next_number, number_at, one_line, records, some_counted}
 
