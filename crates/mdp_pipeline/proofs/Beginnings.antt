@@ -29,7 +29,8 @@ use Rattle.mdp_pipeline.specs.Reading.{Reading, Said, Says, brings, refused, IsR
 use Rattle.mdp_pipeline.specs.Output.{end_lines, is_lost_after, moves_of, next_after, shown_output}
 use Rattle.mdp_pipeline.specs.RefusalTexts.{RefusalTexts}
 use Rattle.mdp_pipeline.specs.Running.{BeginsAll, PrintsAll, TakesAs, Writes}
-use Rattle.mdp_pipeline.proofs.Written.{HasTaken, all_written, taken_more}
+use Rattle.mdp_pipeline.proofs.Ending.{shown_after-append}
+use Rattle.mdp_pipeline.proofs.Written.{HasTaken, taken_more}
 
 -- ---- what records say that were not reached
 
@@ -80,15 +81,6 @@ text_of listed room readings = shown_output listed room (refusals_text (by_feed 
 text_prints : (listed : List Instrument) (room : ℕ) (arrivals : List Arrival) (readings : List Reading) → AreReadings arrivals readings
     → PrintsAll listed room arrivals (text_of listed room readings) (next_after listed room (events_of readings)) (is_lost_after listed room (events_of readings))
 text_prints listed room arrivals readings are = record { readings = readings; are = are; next_is = refl; lost_is = refl; shown = refl }
-
--- what the moves show begins with what the first ones show
-shown_after-append : (listed : List Instrument) (before moves more : List Move) → shown_after listed before (moves ++ more) ≡ shown_after listed before moves ++ shown_after listed (before ++ moves) more
-shown_after-append listed before [] more = ap (λ (b : List Move). shown_after listed b more) (sym (append-nil before))
-shown_after-append listed before (m ∷ moves) more =
-    let now = before ++ m ∷ [] in
-    ap (λ (t : List ℕ). showed listed before m ++ t) (shown_after-append listed now moves more)
-    ∙ ap (λ (b : List Move). showed listed before m ++ (shown_after listed now moves ++ shown_after listed b more)) (append_assoc before (m ∷ []) moves)
-    ∙ sym (append_assoc (showed listed before m) (shown_after listed now moves) (shown_after listed (before ++ m ∷ moves) more))
 
 -- what is shown of the readings behind these ones
 abbrev shown_later : List Instrument → ℕ → List Reading → List Reading → List ℕ
@@ -157,35 +149,6 @@ begins_so_far listed room arrivals done left start taken taken' engine held refu
       whole = text_begins listed room readings more.0 so_far.sent held n shown;
     }
 
--- All records were taken, and of the text that is held so many bytes went out.
-pub begins_at_end : (listed : List Instrument) (room : ℕ) (arrivals : List Arrival) (start taken taken' : List ℕ) (engine : View) (held : List ℕ) (refusals : RefusalTexts) (n : ℕ)
-    → taken' ≡ taken ++ take n held → Writes listed room arrivals start taken engine held refusals → BeginsAll listed room arrivals start taken'
-begins_at_end listed room arrivals start taken taken' engine held refusals n went so_far =
-    begins_so_far listed room arrivals arrivals [] start taken taken' engine held refusals n (sym (append-nil arrivals)) went so_far
-
--- The text went out, and of the refusals and the last line so many bytes.
-pub begins_in_end : (listed : List Instrument) (room : ℕ) (arrivals : List Arrival) (start taken taken' : List ℕ) (engine : View) (held end : List ℕ) (refusals : RefusalTexts) (next : ℕ) (lost : Bool) (n : ℕ)
-    → taken' ≡ (taken ++ held) ++ take n end → end ≡ (refusals.a ++ (refusals.b ++ refusals.s)) ++ last_line next lost
-    → ((listed : List Instrument) (es : List Event) (drained : List ℕ) → Stands listed es drained engine → next ≡ (state_at engine.arbiter.channel es).next)
-    → ((listed : List Instrument) (es : List Event) (drained : List ℕ) → Stands listed es drained engine → lost ≡ is_lost engine.arbiter.channel es (state_at engine.arbiter.channel es))
-    → Writes listed room arrivals start taken engine held refusals → BeginsAll listed room arrivals start taken'
-begins_in_end listed room arrivals start taken taken' engine held end refusals next lost n went end_is next_is lost_is so_far =
-    let all = all_written listed room arrivals start taken ((taken ++ held) ++ end) engine held end refusals next lost refl end_is next_is lost_is so_far in
-    let front = so_far.sent ++ held in
-    let from_start : (t : List ℕ) → (taken ++ held) ++ t ≡ start ++ (front ++ t) =
-    λ t. ap (λ (x : List ℕ). (x ++ held) ++ t) so_far.taken_is ∙ ap (λ (x : List ℕ). x ++ t) (append_assoc start so_far.sent held) ∙ append_assoc start front t in
-    let text_is : all.0 ≡ front ++ end = append_cancel_left start all.0 (front ++ end) (sym all.1 ∙ from_start end) in
-    record {
-      text = all.0;
-      next = next;
-      lost = lost;
-      prints = all.2;
-      sent = front ++ take n end;
-      rest = drop n end;
-      taken_is = went ∙ from_start (take n end);
-      whole = text_is ∙ ap (λ (t : List ℕ). front ++ t) (sym (take-append-drop n end)) ∙ sym (append_assoc front (take n end) (drop n end));
-    }
-
 -- ---- a run
 
 -- a run whose records are not all taken
@@ -204,11 +167,3 @@ pub piece_begins : {A : Type 0} (listed : List Instrument) (room : ℕ) (a b s :
 piece_begins listed room a b s start taken taken' old new a' b' s' a'' b'' s'' feed entry n next takes went so_far =
     let on = taken_more listed room a b s start taken taken old new new a' b' s' a'' b'' s'' feed entry next takes (λ arrivals writes. writes) so_far in
     begins_so_far listed room (in_order a b s) on.done (in_order a'' b'' s'') start taken taken' new.engine new.text.items new.refusals n on.left went on.writes
-
--- a run whose end failed
-pub run_begins : (listed : List Instrument) (room : ℕ) (arrivals : List Arrival) (start taken after : List ℕ) (engine : View) (held : List ℕ) (refusals : RefusalTexts) (result : Result Summary RunFault)
-    → IfErr result (λ (fault : RunFault). (listed : List Instrument) (room : ℕ) (arrivals : List Arrival) (start : List ℕ) → Writes listed room arrivals start taken engine held refusals → BeginsAll listed room arrivals start after)
-    → Writes listed room arrivals start taken engine held refusals
-    → IfErr result (λ (fault : RunFault). BeginsAll listed room arrivals start after)
-run_begins listed room arrivals start taken after engine held refusals (Ok summary) begins so_far = tt
-run_begins listed room arrivals start taken after engine held refusals (Err fault) begins so_far = begins listed room arrivals start so_far

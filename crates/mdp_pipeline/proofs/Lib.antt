@@ -4,3 +4,4 @@ pub mod Written
 pub mod Beginnings
 pub mod Merges
 pub mod HandingOver
+pub mod Ending

@@ -25,7 +25,8 @@ use Rattle.mdp_pipeline.specs.Merge.{Arrival, in_order}
 use Rattle.mdp_pipeline.specs.Reading.{Reading, Said, brings, refused, IsReading, AreReadings, brought_by, by_feed, events_of, is_on, kind_of, readings_on, refusal_lines, refusal_text, refusals_text}
 use Rattle.mdp_pipeline.specs.Output.{is_lost_after, moves_of, next_after}
 use Rattle.mdp_pipeline.specs.RefusalTexts.{RefusalTexts}
-use Rattle.mdp_pipeline.specs.Running.{GoesOn, HasRun, PrintsAll, RunsOver, TakesAs, Writes, after_said, refusals_of}
+use Rattle.mdp_pipeline.specs.Running.{BeginsAll, EndsAs, EndsEarly, GoesOn, HasRun, HasShown, PrintsAll, TakesAs, Writes, after_said, joined_texts, refusals_of}
+use Rattle.mdp_pipeline.proofs.Ending.{begins_all, prints_all, writes_shown}
 use Rattle.mdp_pipeline.proofs.Taking.{goes_more}
 
 -- ---- a reading more
@@ -118,17 +119,6 @@ writes_more listed room arrivals feed entry start taken old new takes so_far = r
   };
 }
 
--- the text goes out
-pub writes_on : (listed : List Instrument) (room : ℕ) (arrivals : List Arrival) (start taken taken' : List ℕ) (engine : View) (held held' : List ℕ) (refusals : RefusalTexts) → taken' ≡ taken ++ held → held' ≡ []
-    → Writes listed room arrivals start taken engine held refusals → Writes listed room arrivals start taken' engine held' refusals
-writes_on listed room arrivals start taken taken' engine held held' refusals went emptied so_far =
-    let same : (so_far.sent ++ held) ++ held' ≡ so_far.sent ++ held = ap (λ (t : List ℕ). (so_far.sent ++ held) ++ t) emptied ∙ append-nil (so_far.sent ++ held) in
-    record {
-      sent = so_far.sent ++ held;
-      taken_is = went ∙ ap (λ (t : List ℕ). t ++ held) so_far.taken_is ∙ append_assoc start so_far.sent held;
-      over = subst (λ (t : List ℕ). RunsOver listed room arrivals engine t refusals) (sym same) so_far.over;
-    }
-
 -- ---- the records that are left
 
 -- the records so far, in the order of their lines, and what was written of them
@@ -161,43 +151,6 @@ taken_all listed room a b s start taken engine held refusals a' b' s' none so_fa
     let all : in_order a b s ≡ so_far.done = so_far.left ∙ ap (λ (t : List Arrival). so_far.done ++ t) none ∙ append-nil so_far.done in
     subst (λ (arrivals : List Arrival). Writes listed room arrivals start taken engine held refusals) (sym all) so_far.writes
 
--- ---- the end
-
-pub all_written : (listed : List Instrument) (room : ℕ) (arrivals : List Arrival) (start taken taken' : List ℕ) (engine : View) (held end : List ℕ) (refusals : RefusalTexts) (next : ℕ) (lost : Bool)
-    → taken' ≡ (taken ++ held) ++ end → end ≡ (refusals.a ++ (refusals.b ++ refusals.s)) ++ last_line next lost
-    → ((listed : List Instrument) (es : List Event) (drained : List ℕ) → Stands listed es drained engine → next ≡ (state_at engine.arbiter.channel es).next)
-    → ((listed : List Instrument) (es : List Event) (drained : List ℕ) → Stands listed es drained engine → lost ≡ is_lost engine.arbiter.channel es (state_at engine.arbiter.channel es))
-    → Writes listed room arrivals start taken engine held refusals
-    → (text : List ℕ) × (taken' ≡ start ++ text) × PrintsAll listed room arrivals text next lost
-all_written listed room arrivals start taken taken' engine held end refusals next lost went end_is next_is lost_is so_far =
-    let readings = so_far.over.readings in
-    let es = events_of readings in
-    let run = so_far.over.run in
-    let front = so_far.sent ++ held in
-    let next_after_all : next ≡ next_after listed room es = next_is listed es front run.stands ∙ ap (λ (c : Channel). (state_at c es).next) run.channel in
-    let lost_after_all : lost ≡ is_lost_after listed room es = lost_is listed es front run.stands ∙ ap (λ (c : Channel). is_lost c es (state_at c es)) run.channel in
-    let ending : end ≡ refusals_text (by_feed readings) ++ last_line (next_after listed room es) (is_lost_after listed room es) =
-    end_is
-    ∙ ap (λ (t : RefusalTexts). (t.a ++ (t.b ++ t.s)) ++ last_line next lost) run.refusals_are
-    ∙ ap (λ (n : ℕ). refusals_text (by_feed readings) ++ last_line n lost) next_after_all
-    ∙ ap (λ (l : Bool). refusals_text (by_feed readings) ++ last_line (next_after listed room es) l) lost_after_all in
-    let sent_all : taken' ≡ start ++ (front ++ end) =
-    went ∙ ap (λ (t : List ℕ). (t ++ held) ++ end) so_far.taken_is ∙ ap (λ (t : List ℕ). t ++ end) (append_assoc start so_far.sent held) ∙ append_assoc start front end in (
-      front ++ end,
-      sent_all,
-      record {
-        readings = readings;
-        are = so_far.over.are;
-        next_is = next_after_all;
-        lost_is = lost_after_all;
-        shown =
-            let front_is : front ≡ shown_lines listed (moves_of listed room es) =
-            sym (append-nil front) ∙ ap (λ (t : List ℕ). front ++ t) (sym run.drained) ∙ run.stands.shows.text_is
-            ∙ ap (λ (c : Channel). shown_lines listed (trace c es)) run.channel in
-            ap (λ (t : List ℕ). t ++ end) front_is ∙ ap (λ (t : List ℕ). shown_lines listed (moves_of listed room es) ++ t) ending;
-      },
-    )
-
 -- ---- how much went out
 
 pub counted_none : (taken : List ℕ) → HasCounted taken taken 0
@@ -217,13 +170,26 @@ pub fault_counted : (start taken after : List ℕ) (written : ℕ) (result : Res
 fault_counted start taken after written (Ok summary) told so_far = tt
 fault_counted start taken after written (Err fault) told so_far = told start so_far
 
+-- a run over all records has ended
 pub run_printed : (listed : List Instrument) (room : ℕ) (arrivals : List Arrival) (start taken after : List ℕ) (engine : View) (held : List ℕ) (refusals : RefusalTexts) (result : Result Summary RunFault)
-    → IfOk result (λ (summary : Summary). (listed : List Instrument) (room : ℕ) (arrivals : List Arrival) (start : List ℕ) → Writes listed room arrivals start taken engine held refusals
-    → (text : List ℕ) × (after ≡ start ++ text) × PrintsAll listed room arrivals text summary.next summary.lost)
+    → IfOk result (λ (summary : Summary). (listed : List Instrument) (room : ℕ) (events : List Event) (start : List ℕ) → HasShown listed room events start taken engine held
+    → EndsAs listed room events (joined_texts refusals) start after summary.next summary.lost)
     → Writes listed room arrivals start taken engine held refusals
     → IfOk result (λ (summary : Summary). (text : List ℕ) × (after ≡ start ++ text) × PrintsAll listed room arrivals text summary.next summary.lost)
-run_printed listed room arrivals start taken after engine held refusals (Ok summary) prints so_far = prints listed room arrivals start so_far
-run_printed listed room arrivals start taken after engine held refusals (Err fault) prints so_far = tt
+run_printed listed room arrivals start taken after engine held refusals (Ok summary) ends so_far =
+    prints_all listed room arrivals start taken after engine held refusals summary.next summary.lost so_far
+    (ends listed room (events_of so_far.over.readings) start (writes_shown listed room arrivals start taken engine held refusals so_far))
+run_printed listed room arrivals start taken after engine held refusals (Err fault) ends so_far = tt
+
+pub run_begins : (listed : List Instrument) (room : ℕ) (arrivals : List Arrival) (start taken after : List ℕ) (engine : View) (held : List ℕ) (refusals : RefusalTexts) (result : Result Summary RunFault)
+    → IfErr result (λ (fault : RunFault). (listed : List Instrument) (room : ℕ) (events : List Event) (start : List ℕ) → HasShown listed room events start taken engine held
+    → EndsEarly listed room events (joined_texts refusals) start after)
+    → Writes listed room arrivals start taken engine held refusals
+    → IfErr result (λ (fault : RunFault). BeginsAll listed room arrivals start after)
+run_begins listed room arrivals start taken after engine held refusals (Ok summary) ends so_far = tt
+run_begins listed room arrivals start taken after engine held refusals (Err fault) ends so_far =
+    begins_all listed room arrivals start taken after engine held refusals so_far
+    (ends listed room (events_of so_far.over.readings) start (writes_shown listed room arrivals start taken engine held refusals so_far))
 
 -- ---- snapshots
 

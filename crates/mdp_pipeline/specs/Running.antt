@@ -65,6 +65,43 @@ pub record Writes (listed : List Instrument) (room : ℕ) (arrivals : List Arriv
   pub taken_is : taken ≡ start ++ sent
   pub over : RunsOver listed room arrivals engine (sent ++ held) refusals
 
+-- ---- what the caller's thread has shown of the events that it took, whatever the feeds
+
+-- the engine stands at these events, and what it shows of them went out as far as the writer took it; the rest is held
+pub record HasShown (listed : List Instrument) (room : ℕ) (events : List Event) (start taken : List ℕ) (engine : View) (held : List ℕ) : Type 0 where
+  pub sent : List ℕ
+  pub taken_is : taken ≡ start ++ sent
+  pub stands : Stands listed events (sent ++ held) engine
+  pub drained : engine.held ≡ []
+  pub channel : engine.arbiter.channel ≡ channel_of listed room
+
+-- a front of the text went out
+pub record HandsOn {A : Type 0} (taken taken' : List ℕ) (old new : Run A) : Type 0 where
+  pub sent : List ℕ
+  pub went : taken' ≡ taken ++ sent
+  pub kept : old.text.items ≡ sent ++ new.text.items
+  pub engine : new.engine ≡ old.engine
+  pub refusals : new.refusals ≡ old.refusals
+
+-- feed A's lines, then B's, then S's
+abbrev pub joined_texts : RefusalTexts → List ℕ
+joined_texts texts = texts.a ++ (texts.b ++ texts.s)
+
+-- the whole text went out
+pub record EndsAs (listed : List Instrument) (room : ℕ) (events : List Event) (refusals start taken : List ℕ) (next : ℕ) (lost : Bool) : Type 0 where
+  pub text : List ℕ
+  pub taken_is : taken ≡ start ++ text
+  pub next_is : next ≡ next_after listed room events
+  pub lost_is : lost ≡ is_lost_after listed room events
+  pub shown : text ≡ shown_output listed room refusals events
+
+-- a beginning of the text went out
+pub record EndsEarly (listed : List Instrument) (room : ℕ) (events : List Event) (refusals start taken : List ℕ) : Type 0 where
+  pub sent : List ℕ
+  pub rest : List ℕ
+  pub taken_is : taken ≡ start ++ sent
+  pub whole : shown_output listed room refusals events ≡ sent ++ rest
+
 -- ---- runs over records of all feeds in one list
 
 -- the text of these records, in this order: what their moves show

@@ -5,9 +5,9 @@ ghost use Rattle.mdp_templates.specs.Instrument.{AreFit};
 ghost use Rattle.mdp_pipeline.specs.Counted.{HasCounted, written_before};
 ghost use Rattle.mdp_pipeline.specs.Faults.{FailsBy};
 ghost use Rattle.mdp_pipeline.specs.Output.{BeginsByLine, PrintsByLine};
-ghost use Rattle.mdp_pipeline.specs.Running.{BeginsAll, PrintsAll, Writes};
+ghost use Rattle.mdp_pipeline.specs.Running.{EndsAs, EndsEarly, HandsOn, HasShown, joined_texts};
 ghost use Rattle.mdp_templates.specs.declared.instrument.Instrument.{Instrument};
-ghost use Rattle.mdp_pipeline.specs.Merge.{Arrival};
+ghost use Rattle.mdp_arbiter.specs.Accepted.{Event};
 
 use crate::merge::InOrder;
 use crate::run::Run;
@@ -47,15 +47,13 @@ fn hand_on<W: CountedWrite, A: Allocator>(
 }
 
 // Writes the text so far where it is large enough.
-fn hand_on_pieces<W: CountedWrite, A: Allocator + Copy>(
+pub(crate) fn hand_on_pieces<W: CountedWrite, A: Allocator + Copy>(
     writer: &mut W,
     run: &mut Run<A>,
     written: &mut u64,
 ) -> Result<(), RunFault>
     requires { W.failed writer.old < 2 ^ 64 - 1 }
-    ensures writes { OnOk result ((listed : List Instrument) (room : ℕ) (arrivals : List Arrival) (start : List ℕ) →
-        Writes listed room arrivals start (W.taken writer.old) run.old.engine run.old.text.items run.old.refusals →
-        Writes listed room arrivals start (W.taken writer.new) run.new.engine run.new.text.items run.new.refusals) }
+    ensures hands_on { OnOk result (HandsOn (W.taken writer.old) (W.taken writer.new) run.old run.new) }
     ensures begins { IfErr result (λ _. (n : ℕ) × (W.taken writer.new ≡ W.taken writer.old ++ take n run.old.text.items)) }
     ensures counts { OnOk result ((start : List ℕ) → HasCounted start (W.taken writer.old) written.old → HasCounted start (W.taken writer.new) written.new) }
     ensures told { IfErr result (λ fault. (start : List ℕ) → HasCounted start (W.taken writer.old) written.old → HasCounted start (W.taken writer.new) (written_before fault)) }
@@ -109,17 +107,18 @@ pub fn run_in_order<W: CountedWrite, A: Allocator + Copy>(
 }
 
 // Writes what is left of the text, the refusals and the last line.
-fn finish<W: CountedWrite, A: Allocator + Copy>(
+pub(crate) fn finish<W: CountedWrite, A: Allocator + Copy>(
     writer: &mut W,
     run: Run<A>,
     mut written: u64,
 ) -> Result<Summary, RunFault>
     requires { W.failed writer.old < 2 ^ 64 - 1 }
-    ensures text { IfOk result (λ summary. (listed : List Instrument) (room : ℕ) (arrivals : List Arrival) (start : List ℕ) →
-        Writes listed room arrivals start (W.taken writer.old) run.engine run.text.items run.refusals →
-        (text : List ℕ) × (W.taken writer.new ≡ start ++ text) × PrintsAll listed room arrivals text summary.next summary.lost) }
-    ensures begins { IfErr result (λ _. (listed : List Instrument) (room : ℕ) (arrivals : List Arrival) (start : List ℕ) →
-        Writes listed room arrivals start (W.taken writer.old) run.engine run.text.items run.refusals → BeginsAll listed room arrivals start (W.taken writer.new)) }
+    ensures text { IfOk result (λ summary. (listed : List Instrument) (room : ℕ) (events : List Event) (start : List ℕ) →
+        HasShown listed room events start (W.taken writer.old) run.engine run.text.items →
+        EndsAs listed room events (joined_texts run.refusals) start (W.taken writer.new) summary.next summary.lost) }
+    ensures begins { IfErr result (λ _. (listed : List Instrument) (room : ℕ) (events : List Event) (start : List ℕ) →
+        HasShown listed room events start (W.taken writer.old) run.engine run.text.items →
+        EndsEarly listed room events (joined_texts run.refusals) start (W.taken writer.new)) }
     ensures counts { IfOk result (λ summary. (start : List ℕ) → HasCounted start (W.taken writer.old) written → HasCounted start (W.taken writer.new) summary.written) }
     ensures told { IfErr result (λ fault. (start : List ℕ) → HasCounted start (W.taken writer.old) written → HasCounted start (W.taken writer.new) (written_before fault)) }
     ensures failed { FailsBy result (W.failed writer.old) (W.failed writer.new) }

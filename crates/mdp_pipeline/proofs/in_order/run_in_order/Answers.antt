@@ -1,8 +1,9 @@
 use Rattle.std.proofs.Common.{◌∙◌, refl}
 use Rattle.std.proofs.lemmas.Result.{err_from_is_err_and}
 use Rattle.mdp_pipeline.specs.Merge.{in_order}
-use Rattle.mdp_pipeline.proofs.Written.{taken_none, taken_more, taken_all, run_printed, run_counted, fault_counted, counted_none}
-use Rattle.mdp_pipeline.proofs.Beginnings.{begins_none, run_begins, taken_begins, piece_begins}
+use Rattle.mdp_pipeline.proofs.Written.{taken_none, taken_more, taken_all, run_begins, run_printed, run_counted, fault_counted, counted_none}
+use Rattle.mdp_pipeline.proofs.Beginnings.{begins_none, taken_begins, piece_begins}
+use Rattle.mdp_pipeline.proofs.Ending.{writes_on}
 use Rattle.mdp_pipeline.proofs.Merges.{begins_by_line, ended_by_line, failed_by_line}
 use Rattle.mdp_pipeline.proofs.in_order.run_in_order.Goals as goal
 
@@ -25,7 +26,7 @@ loop-feed-preserved g c =
     record {
       taken = taken_more listed c.args.window c.args.a.now c.args.b.now c.args.s.now start (g.W.CountedWrite.taken c.loop-feed.writer) (g.W.CountedWrite.taken c.hand_on_pieces.new.writer)
           c.loop-feed.run c.take.new.self c.hand_on_pieces.new.run here.a.now here.b.now here.s.now there.a.now there.b.now there.s.now c.in-Some.feed c.in-Some.record.now
-          c.in-Some.ensures c.in-Ok-take.ensures (λ arrivals. c.in_ok-hand_on_pieces.ensures.writes listed c.args.window arrivals start) c.loop-feed.invariant.taken;
+          c.in-Some.ensures c.in-Ok-take.ensures (λ arrivals. writes_on listed c.args.window arrivals start (g.W.CountedWrite.taken c.loop-feed.writer) (g.W.CountedWrite.taken c.hand_on_pieces.new.writer) c.take.new.self c.hand_on_pieces.new.run c.in_ok-hand_on_pieces.ensures.hands_on) c.loop-feed.invariant.taken;
       counts = c.in_ok-hand_on_pieces.ensures.counts start c.loop-feed.invariant.counts;
       failed = c.in_ok-hand_on_pieces.ensures.failed ∙ c.loop-feed.invariant.failed;
     }

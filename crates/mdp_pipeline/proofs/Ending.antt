@@ -1,0 +1,190 @@
+-- What a run has written when it ends, at the events that it took.
+use Rattle.std.proofs.Common.{◌≡◌, ℕ, Bool, List, [], ◌∷◌, ◌++◌, take, drop, refl, sym, ap, subst, ◌∙◌, append_assoc}
+use Rattle.std.proofs.lemmas.List.{append-nil, take-append-drop}
+use Rattle.mdp_templates.specs.declared.instrument.Instrument.{Instrument}
+use Rattle.mdp_print.specs.Texts.{last_line}
+use Rattle.mdp_arbiter.specs.Accepted.{Event}
+use Rattle.mdp_arbiter.specs.Channel.{Channel, channel_of}
+use Rattle.mdp_arbiter.specs.Machine.{Move, go_on, is_lost, state_at, trace}
+use Rattle.mdp_arbiter.proofs.Runs.{law_of_fronts}
+use Rattle.mdp_desks.specs.Shown.{showed, shown_after, shown_lines}
+use Rattle.mdp_engine.specs.Engine.{View, Stands}
+use Rattle.mdp_pipeline.specs.declared.run.Run.{Run}
+use Rattle.mdp_pipeline.specs.Merge.{Arrival}
+use Rattle.mdp_pipeline.specs.Output.{end_lines, is_lost_after, moves_of, next_after, shown_output}
+use Rattle.mdp_pipeline.specs.Reading.{by_feed, events_of, refusals_text}
+use Rattle.mdp_pipeline.specs.RefusalTexts.{RefusalTexts}
+use Rattle.mdp_pipeline.specs.Running.{BeginsAll, EndsAs, EndsEarly, HandsOn, HasShown, PrintsAll, RunsOver, Writes, joined_texts}
+
+-- ---- the text so far
+
+-- what was sent and what is held is what the moves show
+shown_so_far : (listed : List Instrument) (room : ℕ) (events : List Event) (start taken : List ℕ) (engine : View) (held : List ℕ) → (so_far : HasShown listed room events start taken engine held) → so_far.sent ++ held ≡ shown_lines listed (moves_of listed room events)
+shown_so_far listed room events start taken engine held so_far =
+    let front = so_far.sent ++ held in
+    sym (append-nil front) ∙ ap (λ (t : List ℕ). front ++ t) (sym so_far.drained) ∙ so_far.stands.shows.text_is
+    ∙ ap (λ (c : Channel). shown_lines listed (trace c events)) so_far.channel
+
+-- what the moves show begins with what the first ones show
+pub shown_after-append : (listed : List Instrument) (before moves more : List Move) → shown_after listed before (moves ++ more) ≡ shown_after listed before moves ++ shown_after listed (before ++ moves) more
+shown_after-append listed before [] more = ap (λ (b : List Move). shown_after listed b more) (sym (append-nil before))
+shown_after-append listed before (m ∷ moves) more =
+    let now = before ++ m ∷ [] in
+    ap (λ (t : List ℕ). showed listed before m ++ t) (shown_after-append listed now moves more)
+    ∙ ap (λ (b : List Move). showed listed before m ++ (shown_after listed now moves ++ shown_after listed b more)) (append_assoc before (m ∷ []) moves)
+    ∙ sym (append_assoc (showed listed before m) (shown_after listed now moves) (shown_after listed (before ++ m ∷ moves) more))
+
+-- what more events show
+abbrev shown_later : List Instrument → ℕ → List Event → List Event → List ℕ
+shown_later listed room events more =
+    let channel = channel_of listed room in
+    shown_after listed (moves_of listed room events) (go_on channel events (state_at channel events) more)
+
+shown_front : (listed : List Instrument) (room : ℕ) (events more : List Event) → shown_lines listed (moves_of listed room (events ++ more)) ≡ shown_lines listed (moves_of listed room events) ++ shown_later listed room events more
+shown_front listed room events more =
+    let channel = channel_of listed room in
+    ap (shown_lines listed) (law_of_fronts channel events more)
+    ∙ shown_after-append listed [] (moves_of listed room events) (go_on channel events (state_at channel events) more)
+
+-- of the text that is held so many bytes went out; whatever comes behind these events, it is a beginning of the whole
+pub early : (listed : List Instrument) (room : ℕ) (events more : List Event) (refusals start taken taken' : List ℕ) (engine : View) (held : List ℕ) (n : ℕ) → taken' ≡ taken ++ take n held
+    → HasShown listed room events start taken engine held → EndsEarly listed room (events ++ more) refusals start taken'
+early listed room events more refusals start taken taken' engine held n went so_far =
+    let later = shown_later listed room events more in
+    let end = end_lines listed room refusals (events ++ more) in
+    record {
+      sent = so_far.sent ++ take n held;
+      rest = drop n held ++ (later ++ end);
+      taken_is = went ∙ ap (λ (t : List ℕ). t ++ take n held) so_far.taken_is ∙ append_assoc start so_far.sent (take n held);
+      whole =
+          ap (λ (t : List ℕ). t ++ end) (shown_front listed room events more)
+          ∙ ap (λ (t : List ℕ). (t ++ later) ++ end) (sym (shown_so_far listed room events start taken engine held so_far))
+          ∙ append_assoc (so_far.sent ++ held) later end
+          ∙ ap (λ (t : List ℕ). (so_far.sent ++ t) ++ (later ++ end)) (sym (take-append-drop n held))
+          ∙ ap (λ (t : List ℕ). t ++ (later ++ end)) (sym (append_assoc so_far.sent (take n held) (drop n held)))
+          ∙ append_assoc (so_far.sent ++ take n held) (drop n held) (later ++ end);
+    }
+
+pub early_here : (listed : List Instrument) (room : ℕ) (events : List Event) (refusals start taken taken' : List ℕ) (engine : View) (held : List ℕ) (n : ℕ) → taken' ≡ taken ++ take n held
+    → HasShown listed room events start taken engine held → EndsEarly listed room events refusals start taken'
+early_here listed room events refusals start taken taken' engine held n went so_far =
+    subst (λ (es : List Event). EndsEarly listed room es refusals start taken') (append-nil events) (early listed room events [] refusals start taken taken' engine held n went so_far)
+
+-- nothing went out
+pub early_none : (listed : List Instrument) (room : ℕ) (events : List Event) (refusals start : List ℕ) → EndsEarly listed room events refusals start start
+early_none listed room events refusals start = record { sent = []; rest = shown_output listed room refusals events; taken_is = sym (append-nil start); whole = refl }
+
+-- ---- the end
+
+abbrev pub TellsNext : View → ℕ → Type 0
+TellsNext engine next = (listed : List Instrument) (es : List Event) (drained : List ℕ) → Stands listed es drained engine → next ≡ (state_at engine.arbiter.channel es).next
+
+abbrev pub TellsLost : View → Bool → Type 0
+TellsLost engine lost = (listed : List Instrument) (es : List Event) (drained : List ℕ) → Stands listed es drained engine → lost ≡ is_lost engine.arbiter.channel es (state_at engine.arbiter.channel es)
+
+pub ends_as : (listed : List Instrument) (room : ℕ) (events : List Event) (start taken taken' : List ℕ) (engine : View) (held end : List ℕ) (refusals : RefusalTexts) (next : ℕ) (lost : Bool)
+    → taken' ≡ (taken ++ held) ++ end → end ≡ joined_texts refusals ++ last_line next lost → TellsNext engine next → TellsLost engine lost
+    → HasShown listed room events start taken engine held → EndsAs listed room events (joined_texts refusals) start taken' next lost
+ends_as listed room events start taken taken' engine held end refusals next lost went end_is next_is lost_is so_far =
+    let front = so_far.sent ++ held in
+    let next_after_all : next ≡ next_after listed room events = next_is listed events front so_far.stands ∙ ap (λ (c : Channel). (state_at c events).next) so_far.channel in
+    let lost_after_all : lost ≡ is_lost_after listed room events = lost_is listed events front so_far.stands ∙ ap (λ (c : Channel). is_lost c events (state_at c events)) so_far.channel in
+    let ending : end ≡ end_lines listed room (joined_texts refusals) events =
+    end_is
+    ∙ ap (λ (n : ℕ). joined_texts refusals ++ last_line n lost) next_after_all
+    ∙ ap (λ (l : Bool). joined_texts refusals ++ last_line (next_after listed room events) l) lost_after_all in
+    record {
+      text = front ++ end;
+      taken_is = went ∙ ap (λ (t : List ℕ). (t ++ held) ++ end) so_far.taken_is ∙ ap (λ (t : List ℕ). t ++ end) (append_assoc start so_far.sent held) ∙ append_assoc start front end;
+      next_is = next_after_all;
+      lost_is = lost_after_all;
+      shown =
+          ap (λ (t : List ℕ). t ++ end) (shown_so_far listed room events start taken engine held so_far)
+          ∙ ap (λ (t : List ℕ). shown_lines listed (moves_of listed room events) ++ t) ending;
+    }
+
+-- the text went out, and of the refusals and the last line so many bytes
+pub early_in_end : (listed : List Instrument) (room : ℕ) (events : List Event) (start taken taken' : List ℕ) (engine : View) (held end : List ℕ) (refusals : RefusalTexts) (next : ℕ) (lost : Bool) (n : ℕ)
+    → taken' ≡ (taken ++ held) ++ take n end → end ≡ joined_texts refusals ++ last_line next lost → TellsNext engine next → TellsLost engine lost
+    → HasShown listed room events start taken engine held → EndsEarly listed room events (joined_texts refusals) start taken'
+unfolding ends_as
+early_in_end listed room events start taken taken' engine held end refusals next lost n went end_is next_is lost_is so_far =
+    let all = ends_as listed room events start taken ((taken ++ held) ++ end) engine held end refusals next lost refl end_is next_is lost_is so_far in
+    let front = so_far.sent ++ held in
+    record {
+      sent = front ++ take n end;
+      rest = drop n end;
+      taken_is = went ∙ ap (λ (t : List ℕ). (t ++ held) ++ take n end) so_far.taken_is ∙ ap (λ (t : List ℕ). t ++ take n end) (append_assoc start so_far.sent held) ∙ append_assoc start front (take n end);
+      whole = sym all.shown ∙ ap (λ (t : List ℕ). front ++ t) (sym (take-append-drop n end)) ∙ sym (append_assoc front (take n end) (drop n end));
+    }
+
+-- ---- runs over records of all feeds in one list
+
+pub writes_shown : (listed : List Instrument) (room : ℕ) (arrivals : List Arrival) (start taken : List ℕ) (engine : View) (held : List ℕ) (refusals : RefusalTexts)
+    → (so_far : Writes listed room arrivals start taken engine held refusals) → HasShown listed room (events_of so_far.over.readings) start taken engine held
+writes_shown listed room arrivals start taken engine held refusals so_far = record {
+  sent = so_far.sent;
+  taken_is = so_far.taken_is;
+  stands = so_far.over.run.stands;
+  drained = so_far.over.run.drained;
+  channel = so_far.over.run.channel;
+}
+
+pub prints_all : (listed : List Instrument) (room : ℕ) (arrivals : List Arrival) (start taken taken' : List ℕ) (engine : View) (held : List ℕ) (refusals : RefusalTexts) (next : ℕ) (lost : Bool)
+    → (so_far : Writes listed room arrivals start taken engine held refusals) → EndsAs listed room (events_of so_far.over.readings) (joined_texts refusals) start taken' next lost
+    → (text : List ℕ) × (taken' ≡ start ++ text) × PrintsAll listed room arrivals text next lost
+prints_all listed room arrivals start taken taken' engine held refusals next lost so_far ends =
+    (
+      ends.text,
+      ends.taken_is,
+      record {
+        readings = so_far.over.readings;
+        are = so_far.over.are;
+        next_is = ends.next_is;
+        lost_is = ends.lost_is;
+        shown = ends.shown ∙ ap (λ (t : RefusalTexts). shown_output listed room (joined_texts t) (events_of so_far.over.readings)) so_far.over.run.refusals_are;
+      },
+    )
+
+pub begins_all : (listed : List Instrument) (room : ℕ) (arrivals : List Arrival) (start taken taken' : List ℕ) (engine : View) (held : List ℕ) (refusals : RefusalTexts)
+    → (so_far : Writes listed room arrivals start taken engine held refusals) → EndsEarly listed room (events_of so_far.over.readings) (joined_texts refusals) start taken'
+    → BeginsAll listed room arrivals start taken'
+begins_all listed room arrivals start taken taken' engine held refusals so_far ends =
+    let events = events_of so_far.over.readings in
+    record {
+      text = shown_output listed room (refusals_text (by_feed so_far.over.readings)) events;
+      next = next_after listed room events;
+      lost = is_lost_after listed room events;
+      prints = record { readings = so_far.over.readings; are = so_far.over.are; next_is = refl; lost_is = refl; shown = refl };
+      sent = ends.sent;
+      rest = ends.rest;
+      taken_is = ends.taken_is;
+      whole = sym (ap (λ (t : RefusalTexts). shown_output listed room (joined_texts t) events) so_far.over.run.refusals_are) ∙ ends.whole;
+    }
+
+-- ---- a front of the text goes out
+
+pub shown_on : {A : Type 0} (listed : List Instrument) (room : ℕ) (events : List Event) (start taken taken' : List ℕ) (old new : Run A) → HandsOn taken taken' old new
+    → HasShown listed room events start taken old.engine old.text.items → HasShown listed room events start taken' new.engine new.text.items
+shown_on listed room events start taken taken' old new on so_far = record {
+  sent = so_far.sent ++ on.sent;
+  taken_is = on.went ∙ ap (λ (t : List ℕ). t ++ on.sent) so_far.taken_is ∙ append_assoc start so_far.sent on.sent;
+  stands =
+      subst (λ (v : View). Stands listed events ((so_far.sent ++ on.sent) ++ new.text.items) v) (sym on.engine)
+      (subst (λ (t : List ℕ). Stands listed events t old.engine) (ap (λ (t : List ℕ). so_far.sent ++ t) on.kept ∙ sym (append_assoc so_far.sent on.sent new.text.items)) so_far.stands);
+  drained = ap (λ (v : View). v.held) on.engine ∙ so_far.drained;
+  channel = ap (λ (v : View). v.arbiter.channel) on.engine ∙ so_far.channel;
+}
+
+pub writes_on : {A : Type 0} (listed : List Instrument) (room : ℕ) (arrivals : List Arrival) (start taken taken' : List ℕ) (old new : Run A) → HandsOn taken taken' old new
+    → Writes listed room arrivals start taken old.engine old.text.items old.refusals → Writes listed room arrivals start taken' new.engine new.text.items new.refusals
+writes_on listed room arrivals start taken taken' old new on so_far =
+    let same : so_far.sent ++ old.text.items ≡ (so_far.sent ++ on.sent) ++ new.text.items = ap (λ (t : List ℕ). so_far.sent ++ t) on.kept ∙ sym (append_assoc so_far.sent on.sent new.text.items) in
+    record {
+      sent = so_far.sent ++ on.sent;
+      taken_is = on.went ∙ ap (λ (t : List ℕ). t ++ on.sent) so_far.taken_is ∙ append_assoc start so_far.sent on.sent;
+      over =
+          subst (λ (v : View). RunsOver listed room arrivals v ((so_far.sent ++ on.sent) ++ new.text.items) new.refusals) (sym on.engine)
+          (subst (λ (t : RefusalTexts). RunsOver listed room arrivals old.engine ((so_far.sent ++ on.sent) ++ new.text.items) t) (sym on.refusals)
+          (subst (λ (t : List ℕ). RunsOver listed room arrivals old.engine t old.refusals) same so_far.over));
+    }
