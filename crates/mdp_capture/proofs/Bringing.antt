@@ -21,12 +21,12 @@ use Rattle.std.proofs.lemmas.List.Quantifiers.{all_pairs_push}
 use Rattle.std.specs.Str.{bytes_eq}
 
 -- these lines bring to a capture what makes the new one of it
-record Adds (lines : List NumberedLine) (old new : CaptureContent) : Type 0 where
-  instruments : new.instruments ≡ old.instruments ++ flat_map instruments_of lines
-  a : new.a ≡ old.a ++ flat_map (records_on feeds.A) lines
-  b : new.b ≡ old.b ++ flat_map (records_on feeds.B) lines
-  s : new.s ≡ old.s ++ flat_map (records_on feeds.S) lines
-  skipped : new.skipped ≡ old.skipped ++ flat_map skipped_of lines
+pub record Adds (lines : List NumberedLine) (old new : CaptureContent) : Type 0 where
+  pub instruments : new.instruments ≡ old.instruments ++ flat_map instruments_of lines
+  pub a : new.a ≡ old.a ++ flat_map (records_on feeds.A) lines
+  pub b : new.b ≡ old.b ++ flat_map (records_on feeds.B) lines
+  pub s : new.s ≡ old.s ++ flat_map (records_on feeds.S) lines
+  pub skipped : new.skipped ≡ old.skipped ++ flat_map skipped_of lines
 
 no_more : (capture : CaptureContent) → Adds [] capture capture
 no_more c = record {
@@ -55,10 +55,10 @@ same_capture : (old new : CaptureContent) → (let x : Result CaptureContent Ref
 same_capture old new is = cc
 
 -- one line
-abbrev line_at : ℕ → LineContent → NumberedLine
+abbrev pub line_at : ℕ → LineContent → NumberedLine
 line_at n content = record { number = n; content = content }
 
-one_line : (n : ℕ) (content : LineContent) (old new : CaptureContent) → add_line n content old ≡ Ok new → Adds (line_at n content ∷ []) old new
+pub one_line : (n : ℕ) (content : LineContent) (old new : CaptureContent) → add_line n content old ≡ Ok new → Adds (line_at n content ∷ []) old new
 one_line n Blank old new is =
     let none = no_more old in subst (Adds (line_at n Blank ∷ []) old) (same_capture _ new is) (record { instruments = none.instruments; a = none.a; b = none.b; s = none.s; skipped = none.skipped })
 one_line n (Listing instrument) old new is =
@@ -85,16 +85,16 @@ both_steps (Ok middle) then new is = record { middle = middle; taken = refl; goe
 both_steps (Err refused) then new is = absurd (cc)
 
 -- the number of a line at a place
-abbrev number_at : ℕ → ℕ
+abbrev pub number_at : ℕ → ℕ
 number_at place = min place 4294967295
 
-next_number : (place : ℕ) → next_line (number_at place) ≡ number_at (place + 1)
+pub next_number : (place : ℕ) → next_line (number_at place) ≡ number_at (place + 1)
 next_number place = omega arith
 
-abbrev lines_from : ℕ → List (List ℕ) → List NumberedLine
+abbrev pub lines_from : ℕ → List (List ℕ) → List NumberedLine
 lines_from place texts = map numbered (enumerate_from place texts)
 
-all_lines : (place : ℕ) (texts : List (List ℕ)) (old new : CaptureContent) → add_lines (number_at place) texts old ≡ Ok new → Adds (lines_from place texts) old new
+pub all_lines : (place : ℕ) (texts : List (List ℕ)) (old new : CaptureContent) → add_lines (number_at place) texts old ≡ Ok new → Adds (lines_from place texts) old new
 all_lines place [] old new is = subst (Adds [] old) (same_capture old new is) (no_more old)
 all_lines place (text ∷ rest) old new is =
     let steps = both_steps (add_line (number_at place) (line_of text) old) (add_lines (next_line (number_at place)) rest) new is in
@@ -103,7 +103,7 @@ all_lines place (text ∷ rest) old new is =
 
 -- ---- every instrument stands before the first record
 
-some_counted : (a b s : ℕ) → (nat_lt 0 a || nat_lt 0 b || nat_lt 0 s) ≡ true → 0 < a + b + s
+pub some_counted : (a b s : ℕ) → (nat_lt 0 a || nat_lt 0 b || nat_lt 0 s) ≡ true → 0 < a + b + s
 some_counted zero zero zero is = absurd (cc)
 some_counted (suc a) b s is = omega arith
 some_counted zero (suc b) s is = omega arith
@@ -113,7 +113,7 @@ counted_some : (a b s : ℕ) → 0 < a + b + s → (nat_lt 0 a || nat_lt 0 b || 
 counted_some a b s some = grind (arith, nat_tests)
 
 -- how many records a capture has
-abbrev records : CaptureContent → ℕ
+abbrev pub records : CaptureContent → ℕ
 records capture = length capture.a + length capture.b + length capture.s
 
 -- behind a record no line is an instrument's
@@ -190,7 +190,7 @@ instruments_first place (text ∷ rest) old new is =
 
 -- ---- the instruments fit, and their names differ
 
-abbrev NamesDiffer : List Instrument → Type 0
+abbrev pub NamesDiffer : List Instrument → Type 0
 NamesDiffer = AllPairs (λ earlier later. earlier.name ≢ later.name)
 
 -- a name that no instrument is found under is no instrument's

@@ -6,3 +6,4 @@ pub mod Pieces
 pub mod Fit
 pub mod Following
 pub mod Bringing
+pub mod Holding

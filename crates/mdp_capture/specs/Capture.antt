@@ -1,4 +1,4 @@
--- What a capture holds, by the bytes of its text, line by line.
+-- The capture of a text, or its first refusal, computed line by line; `Lines` says by the lines alone what it holds.
 use Rattle.std.specs.Prelude.{ℕ, ℤ, ◌+◌, ◌==◌, ◌&&◌, ◌||◌, not, nat_le, nat_lt, min, Bool, true, false, if◌then◌else◌, List, [], ◌∷◌, ◌++◌, length, map, is_some, Option, Some, None, Result, Ok, Err, ◌≡◌}
 use Rattle.std.specs.List.{list_any}
 use Rattle.std.specs.Map.{lookup}

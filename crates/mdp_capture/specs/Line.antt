@@ -105,9 +105,9 @@ closing_of [] = Closing
 closing_of (more ∷ rest) = Skipped LineForm
 
 -- what the fields of a line say, the first of which is one letter
-abbrev pub lettered : List (List ℕ) → LineContent
-lettered [] = Skipped LineForm
-lettered (letter ∷ rest) =
+abbrev pub line_of_fields : List (List ℕ) → LineContent
+line_of_fields [] = Skipped LineForm
+line_of_fields (letter ∷ rest) =
     if bytes_eq letter (codes "I") then listing (instrument_of rest)
     else if bytes_eq letter (codes "A") then packet_of feeds.A rest
     else if bytes_eq letter (codes "B") then packet_of feeds.B rest
@@ -117,4 +117,4 @@ lettered (letter ∷ rest) =
 
 -- what a line says, without its line feed and the carriage return before it
 abbrev pub line_of : List ℕ → LineContent
-line_of text = if length text == 0 then Blank else lettered (fields text)
+line_of text = if length text == 0 then Blank else line_of_fields (fields text)

@@ -11,7 +11,7 @@ use Rattle.mdp_templates.specs.declared.entry.Entry.{Entry}
 use Rattle.mdp_templates.specs.declared.instrument.Instrument.{Instrument}
 use Rattle.mdp_books.specs.declared.book.Place.{Place}
 use Rattle.mdp_books.specs.Book.{after_entry}
-use Rattle.mdp_books.specs.Feed.{Sent, names, place_at, entered_from}
+use Rattle.mdp_books.specs.Feed.{Sent, names, place_at, after_entries_from}
 use Rattle.mdp_desks.specs.declared.desk.Desk.{Desk}
 use Rattle.mdp_desks.specs.Lines.{Seen, text_of, audit_text, lines_as}
 use Rattle.mdp_desks.specs.Desks.{desk_at_start, desk_entered, desk_heard, desks_through, desk_settled, desk_standing, desk_seen, desks_after, desks_text, rebased_desks}
@@ -140,7 +140,7 @@ beside_start listed ds ids marks differ desks same are =
 
 -- a desk with a message's entries, the first of which has this number, where it hears them
 abbrev told : ℕ → ℕ → ℕ → List Entry → Desk → Bool → Desk
-told packet message n entries d marked = record { instrument = d.instrument; base = d.base; book = entered_from d.instrument.id packet message n entries d.book; marked = marked }
+told packet message n entries d marked = record { instrument = d.instrument; base = d.base; book = after_entries_from d.instrument packet message n entries d.book; marked = marked }
 
 abbrev through : ℕ → ℕ → ℕ → List Entry → Desk → Desk
 through packet message n entries d = cond (nat_lt d.base packet) (told packet message n entries d (d.marked || list_any (names d.instrument.id) entries)) d
@@ -160,9 +160,9 @@ or_false false = refl
 -- one entry, and then the others
 heard_and : (packet message n : ℕ) (entry : Entry) (entries : List Entry) (d : Desk) (named over : Bool) → names d.instrument.id entry ≡ named → nat_lt d.base packet ≡ over
     → through packet message (n + 1) entries (cond named (cond over (record { instrument = d.instrument; base = d.base; book = after_entry (place_at packet message n) entry d.book; marked = true }) d) d)
-    ≡ cond over (record { instrument = d.instrument; base = d.base; book = entered_from d.instrument.id packet message (n + 1) entries (cond named (after_entry (place_at packet message n) entry d.book) d.book); marked = d.marked || (named || list_any (names d.instrument.id) entries) }) d
+    ≡ cond over (record { instrument = d.instrument; base = d.base; book = after_entries_from d.instrument packet message (n + 1) entries (cond named (after_entry (place_at packet message n) entry d.book) d.book); marked = d.marked || (named || list_any (names d.instrument.id) entries) }) d
 heard_and packet message n entry entries d true true is over =
-    rw over (ap (λ (b : Bool). record { instrument = d.instrument; base = d.base; book = entered_from d.instrument.id packet message (n + 1) entries (after_entry (place_at packet message n) entry d.book); marked = b }) (sym (or_true d.marked)))
+    rw over (ap (λ (b : Bool). record { instrument = d.instrument; base = d.base; book = after_entries_from d.instrument packet message (n + 1) entries (after_entry (place_at packet message n) entry d.book); marked = b }) (sym (or_true d.marked)))
 heard_and packet message n entry entries d true false is over = rw over refl
 heard_and packet message n entry entries d false true is over = rw over refl
 heard_and packet message n entry entries d false false is over = rw over refl
@@ -204,7 +204,7 @@ all_settled packet message entries (d ∷ ds) =
 
 standing_case : (packet message : ℕ) (entries : List Entry) (d : Desk) (over : Bool) → nat_lt d.base packet ≡ over
     → desk_standing packet (cond over (told packet message 1 entries d (d.marked || list_any (names d.instrument.id) entries)) d)
-    ≡ cond over (Some (record { instrument = d.instrument; printed = d.marked || list_any (names d.instrument.id) entries; book = entered_from d.instrument.id packet message 1 entries d.book })) None
+    ≡ cond over (Some (record { instrument = d.instrument; printed = d.marked || list_any (names d.instrument.id) entries; book = after_entries_from d.instrument packet message 1 entries d.book })) None
 standing_case packet message entries d true over = rw over refl
 standing_case packet message entries d false over = rw over refl
 

@@ -10,72 +10,72 @@ use Rattle.mdp_books.specs.Feed.{Sent, sent_in}
 use Rattle.mdp_arbiter.specs.Machine.{Move}
 use Rattle.mdp_arbiter.specs.Machine.Move.{passed, jumped}
 use Rattle.mdp_desks.specs.Lines.{Seen}
-use Rattle.mdp_desks.specs.Shown.{Start, Shown, started, started_at, opening, shown, shown_through, shown_seen}
+use Rattle.mdp_desks.specs.Shown.{Start, Standing, starts_at_jump, start_at_snapshot, starts_before_jump, standing_after, standing_through, start_seen}
 use Rattle.mdp_desks.specs.Moments.{ended, moment_at, moments_from, moments_of, moments_after}
-use Rattle.mdp_desks.specs.Shares.{own, own_slots, own_move, own_moves}
+use Rattle.mdp_desks.specs.Shares.{own_part, own_slots, own_move, own_moves}
 use Rattle.mdp_desks.specs.Reports.{Told, Report, tells, told_of, told_there, told_by, told_from, report_by, report_of}
 use Rattle.mdp_desks.specs.ShareLaws.{LawOfShares}
 
 -- ---- one's own of a list
 
-own-map : {X Y : Type 0} (f : X → Y) (mine : ℕ → Bool) (slot : ℕ) (xs : List X) → own mine slot (map f xs) ≡ map f (own mine slot xs)
-own-map f mine slot [] = refl
-own-map f mine slot (x ∷ xs) = by_mine (mine slot) (own-map f mine (slot + 1) xs)
+own_part-map : {X Y : Type 0} (f : X → Y) (mine : ℕ → Bool) (slot : ℕ) (xs : List X) → own_part mine slot (map f xs) ≡ map f (own_part mine slot xs)
+own_part-map f mine slot [] = refl
+own_part-map f mine slot (x ∷ xs) = by_mine (mine slot) (own_part-map f mine (slot + 1) xs)
   where
-    by_mine : (b : Bool) → own mine (slot + 1) (map f xs) ≡ map f (own mine (slot + 1) xs) → cond b (f x ∷ own mine (slot + 1) (map f xs)) (own mine (slot + 1) (map f xs)) ≡ map f (cond b (x ∷ own mine (slot + 1) xs) (own mine (slot + 1) xs))
+    by_mine : (b : Bool) → own_part mine (slot + 1) (map f xs) ≡ map f (own_part mine (slot + 1) xs) → cond b (f x ∷ own_part mine (slot + 1) (map f xs)) (own_part mine (slot + 1) (map f xs)) ≡ map f (cond b (x ∷ own_part mine (slot + 1) xs) (own_part mine (slot + 1) xs))
     by_mine true others = ap (λ t. f x ∷ t) others
     by_mine false others = others
 
-no_snapshot : (is : List Instrument) → [] ≡ started is []
+no_snapshot : (is : List Instrument) → [] ≡ starts_at_jump is []
 no_snapshot [] = refl
 no_snapshot (i ∷ is) = refl
 
-own-started : (mine : ℕ → Bool) (slot : ℕ) (is : List Instrument) (ss : List SnapshotContent) → own mine slot (started is ss) ≡ started (own mine slot is) (own mine slot ss)
-own-started mine slot [] ss = refl
-own-started mine slot (i ∷ is) [] = no_snapshot (own mine slot (i ∷ is))
-own-started mine slot (i ∷ is) (s ∷ ss) = by_mine (mine slot) (own-started mine (slot + 1) is ss)
+own_part-starts_at_jump : (mine : ℕ → Bool) (slot : ℕ) (is : List Instrument) (ss : List SnapshotContent) → own_part mine slot (starts_at_jump is ss) ≡ starts_at_jump (own_part mine slot is) (own_part mine slot ss)
+own_part-starts_at_jump mine slot [] ss = refl
+own_part-starts_at_jump mine slot (i ∷ is) [] = no_snapshot (own_part mine slot (i ∷ is))
+own_part-starts_at_jump mine slot (i ∷ is) (s ∷ ss) = by_mine (mine slot) (own_part-starts_at_jump mine (slot + 1) is ss)
   where
-    by_mine : (b : Bool) → own mine (slot + 1) (started is ss) ≡ started (own mine (slot + 1) is) (own mine (slot + 1) ss)
-        → cond b (started_at i s ∷ own mine (slot + 1) (started is ss)) (own mine (slot + 1) (started is ss))
-        ≡ started (cond b (i ∷ own mine (slot + 1) is) (own mine (slot + 1) is)) (cond b (s ∷ own mine (slot + 1) ss) (own mine (slot + 1) ss))
-    by_mine true others = ap (λ (t : List Start). started_at i s ∷ t) others
+    by_mine : (b : Bool) → own_part mine (slot + 1) (starts_at_jump is ss) ≡ starts_at_jump (own_part mine (slot + 1) is) (own_part mine (slot + 1) ss)
+        → cond b (start_at_snapshot i s ∷ own_part mine (slot + 1) (starts_at_jump is ss)) (own_part mine (slot + 1) (starts_at_jump is ss))
+        ≡ starts_at_jump (cond b (i ∷ own_part mine (slot + 1) is) (own_part mine (slot + 1) is)) (cond b (s ∷ own_part mine (slot + 1) ss) (own_part mine (slot + 1) ss))
+    by_mine true others = ap (λ (t : List Start). start_at_snapshot i s ∷ t) others
     by_mine false others = others
 
 -- ---- what the moves show of one's own
 
-abbrev own_shown : (ℕ → Bool) → Shown → Shown
-own_shown mine s = record { starts = own mine 0 s.starts; since = s.since }
+abbrev own_shown : (ℕ → Bool) → Standing → Standing
+own_shown mine s = record { starts = own_part mine 0 s.starts; since = s.since }
 
-own_from : (mine : ℕ → Bool) (listed : List Instrument) (s : Shown) (moves : List Move) → fold (shown_through (own mine 0 listed)) (own_shown mine s) (own_moves mine moves) ≡ own_shown mine (fold (shown_through listed) s moves)
+own_from : (mine : ℕ → Bool) (listed : List Instrument) (s : Standing) (moves : List Move) → fold (standing_through (own_part mine 0 listed)) (own_shown mine s) (own_moves mine moves) ≡ own_shown mine (fold (standing_through listed) s moves)
 own_from mine listed s [] = refl
-own_from mine listed s (passed packet ∷ moves) = own_from mine listed (shown_through listed s (passed packet)) moves
+own_from mine listed s (passed packet ∷ moves) = own_from mine listed (standing_through listed s (passed packet)) moves
 own_from mine listed s (jumped old new ss ∷ moves) =
-    ap (λ (starts : List Start). fold (shown_through (own mine 0 listed)) (record { starts = starts; since = [] }) (own_moves mine moves)) (sym (own-started mine 0 listed ss))
-    ∙ own_from mine listed (shown_through listed s (jumped old new ss)) moves
+    ap (λ (starts : List Start). fold (standing_through (own_part mine 0 listed)) (record { starts = starts; since = [] }) (own_moves mine moves)) (sym (own_part-starts_at_jump mine 0 listed ss))
+    ∙ own_from mine listed (standing_through listed s (jumped old new ss)) moves
 
-shown_own : (mine : ℕ → Bool) (listed : List Instrument) (moves : List Move) → shown (own mine 0 listed) (own_moves mine moves) ≡ own_shown mine (shown listed moves)
+shown_own : (mine : ℕ → Bool) (listed : List Instrument) (moves : List Move) → standing_after (own_part mine 0 listed) (own_moves mine moves) ≡ own_shown mine (standing_after listed moves)
 shown_own mine listed moves =
-    ap (λ (starts : List Start). fold (shown_through (own mine 0 listed)) (record { starts = starts; since = [] }) (own_moves mine moves)) (sym (own-map _ mine 0 listed))
-    ∙ own_from mine listed (record { starts = opening listed; since = [] }) moves
+    ap (λ (starts : List Start). fold (standing_through (own_part mine 0 listed)) (record { starts = starts; since = [] }) (own_moves mine moves)) (sym (own_part-map _ mine 0 listed))
+    ∙ own_from mine listed (record { starts = starts_before_jump listed; since = [] }) moves
 
 -- ---- no more securities than are listed
 
-started_few : (is : List Instrument) (ss : List SnapshotContent) → length (started is ss) ≤ length is
+started_few : (is : List Instrument) (ss : List SnapshotContent) → length (starts_at_jump is ss) ≤ length is
 started_few [] ss = omega arith
 started_few (i ∷ is) [] = omega arith
 started_few (i ∷ is) (s ∷ ss) = let rest = started_few is ss in omega (arith, rest)
 
-opening_few : (is : List Instrument) → length (opening is) ≤ length is
+opening_few : (is : List Instrument) → length (starts_before_jump is) ≤ length is
 opening_few [] = omega arith
 opening_few (i ∷ is) = let rest = opening_few is in omega (arith, rest)
 
-few_from : (listed : List Instrument) (s : Shown) (moves : List Move) → length s.starts ≤ length listed → length (fold (shown_through listed) s moves).starts ≤ length listed
+few_from : (listed : List Instrument) (s : Standing) (moves : List Move) → length s.starts ≤ length listed → length (fold (standing_through listed) s moves).starts ≤ length listed
 few_from listed s [] few = few
-few_from listed s (passed packet ∷ moves) few = few_from listed (shown_through listed s (passed packet)) moves few
-few_from listed s (jumped old new ss ∷ moves) few = few_from listed (shown_through listed s (jumped old new ss)) moves (started_few listed ss)
+few_from listed s (passed packet ∷ moves) few = few_from listed (standing_through listed s (passed packet)) moves few
+few_from listed s (jumped old new ss ∷ moves) few = few_from listed (standing_through listed s (jumped old new ss)) moves (started_few listed ss)
 
-few : (listed : List Instrument) (moves : List Move) → length (shown listed moves).starts ≤ length listed
-few listed moves = few_from listed (shown listed []) moves (opening_few listed)
+few : (listed : List Instrument) (moves : List Move) → length (standing_after listed moves).starts ≤ length listed
+few listed moves = few_from listed (standing_after listed []) moves (opening_few listed)
 
 -- ---- what is told of one's own
 
@@ -103,14 +103,14 @@ one_left mine packet message slot (Some s) is = by_printed s.printed
     by_printed false = refl
 
 told_own : (mine : ℕ → Bool) (packet message slot : ℕ) (listed : List Instrument) (seen : List (Option Seen)) → length seen ≤ length listed
-    → told_by packet message (own_slots mine slot listed) (own mine slot seen) ≡ filter (keeps mine) (told_from packet message slot seen)
+    → told_by packet message (own_slots mine slot listed) (own_part mine slot seen) ≡ filter (keeps mine) (told_from packet message slot seen)
 told_own mine packet message slot listed [] within = none_told packet message (own_slots mine slot listed)
 told_own mine packet message slot [] (s ∷ seen) within = absurd (omega (arith, within))
 told_own mine packet message slot (i ∷ listed) (s ∷ seen) within = by_mine (mine slot) refl (told_own mine packet message (slot + 1) listed seen (omega (arith, within)))
   where
     by_mine : (b : Bool) → mine slot ≡ b
-        → told_by packet message (own_slots mine (slot + 1) listed) (own mine (slot + 1) seen) ≡ filter (keeps mine) (told_from packet message (slot + 1) seen)
-        → told_by packet message (cond b (slot ∷ own_slots mine (slot + 1) listed) (own_slots mine (slot + 1) listed)) (cond b (s ∷ own mine (slot + 1) seen) (own mine (slot + 1) seen))
+        → told_by packet message (own_slots mine (slot + 1) listed) (own_part mine (slot + 1) seen) ≡ filter (keeps mine) (told_from packet message (slot + 1) seen)
+        → told_by packet message (cond b (slot ∷ own_slots mine (slot + 1) listed) (own_slots mine (slot + 1) listed)) (cond b (s ∷ own_part mine (slot + 1) seen) (own_part mine (slot + 1) seen))
         ≡ filter (keeps mine) (told_there packet message slot s ++ told_from packet message (slot + 1) seen)
     by_mine true is others =
         ap (λ (t : List Told). told_there packet message slot s ++ t) others
@@ -124,45 +124,45 @@ told_own mine packet message slot (i ∷ listed) (s ∷ seen) within = by_mine (
 -- ---- moment by moment
 
 reported : (mine : ℕ → Bool) (listed : List Instrument) (starts : List Start) (since : List Sent) (m : Sent) → length starts ≤ length listed
-    → map (report_by (own_slots mine 0 listed)) (moment_at (own mine 0 starts) since m) ≡ map (report_of mine) (moment_at starts since m)
+    → map (report_by (own_slots mine 0 listed)) (moment_at (own_part mine 0 starts) since m) ≡ map (report_of mine) (moment_at starts since m)
 reported mine listed starts since m within = by_end m.end
   where
-    long : length (map (shown_seen since m) starts) ≤ length listed
-    long = let same = length-map starts (shown_seen since m) in omega (arith, same, within)
+    long : length (map (start_seen since m) starts) ≤ length listed
+    long = let same = length-map starts (start_seen since m) in omega (arith, same, within)
 
-    told : told_by m.packet m.message (own_slots mine 0 listed) (map (shown_seen since m) (own mine 0 starts)) ≡ filter (keeps mine) (told_from m.packet m.message 0 (map (shown_seen since m) starts))
-    told = ap (told_by m.packet m.message (own_slots mine 0 listed)) (sym (own-map (shown_seen since m) mine 0 starts)) ∙ told_own mine m.packet m.message 0 listed (map (shown_seen since m) starts) long
+    told : told_by m.packet m.message (own_slots mine 0 listed) (map (start_seen since m) (own_part mine 0 starts)) ≡ filter (keeps mine) (told_from m.packet m.message 0 (map (start_seen since m) starts))
+    told = ap (told_by m.packet m.message (own_slots mine 0 listed)) (sym (own_part-map (start_seen since m) mine 0 starts)) ∙ told_own mine m.packet m.message 0 listed (map (start_seen since m) starts) long
 
-    by_end : (e : Bool) → map (report_by (own_slots mine 0 listed)) (cond e (ended m.packet m.message (map (shown_seen since m) (own mine 0 starts)) ∷ []) [])
-        ≡ map (report_of mine) (cond e (ended m.packet m.message (map (shown_seen since m) starts) ∷ []) [])
+    by_end : (e : Bool) → map (report_by (own_slots mine 0 listed)) (cond e (ended m.packet m.message (map (start_seen since m) (own_part mine 0 starts)) ∷ []) [])
+        ≡ map (report_of mine) (cond e (ended m.packet m.message (map (start_seen since m) starts) ∷ []) [])
     by_end true = ap (λ (ts : List Told). tells m.packet m.message ts ∷ []) told
     by_end false = refl
 
 from_reported : (mine : ℕ → Bool) (listed : List Instrument) (starts : List Start) (since ms : List Sent) → length starts ≤ length listed
-    → map (report_by (own_slots mine 0 listed)) (moments_from (own mine 0 starts) since ms) ≡ map (report_of mine) (moments_from starts since ms)
+    → map (report_by (own_slots mine 0 listed)) (moments_from (own_part mine 0 starts) since ms) ≡ map (report_of mine) (moments_from starts since ms)
 from_reported mine listed starts since [] within = refl
 from_reported mine listed starts since (m ∷ ms) within =
-    map-append (report_by (own_slots mine 0 listed)) (moment_at (own mine 0 starts) since m) (moments_from (own mine 0 starts) (since ++ m ∷ []) ms)
-    ∙ ap (λ (t : List Report). t ++ map (report_by (own_slots mine 0 listed)) (moments_from (own mine 0 starts) (since ++ m ∷ []) ms)) (reported mine listed starts since m within)
+    map-append (report_by (own_slots mine 0 listed)) (moment_at (own_part mine 0 starts) since m) (moments_from (own_part mine 0 starts) (since ++ m ∷ []) ms)
+    ∙ ap (λ (t : List Report). t ++ map (report_by (own_slots mine 0 listed)) (moments_from (own_part mine 0 starts) (since ++ m ∷ []) ms)) (reported mine listed starts since m within)
     ∙ ap (λ (t : List Report). map (report_of mine) (moment_at starts since m) ++ t) (from_reported mine listed starts (since ++ m ∷ []) ms within)
     ∙ sym (map-append (report_of mine) (moment_at starts since m) (moments_from starts (since ++ m ∷ []) ms))
 
 of_reported : (mine : ℕ → Bool) (listed : List Instrument) (before : List Move) (move : Move)
-    → map (report_by (own_slots mine 0 listed)) (moments_of (own mine 0 listed) (own_moves mine before) (own_move mine move)) ≡ map (report_of mine) (moments_of listed before move)
+    → map (report_by (own_slots mine 0 listed)) (moments_of (own_part mine 0 listed) (own_moves mine before) (own_move mine move)) ≡ map (report_of mine) (moments_of listed before move)
 of_reported mine listed before (passed packet) =
-    ap (λ (s : Shown). map (report_by (own_slots mine 0 listed)) (moments_from s.starts s.since (sent_in packet))) (shown_own mine listed before)
-    ∙ from_reported mine listed (shown listed before).starts (shown listed before).since (sent_in packet) (few listed before)
+    ap (λ (s : Standing). map (report_by (own_slots mine 0 listed)) (moments_from s.starts s.since (sent_in packet))) (shown_own mine listed before)
+    ∙ from_reported mine listed (standing_after listed before).starts (standing_after listed before).since (sent_in packet) (few listed before)
 of_reported mine listed before (jumped old new snapshots) = refl
 
 after_reported : (mine : ℕ → Bool) (listed : List Instrument) (before moves : List Move)
-    → map (report_by (own_slots mine 0 listed)) (moments_after (own mine 0 listed) (own_moves mine before) (own_moves mine moves)) ≡ map (report_of mine) (moments_after listed before moves)
+    → map (report_by (own_slots mine 0 listed)) (moments_after (own_part mine 0 listed) (own_moves mine before) (own_moves mine moves)) ≡ map (report_of mine) (moments_after listed before moves)
 after_reported mine listed before [] = refl
 after_reported mine listed before (m ∷ moves) =
     let by = report_by (own_slots mine 0 listed) in
-    let here = moments_of (own mine 0 listed) (own_moves mine before) (own_move mine m) in
-    map-append by here (moments_after (own mine 0 listed) (own_moves mine before ++ own_move mine m ∷ []) (own_moves mine moves))
-    ∙ ap (λ (t : List Report). t ++ map by (moments_after (own mine 0 listed) (own_moves mine before ++ own_move mine m ∷ []) (own_moves mine moves))) (of_reported mine listed before m)
-    ∙ ap (λ (b : List Move). map (report_of mine) (moments_of listed before m) ++ map by (moments_after (own mine 0 listed) b (own_moves mine moves))) (sym (map-append (own_move mine) before (m ∷ [])))
+    let here = moments_of (own_part mine 0 listed) (own_moves mine before) (own_move mine m) in
+    map-append by here (moments_after (own_part mine 0 listed) (own_moves mine before ++ own_move mine m ∷ []) (own_moves mine moves))
+    ∙ ap (λ (t : List Report). t ++ map by (moments_after (own_part mine 0 listed) (own_moves mine before ++ own_move mine m ∷ []) (own_moves mine moves))) (of_reported mine listed before m)
+    ∙ ap (λ (b : List Move). map (report_of mine) (moments_of listed before m) ++ map by (moments_after (own_part mine 0 listed) b (own_moves mine moves))) (sym (map-append (own_move mine) before (m ∷ [])))
     ∙ ap (λ (t : List Report). map (report_of mine) (moments_of listed before m) ++ t) (after_reported mine listed (before ++ m ∷ []) moves)
     ∙ sym (map-append (report_of mine) (moments_of listed before m) (moments_after listed (before ++ m ∷ []) moves))
 

@@ -14,12 +14,13 @@ use Rattle.mdp_print.specs.Texts.{jump_line}
 use Rattle.mdp_desks.specs.declared.desk.Desk.{Desk}
 use Rattle.mdp_desks.specs.Lines.{Seen, lines_of}
 use Rattle.mdp_arbiter.specs.Machine.{Move}
-use Rattle.mdp_desks.specs.Shown.{Start, Shown, opening, shown, shown_through, started, book_since, is_due, is_shown, shown_seen, shown_at, shown_from, showed, shown_after, shown_lines}
+use Rattle.mdp_desks.specs.Shown.{Start, Standing, starts_before_jump, standing_after, standing_through, starts_at_jump, book_since, start_seen, shown_lines_at, shown_lines_from, shown_lines_of_move, shown_lines_after, shown_lines}
+use Rattle.mdp_desks.specs.Due.{is_due, is_printed}
 use Rattle.mdp_arbiter.specs.Machine.Move.{passed, jumped}
-use Rattle.mdp_desks.specs.Desks.{desk_at_start, heard, desk_after, desk_seen, desks_after, desks_text, passed_desks, passed_text, desk_jumped, rebased_desks}
+use Rattle.mdp_desks.specs.Desks.{desk_at_start, desk_with_message, desk_after, desk_seen, desks_after, desks_text, passed_desks, passed_text, desk_jumped, rebased_desks}
 use Rattle.mdp_desks.specs.Standing.{DeskShows, Shows}
 use Rattle.mdp_desks.specs.Beside.{listed_in}
-use Rattle.mdp_desks.proofs.Marks.{is_due-push, is_shown-due}
+use Rattle.mdp_desks.proofs.Marks.{is_due-push}
 
 -- ---- one desk and one message
 
@@ -30,51 +31,51 @@ behind-unheard : (base : ℕ) (since : List Sent) (m : Sent) → nat_lt base m.p
 behind-unheard base since m under = behind-push base since m ∙ ap (λ (b : Bool). cond b (behind base since ++ m ∷ []) (behind base since)) under
 
 -- the book after a message that is heard
-book_heard : (since : List Sent) (i : Start) (m : Sent) (d : Desk) → nat_lt i.base m.packet ≡ true → DeskShows since i d → book_after d.instrument.id d.book m ≡ book_since i (since ++ m ∷ [])
+book_heard : (since : List Sent) (i : Start) (m : Sent) (d : Desk) → nat_lt i.base m.packet ≡ true → DeskShows since i d → book_after d.instrument d.book m ≡ book_since i (since ++ m ∷ [])
 book_heard since i m d over so_far =
-    ap (λ (j : Instrument). book_after j.id d.book m) so_far.instrument
-    ∙ ap (λ (b : Book). book_after i.instrument.id b m) so_far.book
-    ∙ sym (book_from-push i.instrument.id i.book (behind i.base since) m)
-    ∙ sym (ap (book_from i.instrument.id i.book) (behind-heard i.base since m over))
+    ap (λ (j : Instrument). book_after j d.book m) so_far.instrument
+    ∙ ap (λ (b : Book). book_after i.instrument b m) so_far.book
+    ∙ sym (book_from-push i.instrument i.book (behind i.base since) m)
+    ∙ sym (ap (book_from i.instrument i.book) (behind-heard i.base since m over))
 
-marked_here : (since : List Sent) (i : Start) (m : Sent) (d : Desk) → DeskShows since i d → (d.marked || is_named_in d.instrument.id m) ≡ (is_due i (behind i.base since) || is_named_in i.instrument.id m)
+marked_here : (since : List Sent) (i : Start) (m : Sent) (d : Desk) → DeskShows since i d → (d.marked || is_named_in d.instrument.id m) ≡ (is_due i.instrument.id i.jumped (behind i.base since) || is_named_in i.instrument.id m)
 marked_here since i m d so_far =
     ap (λ (b : Bool). b || is_named_in d.instrument.id m) so_far.marked
-    ∙ ap (λ (j : Instrument). is_due i (behind i.base since) || is_named_in j.id m) so_far.instrument
+    ∙ ap (λ (j : Instrument). is_due i.instrument.id i.jumped (behind i.base since) || is_named_in j.id m) so_far.instrument
 
-after_case : (since : List Sent) (i : Start) (m : Sent) (d : Desk) (b : Bool) → nat_lt i.base m.packet ≡ b → DeskShows since i d → DeskShows (since ++ m ∷ []) i (cond b (heard m d) d)
+after_case : (since : List Sent) (i : Start) (m : Sent) (d : Desk) (b : Bool) → nat_lt i.base m.packet ≡ b → DeskShows since i d → DeskShows (since ++ m ∷ []) i (cond b (desk_with_message m d) d)
 after_case since i m d true over so_far =
     record {
       instrument = so_far.instrument;
       base = so_far.base;
       book = book_heard since i m d over so_far;
-      marked = ap (λ (b : Bool). not m.end && b) (marked_here since i m d so_far) ∙ sym (is_due-push i (behind i.base since) m) ∙ sym (ap (is_due i) (behind-heard i.base since m over));
+      marked = ap (λ (b : Bool). not m.end && b) (marked_here since i m d so_far) ∙ sym (is_due-push i.instrument.id i.jumped (behind i.base since) m) ∙ sym (ap (is_due i.instrument.id i.jumped) (behind-heard i.base since m over));
     }
 after_case since i m d false under so_far =
     let same = behind-unheard i.base since m under in
-    record { instrument = so_far.instrument; base = so_far.base; book = so_far.book ∙ sym (ap (book_from i.instrument.id i.book) same); marked = so_far.marked ∙ sym (ap (is_due i) same) }
+    record { instrument = so_far.instrument; base = so_far.base; book = so_far.book ∙ sym (ap (book_from i.instrument i.book) same); marked = so_far.marked ∙ sym (ap (is_due i.instrument.id i.jumped) same) }
 
 after_shows : (since : List Sent) (i : Start) (m : Sent) (d : Desk) → DeskShows since i d → DeskShows (since ++ m ∷ []) i (desk_after m d)
 after_shows since i m d so_far =
-    subst (λ (k : ℕ). DeskShows (since ++ m ∷ []) i (cond (nat_lt k m.packet) (heard m d) d)) (sym so_far.base) (after_case since i m d (nat_lt i.base m.packet) refl so_far)
+    subst (λ (k : ℕ). DeskShows (since ++ m ∷ []) i (cond (nat_lt k m.packet) (desk_with_message m d) d)) (sym so_far.base) (after_case since i m d (nat_lt i.base m.packet) refl so_far)
 
 abbrev seen_as : Instrument → Bool → Book → Option Seen
 seen_as instrument printed book = Some (record { instrument = instrument; printed = printed; book = book })
 
 seen_case : (since : List Sent) (i : Start) (m : Sent) (d : Desk) (e b : Bool) → nat_lt i.base m.packet ≡ b → DeskShows since i d
-    → cond (e && b) (seen_as d.instrument (d.marked || is_named_in d.instrument.id m) (book_after d.instrument.id d.book m)) None
-    ≡ cond (e && b) (seen_as i.instrument (is_shown i (behind i.base since) m) (book_since i (since ++ m ∷ []))) None
+    → cond (e && b) (seen_as d.instrument (d.marked || is_named_in d.instrument.id m) (book_after d.instrument d.book m)) None
+    ≡ cond (e && b) (seen_as i.instrument (is_printed i.instrument.id i.jumped (behind i.base since) m) (book_since i (since ++ m ∷ []))) None
 seen_case since i m d false b over so_far = refl
 seen_case since i m d true false under so_far = refl
 seen_case since i m d true true over so_far =
-    let book : Book = book_after d.instrument.id d.book m in
-    ap (λ (b : Bool). seen_as d.instrument b book) (marked_here since i m d so_far ∙ sym (is_shown-due i (behind i.base since) m))
-    ∙ ap (λ (j : Instrument). seen_as j (is_shown i (behind i.base since) m) book) so_far.instrument
-    ∙ ap (λ (b : Book). seen_as i.instrument (is_shown i (behind i.base since) m) b) (book_heard since i m d over so_far)
+    let book : Book = book_after d.instrument d.book m in
+    ap (λ (b : Bool). seen_as d.instrument b book) (marked_here since i m d so_far)
+    ∙ ap (λ (j : Instrument). seen_as j (is_printed i.instrument.id i.jumped (behind i.base since) m) book) so_far.instrument
+    ∙ ap (λ (b : Book). seen_as i.instrument (is_printed i.instrument.id i.jumped (behind i.base since) m) b) (book_heard since i m d over so_far)
 
-seen_same : (since : List Sent) (i : Start) (m : Sent) (d : Desk) → DeskShows since i d → desk_seen m d ≡ shown_seen since m i
+seen_same : (since : List Sent) (i : Start) (m : Sent) (d : Desk) → DeskShows since i d → desk_seen m d ≡ start_seen since m i
 seen_same since i m d so_far =
-    ap (λ (k : ℕ). cond (m.end && nat_lt k m.packet) (seen_as d.instrument (d.marked || is_named_in d.instrument.id m) (book_after d.instrument.id d.book m)) None) so_far.base
+    ap (λ (k : ℕ). cond (m.end && nat_lt k m.packet) (seen_as d.instrument (d.marked || is_named_in d.instrument.id m) (book_after d.instrument d.book m)) None) so_far.base
     ∙ seen_case since i m d m.end (nat_lt i.base m.packet) refl so_far
 
 -- ---- all desks, message by message
@@ -85,15 +86,15 @@ all_show since m [] (d ∷ ds) is = elim is [ ]
 all_show since m (i ∷ starts) [] is = elim is [ ]
 all_show since m (i ∷ starts) (d ∷ ds) is = (after_shows since i m d is.0, all_show since m starts ds is.1)
 
-all_seen : (since : List Sent) (m : Sent) (starts : List Start) (ds : List Desk) → AllZip (DeskShows since) starts ds → map (desk_seen m) ds ≡ map (shown_seen since m) starts
+all_seen : (since : List Sent) (m : Sent) (starts : List Start) (ds : List Desk) → AllZip (DeskShows since) starts ds → map (desk_seen m) ds ≡ map (start_seen since m) starts
 all_seen since m [] [] is = refl
 all_seen since m [] (d ∷ ds) is = elim is [ ]
 all_seen since m (i ∷ starts) [] is = elim is [ ]
 all_seen since m (i ∷ starts) (d ∷ ds) is =
     ap (λ (s : Option Seen). s ∷ map (desk_seen m) ds) (seen_same since i m d is.0)
-    ∙ ap (λ (t : List (Option Seen)). shown_seen since m i ∷ t) (all_seen since m starts ds is.1)
+    ∙ ap (λ (t : List (Option Seen)). start_seen since m i ∷ t) (all_seen since m starts ds is.1)
 
-text_same : (since : List Sent) (m : Sent) (starts : List Start) (ds : List Desk) → AllZip (DeskShows since) starts ds → desks_text m ds ≡ shown_at starts since m
+text_same : (since : List Sent) (m : Sent) (starts : List Start) (ds : List Desk) → AllZip (DeskShows since) starts ds → desks_text m ds ≡ shown_lines_at starts since m
 text_same since m starts ds is = ap (lines_of m) (all_seen since m starts ds is)
 
 pass_shows : (ms since : List Sent) (starts : List Start) (ds : List Desk) → AllZip (DeskShows since) starts ds → AllZip (DeskShows (since ++ ms)) starts (passed_desks ms ds)
@@ -101,15 +102,15 @@ pass_shows [] since starts ds is = subst (λ (s : List Sent). AllZip (DeskShows 
 pass_shows (m ∷ ms) since starts ds is =
     subst (λ (s : List Sent). AllZip (DeskShows s) starts (passed_desks ms (desks_after m ds))) (append_assoc since (m ∷ []) ms) (pass_shows ms (since ++ m ∷ []) starts (desks_after m ds) (all_show since m starts ds is))
 
-pass_text : (ms since : List Sent) (starts : List Start) (ds : List Desk) → AllZip (DeskShows since) starts ds → passed_text ms ds ≡ shown_from starts since ms
+pass_text : (ms since : List Sent) (starts : List Start) (ds : List Desk) → AllZip (DeskShows since) starts ds → passed_text ms ds ≡ shown_lines_from starts since ms
 pass_text [] since starts ds is = refl
 pass_text (m ∷ ms) since starts ds is =
     ap (λ (t : List ℕ). t ++ passed_text ms (desks_after m ds)) (text_same since m starts ds is)
-    ∙ ap (λ (t : List ℕ). shown_at starts since m ++ t) (pass_text ms (since ++ m ∷ []) starts (desks_after m ds) (all_show since m starts ds is))
+    ∙ ap (λ (t : List ℕ). shown_lines_at starts since m ++ t) (pass_text ms (since ++ m ∷ []) starts (desks_after m ds) (all_show since m starts ds is))
 
 -- ---- the listed securities stay
 
-after_listed : (m : Sent) (d : Desk) (b : Bool) → (cond b (heard m d) d).instrument ≡ d.instrument
+after_listed : (m : Sent) (d : Desk) (b : Bool) → (cond b (desk_with_message m d) d).instrument ≡ d.instrument
 after_listed m d true = refl
 after_listed m d false = refl
 
@@ -138,7 +139,7 @@ listed_rebased (base ∷ bases) (d ∷ ds) =
 abbrev all_based : List SnapshotContent → List (Option SnapshotContent)
 all_based snapshots = map (λ (s : SnapshotContent). Some s) snapshots
 
-jump_shows : (snapshots : List SnapshotContent) (ds : List Desk) → length snapshots ≡ length ds → AllZip (DeskShows []) (started (listed_in ds) snapshots) (rebased_desks (all_based snapshots) ds)
+jump_shows : (snapshots : List SnapshotContent) (ds : List Desk) → length snapshots ≡ length ds → AllZip (DeskShows []) (starts_at_jump (listed_in ds) snapshots) (rebased_desks (all_based snapshots) ds)
 jump_shows [] [] long = tt
 jump_shows (s ∷ snapshots) [] long = absurd cc
 jump_shows [] (d ∷ ds) long = absurd cc
@@ -146,33 +147,33 @@ jump_shows (s ∷ snapshots) (d ∷ ds) long = (record { instrument = refl; base
 
 -- ---- move by move
 
-pub shown-push : (listed : List Instrument) (moves : List Move) (move : Move) → shown listed (moves ++ move ∷ []) ≡ shown_through listed (shown listed moves) move
-shown-push listed moves move = fold_push (shown_through listed) (shown listed []) moves move
+pub standing_after-push : (listed : List Instrument) (moves : List Move) (move : Move) → standing_after listed (moves ++ move ∷ []) ≡ standing_through listed (standing_after listed moves) move
+standing_after-push listed moves move = fold_push (standing_through listed) (standing_after listed []) moves move
 
-shown_after-push : (listed : List Instrument) (before moves : List Move) (move : Move) → shown_after listed before (moves ++ move ∷ []) ≡ shown_after listed before moves ++ showed listed (before ++ moves) move
-shown_after-push listed before [] move = append-nil (showed listed before move) ∙ ap (λ (b : List Move). showed listed b move) (sym (append-nil before))
-shown_after-push listed before (x ∷ moves) move =
-    ap (λ (t : List ℕ). showed listed before x ++ t) (shown_after-push listed (before ++ x ∷ []) moves move)
-    ∙ sym (append_assoc (showed listed before x) (shown_after listed (before ++ x ∷ []) moves) (showed listed ((before ++ x ∷ []) ++ moves) move))
-    ∙ ap (λ (b : List Move). (showed listed before x ++ shown_after listed (before ++ x ∷ []) moves) ++ showed listed b move) (append_assoc before (x ∷ []) moves)
+shown_lines_after-push : (listed : List Instrument) (before moves : List Move) (move : Move) → shown_lines_after listed before (moves ++ move ∷ []) ≡ shown_lines_after listed before moves ++ shown_lines_of_move listed (before ++ moves) move
+shown_lines_after-push listed before [] move = append-nil (shown_lines_of_move listed before move) ∙ ap (λ (b : List Move). shown_lines_of_move listed b move) (sym (append-nil before))
+shown_lines_after-push listed before (x ∷ moves) move =
+    ap (λ (t : List ℕ). shown_lines_of_move listed before x ++ t) (shown_lines_after-push listed (before ++ x ∷ []) moves move)
+    ∙ sym (append_assoc (shown_lines_of_move listed before x) (shown_lines_after listed (before ++ x ∷ []) moves) (shown_lines_of_move listed ((before ++ x ∷ []) ++ moves) move))
+    ∙ ap (λ (b : List Move). (shown_lines_of_move listed before x ++ shown_lines_after listed (before ++ x ∷ []) moves) ++ shown_lines_of_move listed b move) (append_assoc before (x ∷ []) moves)
 
 -- the text of moves begins the text of more moves
-pub shown_lines-push : (listed : List Instrument) (moves : List Move) (move : Move) → shown_lines listed (moves ++ move ∷ []) ≡ shown_lines listed moves ++ showed listed moves move
-shown_lines-push listed moves move = shown_after-push listed [] moves move
+pub shown_lines-push : (listed : List Instrument) (moves : List Move) (move : Move) → shown_lines listed (moves ++ move ∷ []) ≡ shown_lines listed moves ++ shown_lines_of_move listed moves move
+shown_lines-push listed moves move = shown_lines_after-push listed [] moves move
 
-text_grows : (listed : List Instrument) (moves : List Move) (move : Move) (text more after : List ℕ) → text ≡ shown_lines listed moves → after ≡ text ++ more → more ≡ showed listed moves move → after ≡ shown_lines listed (moves ++ move ∷ [])
+text_grows : (listed : List Instrument) (moves : List Move) (move : Move) (text more after : List ℕ) → text ≡ shown_lines listed moves → after ≡ text ++ more → more ≡ shown_lines_of_move listed moves move → after ≡ shown_lines listed (moves ++ move ∷ [])
 text_grows listed moves move text more after so_far grown says =
     grown ∙ ap (λ (t : List ℕ). t ++ more) so_far ∙ ap (λ (t : List ℕ). shown_lines listed moves ++ t) says ∙ sym (shown_lines-push listed moves move)
 
 -- a packet passes
 pub shows_passed : (listed : List Instrument) (moves : List Move) (packet : PacketContent) (old new : List Desk) (text after : List ℕ) → new ≡ passed_desks (sent_in packet) old → after ≡ text ++ passed_text (sent_in packet) old → Shows listed moves old text → Shows listed (moves ++ passed packet ∷ []) new after
 shows_passed listed moves packet old new text after desks grown so_far =
-    let sh = shown listed moves in
+    let sh = standing_after listed moves in
     let stands = pass_shows (sent_in packet) sh.since sh.starts old so_far.each in
     record {
       listed_are = ap listed_in desks ∙ listed_passed (sent_in packet) old ∙ so_far.listed_are;
       each =
-          subst (λ (s : Shown). AllZip (DeskShows s.since) s.starts new) (sym (shown-push listed moves (passed packet)))
+          subst (λ (s : Standing). AllZip (DeskShows s.since) s.starts new) (sym (standing_after-push listed moves (passed packet)))
           (subst (λ (ds : List Desk). AllZip (DeskShows (sh.since ++ sent_in packet)) sh.starts ds) (sym desks) stands);
       text_is = text_grows listed moves (passed packet) text (passed_text (sent_in packet) old) after so_far.text_is grown (pass_text (sent_in packet) sh.since sh.starts old so_far.each);
     }
@@ -182,12 +183,12 @@ pub shows_jumped : (listed : List Instrument) (moves : List Move) (from to : ℕ
 shows_jumped listed moves from to snapshots old new text after long desks grown so_far =
     let based = rebased_desks (all_based snapshots) old in
     let each_has : length snapshots ≡ length old = long ∙ ap length (sym so_far.listed_are) ∙ length-map old (λ (d : Desk). d.instrument) in
-    let stands : AllZip (DeskShows []) (started listed snapshots) based = subst (λ (is : List Instrument). AllZip (DeskShows []) (started is snapshots) based) so_far.listed_are (jump_shows snapshots old each_has) in
+    let stands : AllZip (DeskShows []) (starts_at_jump listed snapshots) based = subst (λ (is : List Instrument). AllZip (DeskShows []) (starts_at_jump is snapshots) based) so_far.listed_are (jump_shows snapshots old each_has) in
     record {
       listed_are = ap listed_in desks ∙ listed_rebased (all_based snapshots) old ∙ so_far.listed_are;
       each =
-          subst (λ (s : Shown). AllZip (DeskShows s.since) s.starts new) (sym (shown-push listed moves (jumped from to snapshots)))
-          (subst (λ (ds : List Desk). AllZip (DeskShows []) (started listed snapshots) ds) (sym desks) stands);
+          subst (λ (s : Standing). AllZip (DeskShows s.since) s.starts new) (sym (standing_after-push listed moves (jumped from to snapshots)))
+          (subst (λ (ds : List Desk). AllZip (DeskShows []) (starts_at_jump listed snapshots) ds) (sym desks) stands);
       text_is = text_grows listed moves (jumped from to snapshots) text (jump_line from to) after so_far.text_is grown refl;
     }
 
@@ -196,9 +197,9 @@ start_listed : (listed : List Instrument) → listed_in (map desk_at_start liste
 start_listed [] = refl
 start_listed (i ∷ is) = ap (λ (t : List Instrument). i ∷ t) (start_listed is)
 
-start_shows : (listed : List Instrument) → AllZip (DeskShows []) (opening listed) (map desk_at_start listed)
+start_shows : (listed : List Instrument) → AllZip (DeskShows []) (starts_before_jump listed) (map desk_at_start listed)
 start_shows [] = tt
 start_shows (i ∷ is) = (record { instrument = refl; base = refl; book = refl; marked = refl }, start_shows is)
 
 pub shows_nothing : (listed : List Instrument) (desks : List Desk) → desks ≡ map desk_at_start listed → Shows listed [] desks []
-shows_nothing listed desks are = record { listed_are = ap listed_in are ∙ start_listed listed; each = subst (λ (ds : List Desk). AllZip (DeskShows []) (opening listed) ds) (sym are) (start_shows listed); text_is = refl }
+shows_nothing listed desks are = record { listed_are = ap listed_in are ∙ start_listed listed; each = subst (λ (ds : List Desk). AllZip (DeskShows []) (starts_before_jump listed) ds) (sym are) (start_shows listed); text_is = refl }

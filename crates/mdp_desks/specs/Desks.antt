@@ -35,14 +35,14 @@ abbrev pub desk_standing : ℕ → Desk → Option Seen
 desk_standing packet d = if nat_lt d.base packet then Some (record { instrument = d.instrument; printed = d.marked; book = d.book }) else None
 
 -- a whole message
-abbrev pub heard : Sent → Desk → Desk
-heard m d = record { instrument = d.instrument; base = d.base; book = book_after d.instrument.id d.book m; marked = not m.end && (d.marked || is_named_in d.instrument.id m) }
+abbrev pub desk_with_message : Sent → Desk → Desk
+desk_with_message m d = record { instrument = d.instrument; base = d.base; book = book_after d.instrument d.book m; marked = not m.end && (d.marked || is_named_in d.instrument.id m) }
 
 abbrev pub desk_after : Sent → Desk → Desk
-desk_after m d = if nat_lt d.base m.packet then heard m d else d
+desk_after m d = if nat_lt d.base m.packet then desk_with_message m d else d
 
 abbrev pub desk_seen : Sent → Desk → Option Seen
-desk_seen m d = if m.end && nat_lt d.base m.packet then Some (record { instrument = d.instrument; printed = d.marked || is_named_in d.instrument.id m; book = book_after d.instrument.id d.book m }) else None
+desk_seen m d = if m.end && nat_lt d.base m.packet then Some (record { instrument = d.instrument; printed = d.marked || is_named_in d.instrument.id m; book = book_after d.instrument d.book m }) else None
 
 abbrev pub desks_after : Sent → List Desk → List Desk
 desks_after m ds = map (desk_after m) ds

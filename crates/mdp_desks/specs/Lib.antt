@@ -1,4 +1,5 @@
 pub mod Lines
+pub mod Due
 pub mod Shown
 pub mod Desks
 pub mod Beside

@@ -6,7 +6,7 @@ use Rattle.mdp_print.specs.Texts.{jump_line}
 use Rattle.mdp_arbiter.specs.Machine.{Move}
 use Rattle.mdp_arbiter.specs.Machine.Move.{passed, jumped}
 use Rattle.mdp_desks.specs.Lines.{Seen, lines_as}
-use Rattle.mdp_desks.specs.Shown.{Start, shown, shown_seen}
+use Rattle.mdp_desks.specs.Shown.{Start, standing_after, start_seen}
 
 -- message `message` of packet `packet` ends an event; or recovery jumps from one number to a later one
 pub data Moment : Type 0 where
@@ -19,7 +19,7 @@ moment_text (ended packet message seen) = lines_as packet message seen
 moment_text (leapt old new) = jump_line old new
 
 abbrev pub moment_at : List Start → List Sent → Sent → List Moment
-moment_at starts since m = if m.end then ended m.packet m.message (map (shown_seen since m) starts) ∷ [] else []
+moment_at starts since m = if m.end then ended m.packet m.message (map (start_seen since m) starts) ∷ [] else []
 
 -- at each message in turn
 abbrev pub moments_from : List Start → List Sent → List Sent → List Moment
@@ -28,7 +28,7 @@ moments_from starts since (m ∷ ms) = moment_at starts since m ++ moments_from 
 
 -- those of a move that comes after these ones
 abbrev pub moments_of : List Instrument → List Move → Move → List Moment
-moments_of listed before (passed packet) = moments_from (shown listed before).starts (shown listed before).since (sent_in packet)
+moments_of listed before (passed packet) = moments_from (standing_after listed before).starts (standing_after listed before).since (sent_in packet)
 moments_of listed before (jumped old new snapshots) = leapt old new ∷ []
 
 abbrev pub moments_after : List Instrument → List Move → List Move → List Moment

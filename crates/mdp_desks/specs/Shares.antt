@@ -5,9 +5,9 @@ use Rattle.mdp_arbiter.specs.Machine.Move.{passed, jumped}
 use Rattle.mdp_desks.specs.Moments.{Moment, ended, leapt}
 
 -- what stands at the slots that are one's own, of a list that begins at this slot
-abbrev pub own : {X : Type 0} → (ℕ → Bool) → ℕ → List X → List X
-own mine slot [] = []
-own mine slot (x ∷ xs) = if mine slot then x ∷ own mine (slot + 1) xs else own mine (slot + 1) xs
+abbrev pub own_part : {X : Type 0} → (ℕ → Bool) → ℕ → List X → List X
+own_part mine slot [] = []
+own_part mine slot (x ∷ xs) = if mine slot then x ∷ own_part mine (slot + 1) xs else own_part mine (slot + 1) xs
 
 -- one's own slots
 abbrev pub own_slots : {X : Type 0} → (ℕ → Bool) → ℕ → List X → List ℕ
@@ -21,12 +21,12 @@ is_kept_by n w slot = slot % n == w
 -- a move with its own securities' snapshots alone
 abbrev pub own_move : (ℕ → Bool) → Move → Move
 own_move mine (passed packet) = passed packet
-own_move mine (jumped old new snapshots) = jumped old new (own mine 0 snapshots)
+own_move mine (jumped old new snapshots) = jumped old new (own_part mine 0 snapshots)
 
 abbrev pub own_moves : (ℕ → Bool) → List Move → List Move
 own_moves mine moves = map (own_move mine) moves
 
 -- a moment of its own securities alone
 abbrev pub own_moment : (ℕ → Bool) → Moment → Moment
-own_moment mine (ended packet message seen) = ended packet message (own mine 0 seen)
+own_moment mine (ended packet message seen) = ended packet message (own_part mine 0 seen)
 own_moment mine (leapt old new) = leapt old new

@@ -5,17 +5,18 @@ use Rattle.mdp_templates.specs.declared.instrument.Instrument.{Instrument}
 use Rattle.mdp_books.specs.Feed.{Sent, behind}
 use Rattle.mdp_desks.specs.declared.desk.Desk.{Desk}
 use Rattle.mdp_arbiter.specs.Machine.{Move}
-use Rattle.mdp_desks.specs.Shown.{Start, shown, shown_lines, book_since, is_due}
+use Rattle.mdp_desks.specs.Shown.{Start, standing_after, shown_lines, book_since}
+use Rattle.mdp_desks.specs.Due.{is_due}
 
 -- a desk stands where the moves show it
 pub record DeskShows (since : List Sent) (i : Start) (desk : Desk) : Type 0 where
   pub instrument : desk.instrument ≡ i.instrument
   pub base : desk.base ≡ i.base
   pub book : desk.book ≡ book_since i since
-  pub marked : desk.marked ≡ is_due i (behind i.base since)
+  pub marked : desk.marked ≡ is_due i.instrument.id i.jumped (behind i.base since)
 
 -- the desks after these moves, and their text
 pub record Shows (listed : List Instrument) (moves : List Move) (desks : List Desk) (text : List ℕ) : Type 0 where
   pub listed_are : map (λ (d : Desk). d.instrument) desks ≡ listed
-  pub each : AllZip (DeskShows (shown listed moves).since) (shown listed moves).starts desks
+  pub each : AllZip (DeskShows (standing_after listed moves).since) (standing_after listed moves).starts desks
   pub text_is : text ≡ shown_lines listed moves

@@ -1,6 +1,6 @@
 -- The moves show what the complete feed owes.
-use Rattle.std.proofs.Common.{Bool, ◌≡◌, ◌≤◌, ℕ, suc, zero, ◌+◌, ◌-◌, true, false, cond, List, [], ◌∷◌, ◌++◌, map, take, drop, refl, sym, ap, subst, ◌∙◌, arith}
-use Rattle.std.specs.Prelude.{Option, Some, None, ◌&&◌, nat_lt, slice_get, fold}
+use Rattle.std.proofs.Common.{Bool, ◌≡◌, ◌≤◌, ℕ, suc, zero, ◌+◌, ◌-◌, true, cond, List, [], ◌∷◌, ◌++◌, map, take, drop, refl, sym, ap, subst, ◌∙◌, arith}
+use Rattle.std.specs.Prelude.{Option, Some, None, ◌&&◌, nat_lt, slice_get}
 use Rattle.std.specs.List.{AllZip, AllByRecursion}
 use Rattle.std.proofs.lemmas.List.{append-nil, map-append}
 use Rattle.std.proofs.lemmas.List.Sums.{fold_push}
@@ -10,52 +10,29 @@ use Rattle.mdp_templates.specs.Packet.{PacketContent}
 use Rattle.mdp_templates.specs.Snapshot.{SnapshotContent}
 use Rattle.mdp_templates.specs.declared.instrument.Instrument.{Instrument}
 use Rattle.mdp_books.specs.declared.book.Book.{Book}
-use Rattle.mdp_books.specs.Feed.{Sent, sent_in, sent, behind, book_from, book_at}
+use Rattle.mdp_books.specs.Feed.{Sent, sent_in, sent_by, behind, book_from, book_at}
 use Rattle.mdp_books.proofs.Feeds.{behind-append}
 use Rattle.mdp_print.specs.Texts.{jump_line}
 use Rattle.mdp_engine.specs.Feed.{IsFeed, IsIn, IsJumpedTo}
 use Rattle.mdp_desks.specs.Lines.{Seen, lines_of}
-use Rattle.mdp_engine.specs.Owed.{Step, Footing, footed, at_start, footings_through, footings, lines_from, owed, lines_after}
-use Rattle.mdp_engine.specs.Owed.Step.{pass, jump}
+use Rattle.mdp_engine.specs.Owed.{Step, Footing, footings_at_jump, footings_before_jump, footings_through, footings, lines_from, lines_of_step, lines_after}
+use Rattle.mdp_engine.specs.Owed.Step.{pass}
 use Rattle.mdp_arbiter.specs.Machine.{Move}
-use Rattle.mdp_desks.specs.Shown.{Start, Shown, started, shown, shown_through, is_shown, shown_seen, shown_at, shown_from, showed, shown_after, opening}
+use Rattle.mdp_desks.specs.Shown.{Start, Standing, starts_at_jump, standing_after, standing_through, start_seen, shown_lines_at, shown_lines_from, shown_lines_of_move, shown_lines_after, starts_before_jump}
+use Rattle.mdp_desks.specs.Due.{is_printed}
 use Rattle.mdp_engine.specs.Owed.{step_of, steps_of}
 use Rattle.mdp_arbiter.specs.Machine.Move.{passed, jumped}
 use Rattle.mdp_engine.specs.Agreed.{start_of, AreOf, ShowsWhatIsOwed}
-use Rattle.mdp_desks.proofs.Showing.{shown-push}
-use Rattle.mdp_engine.proofs.Fronts.{Heard, sent-split, behind-front, lines_shown}
+use Rattle.mdp_desks.proofs.Showing.{standing_after-push}
+use Rattle.mdp_engine.proofs.Fronts.{Heard, sent_by-split, behind-front, lines_shown}
 
--- ---- what the steps bear
+-- ---- what the listed securities hear
 
--- before the first jump a base is 0
-abbrev pub Opening : Footing → Type 0
-Opening i = i.jumped ≡ false → i.base ≡ 0
-
-opening_start : (listed : List Instrument) → AllByRecursion Opening (at_start listed)
-opening_start [] = tt
-opening_start (i ∷ is) = (λ still. refl, opening_start is)
-
-opening_footed : (listed : List Instrument) (bases : List ℕ) → AllByRecursion Opening (footed listed bases)
-opening_footed [] bases = tt
-opening_footed (i ∷ is) [] = tt
-opening_footed (i ∷ is) (base ∷ bases) = (λ still. absurd cc, opening_footed is bases)
-
-opening_from : (listed : List Instrument) (fs : List Footing) (steps : List Step) → AllByRecursion Opening fs → AllByRecursion Opening (fold (footings_through listed) fs steps)
-opening_from listed fs [] is = is
-opening_from listed fs (pass k ∷ steps) is = opening_from listed fs steps is
-opening_from listed fs (jump old new bases ∷ steps) is = opening_from listed (footed listed bases) steps (opening_footed listed bases)
-
-pub all_opening : (listed : List Instrument) (steps : List Step) → AllByRecursion Opening (footings listed steps)
-all_opening listed steps = opening_from listed (at_start listed) steps (opening_start listed)
-
-pub all_heard : (feed : List PacketContent) (next : ℕ) (fs : List Footing) → 1 ≤ next → IsFeed feed → AllByRecursion Opening fs → AllByRecursion (Heard feed next (sent (take (next - 1) feed))) fs
-all_heard feed next [] first is opening = tt
-all_heard feed next (i ∷ fs) first is opening =
-    let here : Heard feed next (sent (take (next - 1) feed)) i = record {
-      opening = opening.0;
-      parts = λ over. let less : suc i.base ≤ next = grind (arith, nat_tests, over) in sent-split feed i.base (next - 1) is (omega arith);
-    } in
-    (here, all_heard feed next fs first is opening.1)
+pub all_heard : (feed : List PacketContent) (next : ℕ) (fs : List Footing) → 1 ≤ next → IsFeed feed → AllByRecursion (Heard feed next (sent_by (take (next - 1) feed))) fs
+all_heard feed next [] first is = tt
+all_heard feed next (i ∷ fs) first is =
+    let here : Heard feed next (sent_by (take (next - 1) feed)) i = λ over. let less : suc i.base ≤ next = grind (arith, nat_tests, over) in sent_by-split feed i.base (next - 1) is (omega arith) in
+    (here, all_heard feed next fs first is)
 
 -- ---- the feed's next packet
 
@@ -69,13 +46,13 @@ one_at [] n p place = absurd cc
 one_at (x ∷ feed) zero p place = let same : x ≡ p = cc in ap (λ (w : PacketContent). w ∷ []) same
 one_at (x ∷ feed) (suc n) p place = one_at feed n p place
 
-pub front_more : (feed : List PacketContent) (p : PacketContent) → IsIn feed p → sent (take (p.number + 1 - 1) feed) ≡ sent (take (p.number - 1) feed) ++ sent_in p
+pub front_more : (feed : List PacketContent) (p : PacketContent) → IsIn feed p → sent_by (take (p.number + 1 - 1) feed) ≡ sent_by (take (p.number - 1) feed) ++ sent_in p
 front_more feed p at =
     let n : p.number + 1 - 1 ≡ suc (p.number - 1) = omega (arith, at.first) in
-    ap (λ (k : ℕ). sent (take k feed)) n
-    ∙ ap sent (take_at feed (p.number - 1) p at.place)
+    ap (λ (k : ℕ). sent_by (take k feed)) n
+    ∙ ap sent_by (take_at feed (p.number - 1) p at.place)
     ∙ flat_map-append sent_in (take (p.number - 1) feed) (p ∷ [])
-    ∙ ap (λ (t : List Sent). sent (take (p.number - 1) feed) ++ t) (append-nil (sent_in p))
+    ∙ ap (λ (t : List Sent). sent_by (take (p.number - 1) feed) ++ t) (append-nil (sent_in p))
 
 -- ---- securities that hear the same of two lists of messages print the same
 
@@ -88,59 +65,58 @@ seen_as instrument printed book = Some (record { instrument = instrument; printe
 heard_more : (a b more : List Sent) (i : Start) → SameHeard a b i → SameHeard (a ++ more) (b ++ more) i
 heard_more a b more i same = behind-append i.base a more ∙ ap (λ (t : List Sent). t ++ behind i.base more) same ∙ sym (behind-append i.base b more)
 
-same_seen : (a b : List Sent) (m : Sent) (i : Start) → SameHeard a b i → shown_seen a m i ≡ shown_seen b m i
+same_seen : (a b : List Sent) (m : Sent) (i : Start) → SameHeard a b i → start_seen a m i ≡ start_seen b m i
 same_seen a b m i same =
-    let id = i.instrument.id in
-    ap (λ (h : List Sent). cond (m.end && nat_lt i.base m.packet) (seen_as i.instrument (is_shown i h m) (book_from id i.book (behind i.base (a ++ m ∷ [])))) None) same
-    ∙ ap (λ (h : List Sent). cond (m.end && nat_lt i.base m.packet) (seen_as i.instrument (is_shown i (behind i.base b) m) (book_from id i.book h)) None) (heard_more a b (m ∷ []) i same)
+    ap (λ (h : List Sent). cond (m.end && nat_lt i.base m.packet) (seen_as i.instrument (is_printed i.instrument.id i.jumped h m) (book_from i.instrument i.book (behind i.base (a ++ m ∷ [])))) None) same
+    ∙ ap (λ (h : List Sent). cond (m.end && nat_lt i.base m.packet) (seen_as i.instrument (is_printed i.instrument.id i.jumped (behind i.base b) m) (book_from i.instrument i.book h)) None) (heard_more a b (m ∷ []) i same)
 
-all_same : (a b : List Sent) (m : Sent) (starts : List Start) → AllByRecursion (SameHeard a b) starts → map (shown_seen a m) starts ≡ map (shown_seen b m) starts
+all_same : (a b : List Sent) (m : Sent) (starts : List Start) → AllByRecursion (SameHeard a b) starts → map (start_seen a m) starts ≡ map (start_seen b m) starts
 all_same a b m [] is = refl
 all_same a b m (i ∷ starts) is =
-    ap (λ (s : Option Seen). s ∷ map (shown_seen a m) starts) (same_seen a b m i is.0)
-    ∙ ap (λ (t : List (Option Seen)). shown_seen b m i ∷ t) (all_same a b m starts is.1)
+    ap (λ (s : Option Seen). s ∷ map (start_seen a m) starts) (same_seen a b m i is.0)
+    ∙ ap (λ (t : List (Option Seen)). start_seen b m i ∷ t) (all_same a b m starts is.1)
 
-same_at : (a b : List Sent) (m : Sent) (starts : List Start) → AllByRecursion (SameHeard a b) starts → shown_at starts a m ≡ shown_at starts b m
+same_at : (a b : List Sent) (m : Sent) (starts : List Start) → AllByRecursion (SameHeard a b) starts → shown_lines_at starts a m ≡ shown_lines_at starts b m
 same_at a b m starts is = ap (lines_of m) (all_same a b m starts is)
 
 same_more : (a b more : List Sent) (starts : List Start) → AllByRecursion (SameHeard a b) starts → AllByRecursion (SameHeard (a ++ more) (b ++ more)) starts
 same_more a b more [] is = tt
 same_more a b more (i ∷ starts) is = (heard_more a b more i is.0, same_more a b more starts is.1)
 
-same_from : (ms a b : List Sent) (starts : List Start) → AllByRecursion (SameHeard a b) starts → shown_from starts a ms ≡ shown_from starts b ms
+same_from : (ms a b : List Sent) (starts : List Start) → AllByRecursion (SameHeard a b) starts → shown_lines_from starts a ms ≡ shown_lines_from starts b ms
 same_from [] a b starts is = refl
 same_from (m ∷ ms) a b starts is =
-    ap (λ (t : List ℕ). t ++ shown_from starts (a ++ m ∷ []) ms) (same_at a b m starts is)
-    ∙ ap (λ (t : List ℕ). shown_at starts b m ++ t) (same_from ms (a ++ m ∷ []) (b ++ m ∷ []) starts (same_more a b (m ∷ []) starts is))
+    ap (λ (t : List ℕ). t ++ shown_lines_from starts (a ++ m ∷ []) ms) (same_at a b m starts is)
+    ∙ ap (λ (t : List ℕ). shown_lines_at starts b m ++ t) (same_from ms (a ++ m ∷ []) (b ++ m ∷ []) starts (same_more a b (m ∷ []) starts is))
 
 -- ---- what the moves show, and the front of the feed below `next`
 
-pub record Agrees (feed : List PacketContent) (next : ℕ) (fs : List Footing) (sh : Shown) : Type 0 where
+pub record Agrees (feed : List PacketContent) (next : ℕ) (fs : List Footing) (sh : Standing) : Type 0 where
   pub starts : sh.starts ≡ map (start_of feed) fs
-  pub same : AllByRecursion (SameHeard sh.since (sent (take (next - 1) feed))) sh.starts
+  pub same : AllByRecursion (SameHeard sh.since (sent_by (take (next - 1) feed))) sh.starts
 
 abbrev AllJumped : List PacketContent → ℕ → List Instrument → List SnapshotContent → Type 0
-AllJumped feed to listed snapshots = AllZip (λ (i : Instrument) (s : SnapshotContent). IsJumpedTo feed to i.id s) listed snapshots
+AllJumped feed to listed snapshots = AllZip (λ (i : Instrument) (s : SnapshotContent). IsJumpedTo feed to i s) listed snapshots
 
 abbrev lasts : List SnapshotContent → List ℕ
 lasts snapshots = map (λ (s : SnapshotContent). s.last) snapshots
 
-jump_starts : (feed : List PacketContent) (to : ℕ) (listed : List Instrument) (snapshots : List SnapshotContent) → AllJumped feed to listed snapshots → started listed snapshots ≡ map (start_of feed) (footed listed (lasts snapshots))
+jump_starts : (feed : List PacketContent) (to : ℕ) (listed : List Instrument) (snapshots : List SnapshotContent) → AllJumped feed to listed snapshots → starts_at_jump listed snapshots ≡ map (start_of feed) (footings_at_jump listed (lasts snapshots))
 jump_starts feed to [] [] is = refl
 jump_starts feed to [] (s ∷ snapshots) is = elim is [ ]
 jump_starts feed to (i ∷ listed) [] is = elim is [ ]
 jump_starts feed to (i ∷ listed) (s ∷ snapshots) is =
     let make : Book → Start = λ book. record { instrument = i; base = s.last; jumped = true; book = book } in
-    ap (λ (book : Book). make book ∷ started listed snapshots) is.0.is.book
-    ∙ ap (λ (t : List Start). make (book_at i.id (sent (take s.last feed))) ∷ t) (jump_starts feed to listed snapshots is.1)
+    ap (λ (book : Book). make book ∷ starts_at_jump listed snapshots) is.0.is.book
+    ∙ ap (λ (t : List Start). make (book_at i (sent_by (take s.last feed))) ∷ t) (jump_starts feed to listed snapshots is.1)
 
-jump_same : (feed : List PacketContent) (to : ℕ) (listed : List Instrument) (snapshots : List SnapshotContent) → IsFeed feed → AllJumped feed to listed snapshots → AllByRecursion (SameHeard [] (sent (take (to - 1) feed))) (started listed snapshots)
+jump_same : (feed : List PacketContent) (to : ℕ) (listed : List Instrument) (snapshots : List SnapshotContent) → IsFeed feed → AllJumped feed to listed snapshots → AllByRecursion (SameHeard [] (sent_by (take (to - 1) feed))) (starts_at_jump listed snapshots)
 jump_same feed to [] [] fed is = tt
 jump_same feed to [] (s ∷ snapshots) fed is = elim is [ ]
 jump_same feed to (i ∷ listed) [] fed is = elim is [ ]
 jump_same feed to (i ∷ listed) (s ∷ snapshots) fed is = (sym (behind-front feed s.last (to - 1) fed (omega (arith, is.0.covers))), jump_same feed to listed snapshots fed is.1)
 
-pub start_starts : (feed : List PacketContent) (listed : List Instrument) → opening listed ≡ map (start_of feed) (at_start listed)
+pub start_starts : (feed : List PacketContent) (listed : List Instrument) → starts_before_jump listed ≡ map (start_of feed) (footings_before_jump listed)
 start_starts feed [] = refl
 start_starts feed (i ∷ listed) = let others = start_starts feed listed in cc others
 
@@ -152,48 +128,48 @@ pub steps_of-push : (moves : List Move) (move : Move) → steps_of (moves ++ mov
 steps_of-push moves move = map-append step_of moves (move ∷ [])
 
 footings-push : (listed : List Instrument) (moves : List Move) (move : Move) → footings listed (steps_of (moves ++ move ∷ [])) ≡ footings_through listed (footings listed (steps_of moves)) (step_of move)
-footings-push listed moves move = ap (footings listed) (steps_of-push moves move) ∙ fold_push (footings_through listed) (at_start listed) (steps_of moves) (step_of move)
+footings-push listed moves move = ap (footings listed) (steps_of-push moves move) ∙ fold_push (footings_through listed) (footings_before_jump listed) (steps_of moves) (step_of move)
 
-pass_owed : (listed : List Instrument) (feed : List PacketContent) (before : List Move) (p : PacketContent) → IsFeed feed → IsIn feed p → Agrees feed p.number (footings listed (steps_of before)) (shown listed before) → showed listed before (passed p) ≡ owed listed feed (steps_of before) (pass p.number)
+pass_owed : (listed : List Instrument) (feed : List PacketContent) (before : List Move) (p : PacketContent) → IsFeed feed → IsIn feed p → Agrees feed p.number (footings listed (steps_of before)) (standing_after listed before) → shown_lines_of_move listed before (passed p) ≡ lines_of_step listed feed (steps_of before) (pass p.number)
 pass_owed listed feed before p fed at agrees =
     let k = p.number in
     let fs = footings listed (steps_of before) in
-    let front = sent (take (k - 1) feed) in
-    let here : sent (take 1 (drop (k - 1) feed)) ≡ sent_in p = ap sent (one_at feed (k - 1) p at.place) ∙ append-nil (sent_in p) in
-    same_from (sent_in p) (shown listed before).since front (shown listed before).starts agrees.same
-    ∙ ap (λ (starts : List Start). shown_from starts front (sent_in p)) agrees.starts
-    ∙ sym (lines_shown feed fs k 1 front p.messages (all_heard feed k fs at.first fed (all_opening listed (steps_of before))))
+    let front = sent_by (take (k - 1) feed) in
+    let here : sent_by (take 1 (drop (k - 1) feed)) ≡ sent_in p = ap sent_by (one_at feed (k - 1) p at.place) ∙ append-nil (sent_in p) in
+    same_from (sent_in p) (standing_after listed before).since front (standing_after listed before).starts agrees.same
+    ∙ ap (λ (starts : List Start). shown_lines_from starts front (sent_in p)) agrees.starts
+    ∙ sym (lines_shown feed fs k 1 front p.messages (all_heard feed k fs at.first fed))
     ∙ ap (lines_from fs front) (sym here)
 
-pub pass_agrees : (listed : List Instrument) (feed : List PacketContent) (before : List Move) (p : PacketContent) → IsIn feed p → Agrees feed p.number (footings listed (steps_of before)) (shown listed before) → Agrees feed (p.number + 1) (footings listed (steps_of (before ++ passed p ∷ []))) (shown listed (before ++ passed p ∷ []))
+pub pass_agrees : (listed : List Instrument) (feed : List PacketContent) (before : List Move) (p : PacketContent) → IsIn feed p → Agrees feed p.number (footings listed (steps_of before)) (standing_after listed before) → Agrees feed (p.number + 1) (footings listed (steps_of (before ++ passed p ∷ []))) (standing_after listed (before ++ passed p ∷ []))
 pass_agrees listed feed before p at agrees =
-    let sh = shown listed before in
+    let sh = standing_after listed before in
     let fs = footings listed (steps_of before) in
-    let more : AllByRecursion (SameHeard (sh.since ++ sent_in p) (sent (take (p.number + 1 - 1) feed))) sh.starts =
-    subst (λ (b : List Sent). AllByRecursion (SameHeard (sh.since ++ sent_in p) b) sh.starts) (sym (front_more feed p at)) (same_more sh.since (sent (take (p.number - 1) feed)) (sent_in p) sh.starts agrees.same) in
-    let there : Agrees feed (p.number + 1) fs (shown_through listed sh (passed p)) = record { starts = agrees.starts; same = more } in
-    subst (λ (is : List Footing). Agrees feed (p.number + 1) is (shown listed (before ++ passed p ∷ []))) (sym (footings-push listed before (passed p)))
-    (subst (λ (s : Shown). Agrees feed (p.number + 1) fs s) (sym (shown-push listed before (passed p))) there)
+    let more : AllByRecursion (SameHeard (sh.since ++ sent_in p) (sent_by (take (p.number + 1 - 1) feed))) sh.starts =
+    subst (λ (b : List Sent). AllByRecursion (SameHeard (sh.since ++ sent_in p) b) sh.starts) (sym (front_more feed p at)) (same_more sh.since (sent_by (take (p.number - 1) feed)) (sent_in p) sh.starts agrees.same) in
+    let there : Agrees feed (p.number + 1) fs (standing_through listed sh (passed p)) = record { starts = agrees.starts; same = more } in
+    subst (λ (is : List Footing). Agrees feed (p.number + 1) is (standing_after listed (before ++ passed p ∷ []))) (sym (footings-push listed before (passed p)))
+    (subst (λ (s : Standing). Agrees feed (p.number + 1) fs s) (sym (standing_after-push listed before (passed p))) there)
 
-pub jump_agrees : (listed : List Instrument) (feed : List PacketContent) (before : List Move) (from to : ℕ) (snapshots : List SnapshotContent) → IsFeed feed → AllJumped feed to listed snapshots → Agrees feed to (footings listed (steps_of (before ++ jumped from to snapshots ∷ []))) (shown listed (before ++ jumped from to snapshots ∷ []))
+pub jump_agrees : (listed : List Instrument) (feed : List PacketContent) (before : List Move) (from to : ℕ) (snapshots : List SnapshotContent) → IsFeed feed → AllJumped feed to listed snapshots → Agrees feed to (footings listed (steps_of (before ++ jumped from to snapshots ∷ []))) (standing_after listed (before ++ jumped from to snapshots ∷ []))
 jump_agrees listed feed before from to snapshots fed is =
     let move = jumped from to snapshots in
-    let there : Agrees feed to (footed listed (lasts snapshots)) (record { starts = started listed snapshots; since = [] }) = record { starts = jump_starts feed to listed snapshots is; same = jump_same feed to listed snapshots fed is } in
-    subst (λ (fs : List Footing). Agrees feed to fs (shown listed (before ++ move ∷ []))) (sym (footings-push listed before move))
-    (subst (λ (s : Shown). Agrees feed to (footed listed (lasts snapshots)) s) (sym (shown-push listed before move)) there)
+    let there : Agrees feed to (footings_at_jump listed (lasts snapshots)) (record { starts = starts_at_jump listed snapshots; since = [] }) = record { starts = jump_starts feed to listed snapshots is; same = jump_same feed to listed snapshots fed is } in
+    subst (λ (fs : List Footing). Agrees feed to fs (standing_after listed (before ++ move ∷ []))) (sym (footings-push listed before move))
+    (subst (λ (s : Standing). Agrees feed to (footings_at_jump listed (lasts snapshots)) s) (sym (standing_after-push listed before move)) there)
 
-owed_after : (listed : List Instrument) (feed : List PacketContent) (next : ℕ) (before moves : List Move) → IsFeed feed → Agrees feed next (footings listed (steps_of before)) (shown listed before) → AreOf listed feed next moves → shown_after listed before moves ≡ lines_after listed feed (steps_of before) (steps_of moves)
+owed_after : (listed : List Instrument) (feed : List PacketContent) (next : ℕ) (before moves : List Move) → IsFeed feed → Agrees feed next (footings listed (steps_of before)) (standing_after listed before) → AreOf listed feed next moves → shown_lines_after listed before moves ≡ lines_after listed feed (steps_of before) (steps_of moves)
 owed_after listed feed next before [] fed agrees are = refl
 owed_after listed feed next before (passed p ∷ moves) fed agrees (number, at, later) =
-    let here : Agrees feed p.number (footings listed (steps_of before)) (shown listed before) = subst (λ (k : ℕ). Agrees feed k (footings listed (steps_of before)) (shown listed before)) (sym number) agrees in
+    let here : Agrees feed p.number (footings listed (steps_of before)) (standing_after listed before) = subst (λ (k : ℕ). Agrees feed k (footings listed (steps_of before)) (standing_after listed before)) (sym number) agrees in
     let rest : AreOf listed feed (p.number + 1) moves = subst (λ (k : ℕ). AreOf listed feed (k + 1) moves) (sym number) later in
-    ap (λ (t : List ℕ). t ++ shown_after listed (before ++ passed p ∷ []) moves) (pass_owed listed feed before p fed at here)
-    ∙ ap (λ (t : List ℕ). owed listed feed (steps_of before) (pass p.number) ++ t) (owed_after listed feed (p.number + 1) (before ++ passed p ∷ []) moves fed (pass_agrees listed feed before p at here) rest)
-    ∙ ap (λ (b : List Step). owed listed feed (steps_of before) (pass p.number) ++ lines_after listed feed b (steps_of moves)) (steps_of-push before (passed p))
+    ap (λ (t : List ℕ). t ++ shown_lines_after listed (before ++ passed p ∷ []) moves) (pass_owed listed feed before p fed at here)
+    ∙ ap (λ (t : List ℕ). lines_of_step listed feed (steps_of before) (pass p.number) ++ t) (owed_after listed feed (p.number + 1) (before ++ passed p ∷ []) moves fed (pass_agrees listed feed before p at here) rest)
+    ∙ ap (λ (b : List Step). lines_of_step listed feed (steps_of before) (pass p.number) ++ lines_after listed feed b (steps_of moves)) (steps_of-push before (passed p))
 owed_after listed feed next before (jumped from to snapshots ∷ moves) fed agrees (is, later) =
     ap (λ (t : List ℕ). jump_line from to ++ t) (owed_after listed feed to (before ++ jumped from to snapshots ∷ []) moves fed (jump_agrees listed feed before from to snapshots fed is) later)
     ∙ ap (λ (b : List Step). jump_line from to ++ lines_after listed feed b (steps_of moves)) (steps_of-push before (jumped from to snapshots))
 
 pub shows_what_is_owed : ShowsWhatIsOwed
 shows_what_is_owed listed feed moves fed are =
-    owed_after listed feed 1 [] moves fed (record { starts = start_starts feed listed; same = start_same (opening listed) }) are
+    owed_after listed feed 1 [] moves fed (record { starts = start_starts feed listed; same = start_same (starts_before_jump listed) }) are

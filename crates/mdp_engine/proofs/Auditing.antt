@@ -6,7 +6,6 @@ use Rattle.std.specs.Option.{option_map, IfSome, IfNone}
 use Rattle.std.specs.Ordering.{int_eq}
 use Rattle.std.proofs.lemmas.Bool.{cases_Bool}
 use Rattle.std.proofs.lemmas.Bool.Decides.{Decides-int_eq}
-use Rattle.mdp_templates.specs.declared.instrument.Instrument.{Instrument}
 use Rattle.mdp_templates.specs.declared.instrument.InstrumentKind.{InstrumentKind}
 use Rattle.mdp_templates.specs.declared.instrument.InstrumentKind.TheVariants.{Outright, Calendar}
 use Rattle.mdp_desks.specs.declared.desk.Desk.{Desk}
@@ -15,7 +14,7 @@ use Rattle.mdp_desks.specs.Beside.{listed_in}
 use Rattle.mdp_engine.specs.Spreads.{slot_in, spread_at, spread_in, spreads_from, with_spread, IsUnder}
 use Rattle.mdp_desks.specs.Lines.{Seen, seen_of, spread_text, legs_text, audit_text}
 use Rattle.mdp_desks.specs.Desks.{desk_standing}
-use Rattle.mdp_engine.specs.Spreads.{shown_there, spread_line}
+use Rattle.mdp_engine.specs.Spreads.{seen_there, spread_line}
 use Rattle.mdp_desks.proofs.Hearing.{ids_in, differ_tail, other_than, slot_under}
 
 -- ---- the place of a security
@@ -103,7 +102,7 @@ unseen k id (d ∷ ds) none =
     passed_over k id d (map (desk_standing k) ds) (λ same. none 0 (ap (λ (y : ℤ). Some y) same)) ∙ unseen k id ds (λ slot. none (suc slot))
 
 -- what an event end shows of the security at a place
-seen_here : (k : ℕ) (id : ℤ) (ds : List Desk) (n : ℕ) → AllPairs (λ a b. a ≢ b) (ids_in ds) → slice_get (ids_in ds) n ≡ Some id → seen_of id (map (desk_standing k) ds) ≡ shown_there k (slice_get ds n)
+seen_here : (k : ℕ) (id : ℤ) (ds : List Desk) (n : ℕ) → AllPairs (λ a b. a ≢ b) (ids_in ds) → slice_get (ids_in ds) n ≡ Some id → seen_of id (map (desk_standing k) ds) ≡ seen_there k (slice_get ds n)
 seen_here k id [] n differ is = absurd cc
 seen_here k id (d ∷ ds) zero differ is =
     let same : d.instrument.id ≡ id = cc in
@@ -171,10 +170,10 @@ audited : (k j : ℕ) (ds : List Desk) (n : ℕ) (d : Desk) (spread : Spread) �
 audited k j ds n d spread differ at is = by_kind d.instrument.kind refl is
   where
     shown : ℕ → Option Seen
-    shown slot = shown_there k (slice_get ds slot)
+    shown slot = seen_there k (slice_get ds slot)
 
-    itself : n ≡ spread.slot → desk_standing k d ≡ shown_there k (slice_get ds spread.slot)
-    itself same = sym (ap (shown_there k) at) ∙ ap (λ (slot : ℕ). shown_there k (slice_get ds slot)) same
+    itself : n ≡ spread.slot → desk_standing k d ≡ seen_there k (slice_get ds spread.slot)
+    itself same = sym (ap (seen_there k) at) ∙ ap (λ (slot : ℕ). seen_there k (slice_get ds slot)) same
 
     by_kind : (kind : InstrumentKind) → d.instrument.kind ≡ kind → spread_in n (ids_in ds) kind ≡ Some spread → audit_text k j (map (desk_standing k) ds) (desk_standing k d) ≡ spread_line k j ds spread
     by_kind Outright same is = absurd cc
@@ -182,12 +181,12 @@ audited k j ds n d spread differ at is = by_kind d.instrument.kind refl is
         let places = placed n (slot_in (ids_in ds) id1) (slot_in (ids_in ds) id2) spread is in
         let first = seen_here k id1 ds spread.leg1 differ (slot_holds (ids_in ds) id1 spread.leg1 places.leg1) in
         let second = seen_here k id2 ds spread.leg2 differ (slot_holds (ids_in ds) id2 spread.leg2 places.leg2) in
-        let legs : legs_text k j (map (desk_standing k) ds) (seen_as d) d.instrument.kind ≡ spread_text k j (Some (seen_as d)) (shown_there k (slice_get ds spread.leg1)) (shown_there k (slice_get ds spread.leg2)) =
+        let legs : legs_text k j (map (desk_standing k) ds) (seen_as d) d.instrument.kind ≡ spread_text k j (Some (seen_as d)) (seen_there k (slice_get ds spread.leg1)) (seen_there k (slice_get ds spread.leg2)) =
         ap (legs_text k j (map (desk_standing k) ds) (seen_as d)) same
         ∙ ap (λ (o : Option Seen). spread_text k j (Some (seen_as d)) o (seen_of id2 (map (desk_standing k) ds))) first
-        ∙ ap (λ (o : Option Seen). spread_text k j (Some (seen_as d)) (shown_there k (slice_get ds spread.leg1)) o) second in
-        at_end k j (map (desk_standing k) ds) d (shown_there k (slice_get ds spread.leg1)) (shown_there k (slice_get ds spread.leg2)) legs
-        ∙ ap (λ (o : Option Seen). spread_text k j o (shown_there k (slice_get ds spread.leg1)) (shown_there k (slice_get ds spread.leg2))) (itself places.slot)
+        ∙ ap (λ (o : Option Seen). spread_text k j (Some (seen_as d)) (seen_there k (slice_get ds spread.leg1)) o) second in
+        at_end k j (map (desk_standing k) ds) d (seen_there k (slice_get ds spread.leg1)) (seen_there k (slice_get ds spread.leg2)) legs
+        ∙ ap (λ (o : Option Seen). spread_text k j o (seen_there k (slice_get ds spread.leg1)) (seen_there k (slice_get ds spread.leg2))) (itself places.slot)
 
 no_second : (k j : ℕ) (s : Seen) (o : Option Seen) → spread_text k j (Some s) o None ≡ []
 no_second k j s None = refl

@@ -12,8 +12,8 @@ use Rattle.mdp_arbiter.specs.Machine.{Move}
 use Rattle.mdp_arbiter.specs.Machine.Move.{passed, jumped}
 use Rattle.mdp_arbiter.specs.Channel.{ids_of}
 use Rattle.mdp_desks.specs.Lines.{Seen}
-use Rattle.mdp_desks.specs.Shown.{Start, Shown, shown, started, opening, shown_through, shown_seen, shown_at, shown_from, shown_after}
-use Rattle.mdp_desks.proofs.Showing.{shown-push}
+use Rattle.mdp_desks.specs.Shown.{Start, Standing, standing_after, starts_at_jump, starts_before_jump, standing_through, start_seen, shown_lines_at, shown_lines_from, shown_lines_after}
+use Rattle.mdp_desks.proofs.Showing.{standing_after-push}
 use Rattle.mdp_desks.specs.Moments.{Moment, ended, moment_at, moments_from, moments_after}
 use Rattle.mdp_desks.specs.Reports.{Told, told_from}
 use Rattle.mdp_engine.specs.Rounds.{kept_after, kept_at_start, told_text, round_of, round_text, kept_after_round, text_from}
@@ -38,49 +38,49 @@ same_length R (x ∷ xs) (y ∷ ys) all = let rest = same_length R xs ys all.1 i
 -- ---- a message
 
 abbrev told_at : List Start → List Sent → Sent → List Told
-told_at starts since m = told_from m.packet m.message 0 (map (shown_seen since m) starts)
+told_at starts since m = told_from m.packet m.message 0 (map (start_seen since m) starts)
 
 abbrev zipped : List Start → List Sent → Sent → List (Option Best) → List (Option Best)
-zipped starts since m kept = kept_zip (map (shown_seen since m) starts) kept
+zipped starts since m kept = kept_zip (map (start_seen since m) starts) kept
 
 told_kept : (listed : List Instrument) (starts : List Start) (since : List Sent) (m : Sent) (kept : List (Option Best)) → Stand listed since starts kept → kept_after (told_at starts since m) kept ≡ zipped starts since m kept
 told_kept listed starts since m kept stand =
     let long = same_length (KeptShows since) starts kept stand.kept_are in
-    let mapped = length-map starts (shown_seen since m) in
-    kept_told m.packet m.message (map (shown_seen since m) starts) kept (omega (arith, long, mapped))
+    let mapped = length-map starts (start_seen since m) in
+    kept_told m.packet m.message (map (start_seen since m) starts) kept (omega (arith, long, mapped))
 
 end_round : (n : ℕ) (listed : List Instrument) (starts : List Start) (since : List Sent) (m : Sent) (kept : List (Option Best)) → m.end ≡ true → 1 ≤ m.packet → UpTo m.packet since → AllPairs (λ a b. a ≢ b) (ids_of listed) → Stand listed since starts kept
-    → round_text listed kept (round_of (suc n) (ended m.packet m.message (map (shown_seen since m) starts))) ≡ shown_at starts since m
+    → round_text listed kept (round_of (suc n) (ended m.packet m.message (map (start_seen since m) starts))) ≡ shown_lines_at starts since m
 end_round n listed starts since m kept is first late differ stand =
     let k : ℕ = m.packet in
     let j : ℕ = m.message in
-    ap (λ (ts : List Told). told_text k j listed ts (kept_after ts kept)) (round_whole (suc n) k j (map (shown_seen since m) starts) (omega arith))
+    ap (λ (ts : List Told). told_text k j listed ts (kept_after ts kept)) (round_whole (suc n) k j (map (start_seen since m) starts) (omega arith))
     ∙ ap (told_text k j listed (told_at starts since m)) (told_kept listed starts since m kept stand)
     ∙ end_text since m starts listed (zipped starts since m kept) is stand.footed differ
     (all_agree since m starts kept is first late stand.rooted stand.kept_are)
-    (subst (λ (l : List Instrument). AllZip IsNamed l (map (shown_seen since m) starts)) stand.footed (all_named since m starts))
+    (subst (λ (l : List Instrument). AllZip IsNamed l (map (start_seen since m) starts)) stand.footed (all_named since m starts))
 
 end_kept : (n : ℕ) (listed : List Instrument) (starts : List Start) (since : List Sent) (m : Sent) (kept : List (Option Best)) → Stand listed since starts kept
-    → kept_after_round kept (round_of (suc n) (ended m.packet m.message (map (shown_seen since m) starts))) ≡ zipped starts since m kept
+    → kept_after_round kept (round_of (suc n) (ended m.packet m.message (map (start_seen since m) starts))) ≡ zipped starts since m kept
 end_kept n listed starts since m kept stand =
-    ap (λ (ts : List Told). kept_after ts kept) (round_whole (suc n) m.packet m.message (map (shown_seen since m) starts) (omega arith))
+    ap (λ (ts : List Told). kept_after ts kept) (round_whole (suc n) m.packet m.message (map (start_seen since m) starts) (omega arith))
     ∙ told_kept listed starts since m kept stand
 
 abbrev rest_text : ℕ → List Instrument → List Moment → List (Option Best) → List ℕ
 rest_text n listed rest kept = text_from listed kept (map (round_of (suc n)) rest)
 
 one_message : (n : ℕ) (listed : List Instrument) (starts : List Start) (since : List Sent) (m : Sent) (kept : List (Option Best)) (rest : List Moment) → 1 ≤ m.packet → UpTo m.packet since → AllPairs (λ a b. a ≢ b) (ids_of listed) → Stand listed since starts kept
-    → rest_text n listed (moment_at starts since m ++ rest) kept ≡ shown_at starts since m ++ rest_text n listed rest (kept_behind since m starts kept)
+    → rest_text n listed (moment_at starts since m ++ rest) kept ≡ shown_lines_at starts since m ++ rest_text n listed rest (kept_behind since m starts kept)
 one_message n listed starts since m kept rest first late differ stand = by_end m.end refl
   where
     seen : List (Option Seen)
-    seen = map (shown_seen since m) starts
+    seen = map (start_seen since m) starts
 
-    by_end : (e : Bool) → m.end ≡ e → rest_text n listed (cond e (ended m.packet m.message (map (shown_seen since m) starts) ∷ []) [] ++ rest) kept
-        ≡ shown_at starts since m ++ rest_text n listed rest (cond e (kept_zip (map (shown_seen since m) starts) kept) kept)
+    by_end : (e : Bool) → m.end ≡ e → rest_text n listed (cond e (ended m.packet m.message (map (start_seen since m) starts) ∷ []) [] ++ rest) kept
+        ≡ shown_lines_at starts since m ++ rest_text n listed rest (cond e (kept_zip (map (start_seen since m) starts) kept) kept)
     by_end true is =
-        ap (λ (t : List ℕ). t ++ rest_text n listed rest (kept_after_round kept (round_of (suc n) (ended m.packet m.message (map (shown_seen since m) starts))))) (end_round n listed starts since m kept is first late differ stand)
-        ∙ ap (λ (b : List (Option Best)). shown_at starts since m ++ rest_text n listed rest b) (end_kept n listed starts since m kept stand)
+        ap (λ (t : List ℕ). t ++ rest_text n listed rest (kept_after_round kept (round_of (suc n) (ended m.packet m.message (map (start_seen since m) starts))))) (end_round n listed starts since m kept is first late differ stand)
+        ∙ ap (λ (b : List (Option Best)). shown_lines_at starts since m ++ rest_text n listed rest b) (end_kept n listed starts since m kept stand)
     by_end false is = ap (λ (t : List ℕ). t ++ rest_text n listed rest kept) (sym (no_text starts since m is))
 
 -- ---- the messages of a packet
@@ -100,7 +100,7 @@ stand_on : (listed : List Instrument) (starts : List Start) (since : List Sent) 
 stand_on listed starts since m kept stand = record { footed = stand.footed; rooted = stand.rooted; kept_are = all_keep since m starts kept stand.kept_are }
 
 all_messages : (n k : ℕ) (listed : List Instrument) (starts : List Start) (since ms : List Sent) (kept : List (Option Best)) (rest : List Moment) → 1 ≤ k → Are k ms → UpTo k since → AllPairs (λ a b. a ≢ b) (ids_of listed) → Stand listed since starts kept
-    → rest_text n listed (moments_from starts since ms ++ rest) kept ≡ shown_from starts since ms ++ rest_text n listed rest (kept_passed starts since ms kept)
+    → rest_text n listed (moments_from starts since ms ++ rest) kept ≡ shown_lines_from starts since ms ++ rest_text n listed rest (kept_passed starts since ms kept)
 all_messages n k listed starts since [] kept rest first are late differ stand = refl
 all_messages n k listed starts since (m ∷ ms) kept rest first are late differ stand =
     let same : m.packet ≡ k = are.0 in
@@ -108,9 +108,9 @@ all_messages n k listed starts since (m ∷ ms) kept rest first are late differ 
     let before : UpTo m.packet since = subst (λ (p : ℕ). UpTo p since) (sym same) late in
     ap (λ (l : List Moment). rest_text n listed l kept) (append_assoc (moment_at starts since m) (moments_from starts (since ++ m ∷ []) ms) rest)
     ∙ one_message n listed starts since m kept (moments_from starts (since ++ m ∷ []) ms ++ rest) here before differ stand
-    ∙ ap (λ (t : List ℕ). shown_at starts since m ++ t)
+    ∙ ap (λ (t : List ℕ). shown_lines_at starts since m ++ t)
     (all_messages n k listed starts (since ++ m ∷ []) ms (kept_behind since m starts kept) rest first are.1 (up_to-more k since m late (omega (arith, same))) differ (stand_on listed starts since m kept stand))
-    ∙ sym (append_assoc (shown_at starts since m) (shown_from starts (since ++ m ∷ []) ms) (rest_text n listed rest (kept_passed starts since (m ∷ ms) kept)))
+    ∙ sym (append_assoc (shown_lines_at starts since m) (shown_lines_from starts (since ++ m ∷ []) ms) (rest_text n listed rest (kept_passed starts since (m ∷ ms) kept)))
 
 stand_passed : (listed : List Instrument) (starts : List Start) (since ms : List Sent) (kept : List (Option Best)) → Stand listed since starts kept → Stand listed (since ++ ms) starts (kept_passed starts since ms kept)
 stand_passed listed starts since [] kept stand = subst (λ (s : List Sent). Stand listed s starts kept) (sym (append-nil since)) stand
@@ -133,17 +133,17 @@ up_to-append k (x ∷ since) ms all are = (all.0, up_to-append k since ms all.1 
 
 -- ---- a jump
 
-jump_footed : (listed : List Instrument) (ss : List SnapshotContent) → length ss ≡ length listed → map (λ (i : Start). i.instrument) (started listed ss) ≡ listed
+jump_footed : (listed : List Instrument) (ss : List SnapshotContent) → length ss ≡ length listed → map (λ (i : Start). i.instrument) (starts_at_jump listed ss) ≡ listed
 jump_footed [] ss long = refl
 jump_footed (i ∷ is) [] long = absurd (omega (arith, long))
 jump_footed (i ∷ is) (s ∷ ss) long = ap (λ (l : List Instrument). i ∷ l) (jump_footed is ss (omega (arith, long)))
 
-jump_rooted : (listed : List Instrument) (ss : List SnapshotContent) → AllByRecursion Rooted (started listed ss)
+jump_rooted : (listed : List Instrument) (ss : List SnapshotContent) → AllByRecursion Rooted (starts_at_jump listed ss)
 jump_rooted [] ss = tt
 jump_rooted (i ∷ is) [] = tt
 jump_rooted (i ∷ is) (s ∷ ss) = (λ still. absurd cc, jump_rooted is ss)
 
-jump_kept : (listed : List Instrument) (ss : List SnapshotContent) (kept : List (Option Best)) → length ss ≡ length listed → length kept ≡ length listed → AllZip (KeptShows []) (started listed ss) (map (λ _. None) kept)
+jump_kept : (listed : List Instrument) (ss : List SnapshotContent) (kept : List (Option Best)) → length ss ≡ length listed → length kept ≡ length listed → AllZip (KeptShows []) (starts_at_jump listed ss) (map (λ _. None) kept)
 jump_kept [] ss [] long same = tt
 jump_kept [] ss (b ∷ kept) long same = absurd (omega (arith, same))
 jump_kept (i ∷ is) [] kept long same = absurd (omega (arith, long))
@@ -157,44 +157,44 @@ kept_long listed since starts kept stand =
 -- ---- move by move
 
 -- before more moves, the next packet of which has this number
-record Ready (listed : List Instrument) (next : ℕ) (s : Shown) (kept : List (Option Best)) : Type 0 where
+record Ready (listed : List Instrument) (next : ℕ) (s : Standing) (kept : List (Option Best)) : Type 0 where
   late : UpTo next s.since
   stand : Stand listed s.since s.starts kept
 
-by_moves : (n : ℕ) (listed : List Instrument) (next : ℕ) (before moves : List Move) (kept : List (Option Best)) → AllPairs (λ a b. a ≢ b) (ids_of listed) → Ascend listed next moves → Ready listed next (shown listed before) kept
-    → rest_text n listed (moments_after listed before moves) kept ≡ shown_after listed before moves
+by_moves : (n : ℕ) (listed : List Instrument) (next : ℕ) (before moves : List Move) (kept : List (Option Best)) → AllPairs (λ a b. a ≢ b) (ids_of listed) → Ascend listed next moves → Ready listed next (standing_after listed before) kept
+    → rest_text n listed (moments_after listed before moves) kept ≡ shown_lines_after listed before moves
 by_moves n listed next before [] kept differ ascend ready = refl
 by_moves n listed next before (passed packet ∷ moves) kept differ ascend ready =
-    let s : Shown = shown listed before in
+    let s : Standing = standing_after listed before in
     let same : packet.number ≡ next = ascend.0 in
     let are : Are next (sent_in packet) = subst (λ (k : ℕ). Are k (sent_in packet)) same (are_from packet.number 1 packet.messages) in
-    let behind : Ready listed (next + 1) (shown_through listed s (passed packet)) (kept_passed s.starts s.since (sent_in packet) kept) = record {
+    let behind : Ready listed (next + 1) (standing_through listed s (passed packet)) (kept_passed s.starts s.since (sent_in packet) kept) = record {
       late = up_to-less next (next + 1) (s.since ++ sent_in packet) (omega arith) (up_to-append next s.since (sent_in packet) ready.late are);
       stand = stand_passed listed s.starts s.since (sent_in packet) kept ready.stand;
     } in
     all_messages n next listed s.starts s.since (sent_in packet) kept (moments_after listed (before ++ passed packet ∷ []) moves) ascend.1 are ready.late differ ready.stand
-    ∙ ap (λ (t : List ℕ). shown_from s.starts s.since (sent_in packet) ++ t)
+    ∙ ap (λ (t : List ℕ). shown_lines_from s.starts s.since (sent_in packet) ++ t)
     (by_moves n listed (next + 1) (before ++ passed packet ∷ []) moves (kept_passed s.starts s.since (sent_in packet) kept) differ ascend.2
-    (subst (λ (z : Shown). Ready listed (next + 1) z (kept_passed s.starts s.since (sent_in packet) kept)) (sym (shown-push listed before (passed packet))) behind))
+    (subst (λ (z : Standing). Ready listed (next + 1) z (kept_passed s.starts s.since (sent_in packet) kept)) (sym (standing_after-push listed before (passed packet))) behind))
 by_moves n listed next before (jumped old new ss ∷ moves) kept differ ascend ready =
-    let s : Shown = shown listed before in
-    let behind : Ready listed new (shown_through listed s (jumped old new ss)) (map (λ _. None) kept) = record {
+    let s : Standing = standing_after listed before in
+    let behind : Ready listed new (standing_through listed s (jumped old new ss)) (map (λ _. None) kept) = record {
       late = tt;
       stand = record { footed = jump_footed listed ss ascend.0; rooted = jump_rooted listed ss; kept_are = jump_kept listed ss kept ascend.0 (kept_long listed s.since s.starts kept ready.stand) };
     } in
     ap (λ (t : List ℕ). jump_line old new ++ t)
     (by_moves n listed new (before ++ jumped old new ss ∷ []) moves (map (λ _. None) kept) differ ascend.1
-    (subst (λ (z : Shown). Ready listed new z (map (λ _. None) kept)) (sym (shown-push listed before (jumped old new ss))) behind))
+    (subst (λ (z : Standing). Ready listed new z (map (λ _. None) kept)) (sym (standing_after-push listed before (jumped old new ss))) behind))
 
-opening_footed : (listed : List Instrument) → map (λ (i : Start). i.instrument) (opening listed) ≡ listed
+opening_footed : (listed : List Instrument) → map (λ (i : Start). i.instrument) (starts_before_jump listed) ≡ listed
 opening_footed [] = refl
 opening_footed (i ∷ is) = ap (λ (l : List Instrument). i ∷ l) (opening_footed is)
 
-opening_rooted : (listed : List Instrument) → AllByRecursion Rooted (opening listed)
+opening_rooted : (listed : List Instrument) → AllByRecursion Rooted (starts_before_jump listed)
 opening_rooted [] = tt
 opening_rooted (i ∷ is) = (λ still. refl, opening_rooted is)
 
-opening_kept : (listed : List Instrument) → AllZip (KeptShows []) (opening listed) (kept_at_start listed)
+opening_kept : (listed : List Instrument) → AllZip (KeptShows []) (starts_before_jump listed) (kept_at_start listed)
 opening_kept [] = tt
 opening_kept (i ∷ is) = (record { waits = λ jumped none. absurd cc; stays = λ still. refl }, opening_kept is)
 

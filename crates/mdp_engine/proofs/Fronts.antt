@@ -1,43 +1,19 @@
 -- The complete feed and its moves: where the one prints, the other does.
-use Rattle.std.proofs.Common.{◌≡◌, ◌≤◌, ◌<◌, ℕ, ℤ, zero, suc, ◌+◌, Bool, true, false, cond, List, [], ◌∷◌, ◌++◌, map, take, refl, sym, ap, ◌∙◌, append_assoc, arith}
-use Rattle.std.specs.Prelude.{Option, Some, None, ◌||◌, ◌&&◌, not, nat_lt, fold}
+use Rattle.std.proofs.Common.{◌≡◌, ◌≤◌, ◌<◌, ℕ, zero, suc, ◌+◌, Bool, true, false, cond, List, [], ◌∷◌, ◌++◌, map, take, refl, sym, ap, ◌∙◌, append_assoc, arith}
+use Rattle.std.specs.Prelude.{Option, Some, None, ◌&&◌, nat_lt}
 use Rattle.std.specs.List.{AllByRecursion}
-use Rattle.std.proofs.lemmas.List.Sums.{fold-append}
 use Rattle.std.proofs.lemmas.Bool.Decides.{nat_tests}
 use Rattle.mdp_templates.specs.Packet.{PacketContent, MessageContent}
 use Rattle.mdp_templates.specs.declared.instrument.Instrument.{Instrument}
 use Rattle.mdp_books.specs.declared.book.Book.{Book}
-use Rattle.mdp_books.specs.Feed.{Sent, sent_as, sent_from, sent_in, sent, book_from, book_at, since_end, touches, has_end, behind}
+use Rattle.mdp_books.specs.Feed.{Sent, sent_as, sent_from, sent_in, sent_by, book_from, book_at, behind}
 use Rattle.mdp_books.proofs.Feeds.{behind-append, behind-push, book_at-append}
 use Rattle.mdp_engine.specs.Feed.{NumberedFrom, IsFeed}
 use Rattle.mdp_desks.specs.Lines.{Seen, lines_of}
-use Rattle.mdp_engine.specs.Owed.{Footing, is_printed, seen_at, lines_at, lines_from}
-use Rattle.mdp_desks.specs.Shown.{book_since, is_shown, shown_seen, shown_at, shown_from}
+use Rattle.mdp_engine.specs.Owed.{Footing, seen_at, lines_at, lines_from}
+use Rattle.mdp_desks.specs.Shown.{book_since, start_seen, shown_lines_at, shown_lines_from}
+use Rattle.mdp_desks.specs.Due.{is_printed}
 use Rattle.mdp_engine.specs.Agreed.{start_of}
-use Rattle.mdp_desks.proofs.Marks.{or-true}
-
--- ---- marks
-
-abbrev pending_after : List Sent → Sent → List Sent
-pending_after pending m = cond m.end [] (pending ++ m ∷ [])
-
--- what stands behind the last event end doesn't depend on what stood before one
-forgets_more : (h a b : List Sent) (m : Sent) (e : Bool) → ((x y : List Sent) → has_end h ≡ true → fold pending_after x h ≡ fold pending_after y h) → (e || has_end h) ≡ true → fold pending_after (cond e [] (a ++ m ∷ [])) h ≡ fold pending_after (cond e [] (b ++ m ∷ [])) h
-forgets_more h a b m true later is = refl
-forgets_more h a b m false later is = later (a ++ m ∷ []) (b ++ m ∷ []) is
-
-end_forgets : (h a b : List Sent) → has_end h ≡ true → fold pending_after a h ≡ fold pending_after b h
-end_forgets [] a b has = absurd cc
-end_forgets (m ∷ h) a b has = forgets_more h a b m m.end (end_forgets h) has
-
--- what stood before the base changes no mark: an event end was heard since, or the first one after the jump is owed
-pub same_mark : (id : ℤ) (head h more : List Sent) (jumped : Bool) → (jumped ≡ false → head ≡ []) → (touches id (since_end (head ++ h) ++ more) || (jumped && not (has_end h))) ≡ (touches id (since_end h ++ more) || (jumped && not (has_end h)))
-same_mark id head h more jumped opening = by_end (has_end h) refl jumped opening
-  where
-    by_end : (e : Bool) → has_end h ≡ e → (j : Bool) → (j ≡ false → head ≡ []) → (touches id (since_end (head ++ h) ++ more) || (j && not e)) ≡ (touches id (since_end h ++ more) || (j && not e))
-    by_end true has j start = ap (λ (t : List Sent). touches id (t ++ more) || (j && false)) (fold-append pending_after [] head h ∙ end_forgets h (fold pending_after [] head) [] has)
-    by_end false has true start = or-true (touches id (since_end (head ++ h) ++ more)) ∙ sym (or-true (touches id (since_end h ++ more)))
-    by_end false has false start = ap (λ (t : List Sent). touches id (since_end (t ++ h) ++ more) || false) (start refl)
 
 -- ---- fronts of the feed
 
@@ -54,12 +30,12 @@ none_behind base k j (m ∷ ms) is =
     ∙ none_behind base k (j + 1) ms is
 
 -- packets from a number on stand behind each lower one
-rest_behind : (ps : List PacketContent) (base k : ℕ) → NumberedFrom k ps → base < k → behind base (sent ps) ≡ sent ps
+rest_behind : (ps : List PacketContent) (base k : ℕ) → NumberedFrom k ps → base < k → behind base (sent_by ps) ≡ sent_by ps
 rest_behind [] base k is under = refl
 rest_behind (p ∷ ps) base k is under =
     let here : nat_lt base p.number ≡ true = grind (arith, nat_tests, is.0) in
-    behind-append base (sent_in p) (sent ps)
-    ∙ ap (λ (t : List Sent). t ++ behind base (sent ps)) (all_behind base p.number 1 p.messages here)
+    behind-append base (sent_in p) (sent_by ps)
+    ∙ ap (λ (t : List Sent). t ++ behind base (sent_by ps)) (all_behind base p.number 1 p.messages here)
     ∙ ap (λ (t : List Sent). sent_in p ++ t) (rest_behind ps base (k + 1) is.1 (omega arith))
 
 numbered_take : (ps : List PacketContent) (k n : ℕ) → NumberedFrom k ps → NumberedFrom k (take n ps)
@@ -68,52 +44,48 @@ numbered_take [] k (suc n) is = tt
 numbered_take (p ∷ ps) k (suc n) is = (is.0, numbered_take ps (k + 1) n is.1)
 
 -- a front is the packets up to a base, and what stands behind it
-front_split : (ps : List PacketContent) (k b n : ℕ) → NumberedFrom (k + 1) ps → b ≤ n → sent (take n ps) ≡ sent (take b ps) ++ behind (k + b) (sent (take n ps))
-front_split ps k zero n is le = sym (ap (λ (z : ℕ). behind z (sent (take n ps))) (omega arith) ∙ rest_behind (take n ps) k (k + 1) (numbered_take ps (k + 1) n is) (omega arith))
+front_split : (ps : List PacketContent) (k b n : ℕ) → NumberedFrom (k + 1) ps → b ≤ n → sent_by (take n ps) ≡ sent_by (take b ps) ++ behind (k + b) (sent_by (take n ps))
+front_split ps k zero n is le = sym (ap (λ (z : ℕ). behind z (sent_by (take n ps))) (omega arith) ∙ rest_behind (take n ps) k (k + 1) (numbered_take ps (k + 1) n is) (omega arith))
 front_split [] k (suc b) zero is le = absurd (omega arith)
 front_split [] k (suc b) (suc n) is le = refl
 front_split (p ∷ ps) k (suc b) zero is le = absurd (omega arith)
 front_split (p ∷ ps) k (suc b) (suc n) is le =
     let away : nat_lt (k + suc b) p.number ≡ false = grind (arith, nat_tests, is.0) in
     let same : k + suc b ≡ k + 1 + b = omega arith in
-    let none : behind (k + suc b) (sent_in p ++ sent (take n ps)) ≡ behind (k + 1 + b) (sent (take n ps)) =
-    behind-append (k + suc b) (sent_in p) (sent (take n ps)) ∙ ap (λ (t : List Sent). t ++ behind (k + suc b) (sent (take n ps))) (none_behind (k + suc b) p.number 1 p.messages away) ∙ ap (λ (z : ℕ). behind z (sent (take n ps))) same in
+    let none : behind (k + suc b) (sent_in p ++ sent_by (take n ps)) ≡ behind (k + 1 + b) (sent_by (take n ps)) =
+    behind-append (k + suc b) (sent_in p) (sent_by (take n ps)) ∙ ap (λ (t : List Sent). t ++ behind (k + suc b) (sent_by (take n ps))) (none_behind (k + suc b) p.number 1 p.messages away) ∙ ap (λ (z : ℕ). behind z (sent_by (take n ps))) same in
     ap (λ (t : List Sent). sent_in p ++ t) (front_split ps (k + 1) b n is.1 (omega arith))
-    ∙ sym (append_assoc (sent_in p) (sent (take b ps)) (behind (k + 1 + b) (sent (take n ps))))
-    ∙ ap (λ (t : List Sent). (sent_in p ++ sent (take b ps)) ++ t) (sym none)
+    ∙ sym (append_assoc (sent_in p) (sent_by (take b ps)) (behind (k + 1 + b) (sent_by (take n ps))))
+    ∙ ap (λ (t : List Sent). (sent_in p ++ sent_by (take b ps)) ++ t) (sym none)
 
 -- nothing of a front stands behind a base that it does not pass
-front_none : (ps : List PacketContent) (k b n : ℕ) → NumberedFrom (k + 1) ps → n ≤ b → behind (k + b) (sent (take n ps)) ≡ []
+front_none : (ps : List PacketContent) (k b n : ℕ) → NumberedFrom (k + 1) ps → n ≤ b → behind (k + b) (sent_by (take n ps)) ≡ []
 front_none ps k b zero is le = refl
 front_none [] k b (suc n) is le = refl
 front_none (p ∷ ps) k zero (suc n) is le = absurd (omega arith)
 front_none (p ∷ ps) k (suc b) (suc n) is le =
     let away : nat_lt (k + suc b) p.number ≡ false = grind (arith, nat_tests, is.0) in
     let same : k + suc b ≡ k + 1 + b = omega arith in
-    behind-append (k + suc b) (sent_in p) (sent (take n ps))
-    ∙ ap (λ (t : List Sent). t ++ behind (k + suc b) (sent (take n ps))) (none_behind (k + suc b) p.number 1 p.messages away)
-    ∙ ap (λ (z : ℕ). behind z (sent (take n ps))) same
+    behind-append (k + suc b) (sent_in p) (sent_by (take n ps))
+    ∙ ap (λ (t : List Sent). t ++ behind (k + suc b) (sent_by (take n ps))) (none_behind (k + suc b) p.number 1 p.messages away)
+    ∙ ap (λ (z : ℕ). behind z (sent_by (take n ps))) same
     ∙ front_none ps (k + 1) b n is.1 (omega arith)
 
-pub sent-split : (feed : List PacketContent) (base n : ℕ) → IsFeed feed → base ≤ n → sent (take n feed) ≡ sent (take base feed) ++ behind base (sent (take n feed))
-sent-split feed base n is le =
+pub sent_by-split : (feed : List PacketContent) (base n : ℕ) → IsFeed feed → base ≤ n → sent_by (take n feed) ≡ sent_by (take base feed) ++ behind base (sent_by (take n feed))
+sent_by-split feed base n is le =
     let same : 0 + base ≡ base = omega arith in
-    front_split feed 0 base n is.numbered le ∙ ap (λ (z : ℕ). sent (take base feed) ++ behind z (sent (take n feed))) same
+    front_split feed 0 base n is.numbered le ∙ ap (λ (z : ℕ). sent_by (take base feed) ++ behind z (sent_by (take n feed))) same
 
-pub behind-front : (feed : List PacketContent) (base n : ℕ) → IsFeed feed → n ≤ base → behind base (sent (take n feed)) ≡ []
+pub behind-front : (feed : List PacketContent) (base n : ℕ) → IsFeed feed → n ≤ base → behind base (sent_by (take n feed)) ≡ []
 behind-front feed base n is le =
     let same : 0 + base ≡ base = omega arith in
-    ap (λ (z : ℕ). behind z (sent (take n feed))) (sym same) ∙ front_none feed 0 base n is.numbered le
+    ap (λ (z : ℕ). behind z (sent_by (take n feed))) (sym same) ∙ front_none feed 0 base n is.numbered le
 
 -- ---- the lines of one packet
 
--- before the first jump every base is 0; a security that hears has heard all that stands behind its base
-pub record Heard (feed : List PacketContent) (k : ℕ) (before : List Sent) (i : Footing) : Type 0 where
-  pub opening : i.jumped ≡ false → i.base ≡ 0
-  pub parts : nat_lt i.base k ≡ true → before ≡ sent (take i.base feed) ++ behind i.base before
-
-no_head : (feed : List PacketContent) (i : Footing) → (i.jumped ≡ false → i.base ≡ 0) → i.jumped ≡ false → sent (take i.base feed) ≡ []
-no_head feed i opening still = ap (λ (z : ℕ). sent (take z feed)) (opening still)
+-- a security that hears a packet has heard all that stands behind its base
+abbrev pub Heard : List PacketContent → ℕ → List Sent → Footing → Type 0
+Heard feed k before i = nat_lt i.base k ≡ true → before ≡ sent_by (take i.base feed) ++ behind i.base before
 
 abbrev seen_as : Instrument → Bool → Book → Option Seen
 seen_as instrument printed book = Some (record { instrument = instrument; printed = printed; book = book })
@@ -122,48 +94,42 @@ behind-heard : (base : ℕ) (before : List Sent) (m : Sent) → nat_lt base m.pa
 behind-heard base before m over = behind-push base before m ∙ ap (λ (b : Bool). cond b (behind base before ++ m ∷ []) (behind base before)) over
 
 seen_case : (feed : List PacketContent) (before : List Sent) (m : Sent) (i : Footing) (e b : Bool) → nat_lt i.base m.packet ≡ b → Heard feed m.packet before i
-    → cond (e && b) (seen_as i.instrument (is_printed i before m) (book_at i.instrument.id (before ++ m ∷ []))) None
-    ≡ cond (e && b) (seen_as i.instrument (is_shown (start_of feed i) (behind i.base before) m) (book_since (start_of feed i) (before ++ m ∷ []))) None
+    → cond (e && b) (seen_as i.instrument (is_printed i.instrument.id i.jumped (behind i.base before) m) (book_at i.instrument (before ++ m ∷ []))) None
+    ≡ cond (e && b) (seen_as i.instrument (is_printed i.instrument.id i.jumped (behind i.base before) m) (book_since (start_of feed i) (before ++ m ∷ []))) None
 seen_case feed before m i false b over is = refl
 seen_case feed before m i true false under is = refl
 seen_case feed before m i true true over is =
-    let id = i.instrument.id in
-    let head = sent (take i.base feed) in
+    let listed = i.instrument in
+    let head = sent_by (take i.base feed) in
     let h = behind i.base before in
-    let parts : before ≡ head ++ h = is.parts over in
-    let mark : is_printed i before m ≡ is_shown (start_of feed i) h m =
-    ap (λ (t : List Sent). touches id (since_end t ++ m ∷ []) || (i.jumped && not (has_end h))) parts ∙ same_mark id head h (m ∷ []) i.jumped (no_head feed i is.opening) in
-    let book : book_at id (before ++ m ∷ []) ≡ book_since (start_of feed i) (before ++ m ∷ []) =
-    ap (λ (t : List Sent). book_at id (t ++ m ∷ [])) parts
-    ∙ ap (book_at id) (append_assoc head h (m ∷ []))
-    ∙ book_at-append id head (h ++ m ∷ [])
-    ∙ ap (book_from id (book_at id head)) (sym (behind-heard i.base before m over)) in
-    ap (λ (b : Bool). seen_as i.instrument b (book_at id (before ++ m ∷ []))) mark ∙ ap (λ (k : Book). seen_as i.instrument (is_shown (start_of feed i) h m) k) book
+    let book : book_at listed (before ++ m ∷ []) ≡ book_since (start_of feed i) (before ++ m ∷ []) =
+    ap (λ (t : List Sent). book_at listed (t ++ m ∷ [])) (is over)
+    ∙ ap (book_at listed) (append_assoc head h (m ∷ []))
+    ∙ book_at-append listed head (h ++ m ∷ [])
+    ∙ ap (book_from listed (book_at listed head)) (sym (behind-heard i.base before m over)) in
+    ap (λ (k : Book). seen_as listed (is_printed listed.id i.jumped h m) k) book
 
-all_seen : (feed : List PacketContent) (before : List Sent) (m : Sent) (fs : List Footing) → AllByRecursion (Heard feed m.packet before) fs → map (seen_at before m) fs ≡ map (shown_seen before m) (map (start_of feed) fs)
+all_seen : (feed : List PacketContent) (before : List Sent) (m : Sent) (fs : List Footing) → AllByRecursion (Heard feed m.packet before) fs → map (seen_at before m) fs ≡ map (start_seen before m) (map (start_of feed) fs)
 all_seen feed before m [] is = refl
 all_seen feed before m (i ∷ fs) is =
     ap (λ (s : Option Seen). s ∷ map (seen_at before m) fs) (seen_case feed before m i m.end (nat_lt i.base m.packet) refl is.0)
-    ∙ ap (λ (t : List (Option Seen)). shown_seen before m (start_of feed i) ∷ t) (all_seen feed before m fs is.1)
+    ∙ ap (λ (t : List (Option Seen)). start_seen before m (start_of feed i) ∷ t) (all_seen feed before m fs is.1)
 
-lines_case : (feed : List PacketContent) (before : List Sent) (m : Sent) (fs : List Footing) → AllByRecursion (Heard feed m.packet before) fs → lines_at fs before m ≡ shown_at (map (start_of feed) fs) before m
+lines_case : (feed : List PacketContent) (before : List Sent) (m : Sent) (fs : List Footing) → AllByRecursion (Heard feed m.packet before) fs → lines_at fs before m ≡ shown_lines_at (map (start_of feed) fs) before m
 lines_case feed before m fs is = ap (lines_of m) (all_seen feed before m fs is)
 
 heard_more : (feed : List PacketContent) (before : List Sent) (m : Sent) (fs : List Footing) → AllByRecursion (Heard feed m.packet before) fs → AllByRecursion (Heard feed m.packet (before ++ m ∷ [])) fs
 heard_more feed before m [] is = tt
 heard_more feed before m (i ∷ fs) is =
-    let more : Heard feed m.packet (before ++ m ∷ []) i = record {
-      opening = is.0.opening;
-      parts = λ over.
-          ap (λ (t : List Sent). t ++ m ∷ []) (is.0.parts over)
-          ∙ append_assoc (sent (take i.base feed)) (behind i.base before) (m ∷ [])
-          ∙ ap (λ (t : List Sent). sent (take i.base feed) ++ t) (sym (behind-heard i.base before m over));
-    } in
+    let more : Heard feed m.packet (before ++ m ∷ []) i = λ over.
+    ap (λ (t : List Sent). t ++ m ∷ []) (is.0 over)
+    ∙ append_assoc (sent_by (take i.base feed)) (behind i.base before) (m ∷ [])
+    ∙ ap (λ (t : List Sent). sent_by (take i.base feed) ++ t) (sym (behind-heard i.base before m over)) in
     (more, heard_more feed before m fs is.1)
 
-pub lines_shown : (feed : List PacketContent) (fs : List Footing) (k j : ℕ) (before : List Sent) (ms : List MessageContent) → AllByRecursion (Heard feed k before) fs → lines_from fs before (sent_from k j ms) ≡ shown_from (map (start_of feed) fs) before (sent_from k j ms)
+pub lines_shown : (feed : List PacketContent) (fs : List Footing) (k j : ℕ) (before : List Sent) (ms : List MessageContent) → AllByRecursion (Heard feed k before) fs → lines_from fs before (sent_from k j ms) ≡ shown_lines_from (map (start_of feed) fs) before (sent_from k j ms)
 lines_shown feed fs k j before [] is = refl
 lines_shown feed fs k j before (m ∷ ms) is =
     let x = sent_as k j m in
     ap (λ (t : List ℕ). t ++ lines_from fs (before ++ x ∷ []) (sent_from k (j + 1) ms)) (lines_case feed before x fs is)
-    ∙ ap (λ (t : List ℕ). shown_at (map (start_of feed) fs) before x ++ t) (lines_shown feed fs k (j + 1) (before ++ x ∷ []) ms (heard_more feed before x fs is))
+    ∙ ap (λ (t : List ℕ). shown_lines_at (map (start_of feed) fs) before x ++ t) (lines_shown feed fs k (j + 1) (before ++ x ∷ []) ms (heard_more feed before x fs is))

@@ -5,8 +5,10 @@ use Rattle.std.specs.List.{AllByRecursion, Contains}
 use Rattle.std.proofs.lemmas.Bool.Decides.{eqb_tells}
 use Rattle.mdp_templates.specs.Packet.{PacketContent}
 use Rattle.mdp_templates.specs.Snapshot.{SnapshotContent}
+use Rattle.mdp_templates.specs.declared.instrument.Instrument.{Instrument}
 use Rattle.mdp_quotes.proofs.Prices.{int_eq_other}
 use Rattle.mdp_arbiter.specs.Accepted.{Event, came, recovered, closed, accepted_packets, accepted_snapshots, highest_of, first_of, newer_of, newest_snapshot}
+use Rattle.mdp_arbiter.specs.Channel.{ids_of}
 use Rattle.mdp_arbiter.proofs.Appended.{first-within}
 use Rattle.mdp_engine.specs.Feed.{NumberedFrom, IsIn, IsSnapshotOf}
 use Rattle.mdp_engine.specs.Honest.{LawOfHonestFeeds}
@@ -91,19 +93,20 @@ none_newest id ids (s ∷ snapshots) are =
     let other = int_eq_other id s.security (λ same. are.0 (0, omega arith, same)) in
     ap (λ (b : Bool). fold (newer_of id) (cond (b && true) (Some s) None) snapshots) other ∙ none_newest id ids snapshots are.1
 
-no_snapshots : (feed : List PacketContent) (es : List Event) (ids : List ℤ) → AreOthers ids (accepted_snapshots es) → AllByRecursion (λ (id : ℤ). IfSome (newest_snapshot id es) (IsSnapshotOf feed id)) ids
+no_snapshots : (feed : List PacketContent) (es : List Event) (listed : List Instrument) → AreOthers (ids_of listed) (accepted_snapshots es) → AllByRecursion (λ (i : Instrument). IfSome (newest_snapshot i.id es) (IsSnapshotOf feed i)) listed
 no_snapshots feed es [] are = tt
-no_snapshots feed es (id ∷ ids) are =
-    (subst (λ (o : Option SnapshotContent). IfSome o (IsSnapshotOf feed id)) (sym (none_newest id ids (accepted_snapshots es) are)) tt, no_snapshots feed es ids (others_tail id ids (accepted_snapshots es) are))
+no_snapshots feed es (i ∷ listed) are =
+    let ids = ids_of listed in
+    (subst (λ (o : Option SnapshotContent). IfSome o (IsSnapshotOf feed i)) (sym (none_newest i.id ids (accepted_snapshots es) are)) tt, no_snapshots feed es listed (others_tail i.id ids (accepted_snapshots es) are))
 
 pub law_of_honest_feeds : LawOfHonestFeeds
-law_of_honest_feeds ids es numbers others =
+law_of_honest_feeds listed es numbers others =
     let ps = accepted_packets es in
     let feed = feed_from ps 1 (highest_of ps) in (
       feed,
       record {
         complete = record { numbered = numbered ps 1 (highest_of ps) numbers; long = omega (arith, length-feed_from ps 1 (highest_of ps), highest_within ps numbers) };
         packets = λ k. packet_in ps k (first_of k ps) numbers refl;
-        snapshots = λ front rest is. no_snapshots feed front ids (others_front ids front rest (subst (λ (t : List Event). AreOthers ids (accepted_snapshots t)) is others));
+        snapshots = λ front rest is. no_snapshots feed front listed (others_front (ids_of listed) front rest (subst (λ (t : List Event). AreOthers (ids_of listed) (accepted_snapshots t)) is others));
       },
     )

@@ -29,14 +29,14 @@ first_of-front k (came q ∷ xs) ys p is = first_by k q p (first_of k (accepted_
 first_of-front k (recovered s ∷ xs) ys p is = first_of-front k xs ys p is
 first_of-front k (closed ∷ xs) ys p is = absurd cc
 
-front_packet : (ids : List ℤ) (feed : List PacketContent) (xs ys : List Event) (k : ℕ) (first : Option PacketContent) → IsHonest ids feed (xs ++ ys) → first_of k (accepted_packets xs) ≡ first → IfSome first (IsIn feed)
-front_packet ids feed xs ys k None honest is = tt
-front_packet ids feed xs ys k (Some p) honest is = subst (λ (o : Option PacketContent). IfSome o (IsIn feed)) (first_of-front k xs ys p is) (honest.packets k)
+front_packet : (listed : List Instrument) (feed : List PacketContent) (xs ys : List Event) (k : ℕ) (first : Option PacketContent) → IsHonest listed feed (xs ++ ys) → first_of k (accepted_packets xs) ≡ first → IfSome first (IsIn feed)
+front_packet listed feed xs ys k None honest is = tt
+front_packet listed feed xs ys k (Some p) honest is = subst (λ (o : Option PacketContent). IfSome o (IsIn feed)) (first_of-front k xs ys p is) (honest.packets k)
 
-pub honest_front : (ids : List ℤ) (feed : List PacketContent) (xs ys : List Event) → IsHonest ids feed (xs ++ ys) → IsHonest ids feed xs
-honest_front ids feed xs ys honest = record {
+pub honest_front : (listed : List Instrument) (feed : List PacketContent) (xs ys : List Event) → IsHonest listed feed (xs ++ ys) → IsHonest listed feed xs
+honest_front listed feed xs ys honest = record {
   complete = honest.complete;
-  packets = λ k. front_packet ids feed xs ys k (first_of k (accepted_packets xs)) honest refl;
+  packets = λ k. front_packet listed feed xs ys k (first_of k (accepted_packets xs)) honest refl;
   snapshots = λ front rest is. honest.snapshots front (rest ++ ys) (ap (λ (t : List Event). t ++ ys) is ∙ append_assoc front rest ys);
 }
 
@@ -44,19 +44,19 @@ honest_front ids feed xs ys honest = record {
 
 jumped_to : (feed : List PacketContent) (es : List Event) (new : ℕ) (listed : List Instrument) (snapshots : List SnapshotContent)
     → map (λ (id : ℤ). newest_snapshot id es) (ids_of listed) ≡ map (λ (s : SnapshotContent). Some s) snapshots
-    → AllByRecursion (λ (id : ℤ). IfSome (newest_snapshot id es) (IsSnapshotOf feed id)) (ids_of listed)
+    → AllByRecursion (λ (i : Instrument). IfSome (newest_snapshot i.id es) (IsSnapshotOf feed i)) listed
     → All (λ (s : SnapshotContent). new ≤ s.last + 1) snapshots
-    → AllZip (λ (i : Instrument) (s : SnapshotContent). IsJumpedTo feed new i.id s) listed snapshots
+    → AllZip (λ (i : Instrument) (s : SnapshotContent). IsJumpedTo feed new i s) listed snapshots
 jumped_to feed es new [] [] newest honest covered = tt
 jumped_to feed es new [] (s ∷ snapshots) newest honest covered = absurd cc
 jumped_to feed es new (i ∷ listed) [] newest honest covered = absurd cc
 jumped_to feed es new (i ∷ listed) (s ∷ snapshots) newest honest covered =
     let here : newest_snapshot i.id es ≡ Some s = cc in
     let others : map (λ (id : ℤ). newest_snapshot id es) (ids_of listed) ≡ map (λ (t : SnapshotContent). Some t) snapshots = cc in
-    let jump : IsJumpedTo feed new i.id s = record { covers = covered 0 s (omega arith); is = subst (λ (o : Option SnapshotContent). IfSome o (IsSnapshotOf feed i.id)) here honest.0 } in
+    let jump : IsJumpedTo feed new i s = record { covers = covered 0 s (omega arith); is = subst (λ (o : Option SnapshotContent). IfSome o (IsSnapshotOf feed i)) here honest.0 } in
     (jump, jumped_to feed es new listed snapshots others honest.1 (λ k d within. covered (suc k) d (omega (arith, within))))
 
-settled_are : (listed : List Instrument) (feed : List PacketContent) (room : ℕ) (es : List Event) (s : State) (moves : List Move) → IsHonest (ids_of listed) feed es → Settles (channel_of listed room) es s moves → AreOf listed feed s.next moves
+settled_are : (listed : List Instrument) (feed : List PacketContent) (room : ℕ) (es : List Event) (s : State) (moves : List Move) → IsHonest listed feed es → Settles (channel_of listed room) es s moves → AreOf listed feed s.next moves
 settled_are listed feed room es s [] honest is = tt
 settled_are listed feed room es s (passed p ∷ moves) honest is =
     let first = law_of_passes (channel_of listed room) es s p is.0 in
@@ -74,15 +74,14 @@ are-append listed feed s [] more are later = later
 are-append listed feed s (passed p ∷ moves) more (number, at, are) later = (number, at, are-append listed feed (after s (passed p)) moves more are later)
 are-append listed feed s (jumped old new snapshots ∷ moves) more (is, are) later = (is, are-append listed feed (after s (jumped old new snapshots)) moves more are later)
 
-go_on_are : (listed : List Instrument) (feed : List PacketContent) (room : ℕ) (past es : List Event) (s : State) → IsHonest (ids_of listed) feed (past ++ es) → AreOf listed feed s.next (go_on (channel_of listed room) past s es)
+go_on_are : (listed : List Instrument) (feed : List PacketContent) (room : ℕ) (past es : List Event) (s : State) → IsHonest listed feed (past ++ es) → AreOf listed feed s.next (go_on (channel_of listed room) past s es)
 go_on_are listed feed room past [] s honest = tt
 go_on_are listed feed room past (e ∷ es) s honest =
-    let ids = ids_of listed in
     let now = past ++ e ∷ [] in
-    let whole : IsHonest ids feed (now ++ es) = subst (λ (t : List Event). IsHonest ids feed t) (sym (append_assoc past (e ∷ []) es)) honest in
+    let whole : IsHonest listed feed (now ++ es) = subst (λ (t : List Event). IsHonest listed feed t) (sym (append_assoc past (e ∷ []) es)) honest in
     let moves = settle (channel_of listed room) now s in
     are-append listed feed s moves (go_on (channel_of listed room) now (after_all s moves) es)
-    (settled_are listed feed room now s moves (honest_front ids feed now es whole) (settle_settles (channel_of listed room) now s))
+    (settled_are listed feed room now s moves (honest_front listed feed now es whole) (settle_settles (channel_of listed room) now s))
     (go_on_are listed feed room now es (after_all s moves) whole)
 
 pub honest_moves_agree : HonestMovesAgree

@@ -15,11 +15,12 @@ use Rattle.mdp_arbiter.specs.Channel.{ids_of}
 use Rattle.mdp_desks.specs.declared.desk.Desk.{Desk}
 use Rattle.mdp_engine.specs.declared.spreads.Spread.{Spread}
 use Rattle.mdp_desks.specs.Desks.{desk_standing}
-use Rattle.mdp_engine.specs.Spreads.{shown_there, spread_line}
+use Rattle.mdp_engine.specs.Spreads.{seen_there, spread_line}
 use Rattle.mdp_desks.specs.Beside.{listed_in}
 use Rattle.mdp_engine.specs.Spreads.{spreads_from}
 use Rattle.mdp_desks.specs.Lines.{Seen, text_of, audit_text, lines_as, verdicts_text, spread_text, book_lines}
-use Rattle.mdp_desks.specs.Shown.{Start, is_shown, book_since, shown_seen}
+use Rattle.mdp_desks.specs.Shown.{Start, book_since, start_seen}
+use Rattle.mdp_desks.specs.Due.{is_printed}
 use Rattle.mdp_engine.proofs.Auditing.{audits_are}
 use Rattle.mdp_desks.specs.Reports.{Told, told_of, told_there, told_from}
 use Rattle.mdp_engine.specs.Rounds.{best_kept, is_told, name_of, kept_line, told_text}
@@ -194,18 +195,18 @@ spread_same packet message listed seen kept spread agree named =
 -- ---- desks that show the same
 
 abbrev desk_of : List Sent → Sent → Start → Desk
-desk_of since m i = record { instrument = i.instrument; base = i.base; book = book_since i (since ++ m ∷ []); marked = is_shown i (behind i.base since) m }
+desk_of since m i = record { instrument = i.instrument; base = i.base; book = book_since i (since ++ m ∷ []); marked = is_printed i.instrument.id i.jumped (behind i.base since) m }
 
 abbrev desks_of : List Sent → Sent → List Start → List Desk
 desks_of since m starts = map (desk_of since m) starts
 
-desks_stand : (since : List Sent) (m : Sent) (starts : List Start) → m.end ≡ true → map (shown_seen since m) starts ≡ map (desk_standing m.packet) (desks_of since m starts)
+desks_stand : (since : List Sent) (m : Sent) (starts : List Start) → m.end ≡ true → map (start_seen since m) starts ≡ map (desk_standing m.packet) (desks_of since m starts)
 desks_stand since m [] is = refl
 desks_stand since m (i ∷ starts) is =
-    ap (λ (s : Option Seen). s ∷ map (shown_seen since m) starts) (seen_end since m i is)
+    ap (λ (s : Option Seen). s ∷ map (start_seen since m) starts) (seen_end since m i is)
     ∙ ap (λ (l : List (Option Seen)). desk_standing m.packet (desk_of since m i) ∷ l) (desks_stand since m starts is)
 
-shown_here : (packet : ℕ) (ds : List Desk) (n : ℕ) → there (slice_get (map (desk_standing packet) ds) n) ≡ shown_there packet (slice_get ds n)
+shown_here : (packet : ℕ) (ds : List Desk) (n : ℕ) → there (slice_get (map (desk_standing packet) ds) n) ≡ seen_there packet (slice_get ds n)
 shown_here packet [] n = refl
 shown_here packet (d ∷ ds) zero = refl
 shown_here packet (d ∷ ds) (suc n) = shown_here packet ds n
@@ -221,13 +222,13 @@ flat_map-same f h (x ∷ spreads) same = ap (λ (l : List ℕ). l ++ flat_map f 
 -- ---- an event end
 
 audits : (since : List Sent) (m : Sent) (starts : List Start) (listed : List Instrument) (kept : List (Option Best)) → m.end ≡ true → map (λ (i : Start). i.instrument) starts ≡ listed
-    → AllPairs (λ a b. a ≢ b) (ids_of listed) → AllZip Agrees (map (shown_seen since m) starts) kept → AllZip IsNamed listed (map (shown_seen since m) starts)
-    → flat_map (kept_line m.packet m.message listed (told_from m.packet m.message 0 (map (shown_seen since m) starts)) kept) (spreads_from 0 (ids_of listed) listed)
-    ≡ flat_map (audit_text m.packet m.message (map (shown_seen since m) starts)) (map (shown_seen since m) starts)
+    → AllPairs (λ a b. a ≢ b) (ids_of listed) → AllZip Agrees (map (start_seen since m) starts) kept → AllZip IsNamed listed (map (start_seen since m) starts)
+    → flat_map (kept_line m.packet m.message listed (told_from m.packet m.message 0 (map (start_seen since m) starts)) kept) (spreads_from 0 (ids_of listed) listed)
+    ≡ flat_map (audit_text m.packet m.message (map (start_seen since m) starts)) (map (start_seen since m) starts)
 audits since m starts listed kept is are differ agree named =
     let k : ℕ = m.packet in
     let j : ℕ = m.message in
-    let seen : List (Option Seen) = map (shown_seen since m) starts in
+    let seen : List (Option Seen) = map (start_seen since m) starts in
     let ds : List Desk = desks_of since m starts in
     let spreads : List Spread = spreads_from 0 (ids_of listed) listed in
     let stand : seen ≡ map (desk_standing k) ds = desks_stand since m starts is in
@@ -236,8 +237,8 @@ audits since m starts listed kept is are differ agree named =
     spread_same k j listed seen kept spread agree named
     ∙ ap (λ (l : List (Option Seen)). spread_text k j (there (slice_get l spread.slot)) (there (slice_get l spread.leg1)) (there (slice_get l spread.leg2))) stand
     ∙ ap (λ (s : Option Seen). spread_text k j s (there (slice_get (map (desk_standing k) ds) spread.leg1)) (there (slice_get (map (desk_standing k) ds) spread.leg2))) (shown_here k ds spread.slot)
-    ∙ ap (λ (s : Option Seen). spread_text k j (shown_there k (slice_get ds spread.slot)) s (there (slice_get (map (desk_standing k) ds) spread.leg2))) (shown_here k ds spread.leg1)
-    ∙ ap (λ (s : Option Seen). spread_text k j (shown_there k (slice_get ds spread.slot)) (shown_there k (slice_get ds spread.leg1)) s) (shown_here k ds spread.leg2) in
+    ∙ ap (λ (s : Option Seen). spread_text k j (seen_there k (slice_get ds spread.slot)) s (there (slice_get (map (desk_standing k) ds) spread.leg2))) (shown_here k ds spread.leg1)
+    ∙ ap (λ (s : Option Seen). spread_text k j (seen_there k (slice_get ds spread.slot)) (seen_there k (slice_get ds spread.leg1)) s) (shown_here k ds spread.leg2) in
     flat_map-same (kept_line k j listed (told_from k j 0 seen) kept) (spread_line k j ds) spreads one
     ∙ sym (audits_are k j ds spreads
     (subst (λ (is : List Instrument). AllPairs (λ a b. a ≢ b) (ids_of is)) (sym listing) differ)
@@ -245,11 +246,11 @@ audits since m starts listed kept is are differ agree named =
     ∙ ap (λ (l : List (Option Seen)). flat_map (audit_text k j l) l) (sym stand)
 
 pub end_text : (since : List Sent) (m : Sent) (starts : List Start) (listed : List Instrument) (kept : List (Option Best)) → m.end ≡ true → map (λ (i : Start). i.instrument) starts ≡ listed
-    → AllPairs (λ a b. a ≢ b) (ids_of listed) → AllZip Agrees (map (shown_seen since m) starts) kept → AllZip IsNamed listed (map (shown_seen since m) starts)
-    → told_text m.packet m.message listed (told_from m.packet m.message 0 (map (shown_seen since m) starts)) kept ≡ lines_as m.packet m.message (map (shown_seen since m) starts)
+    → AllPairs (λ a b. a ≢ b) (ids_of listed) → AllZip Agrees (map (start_seen since m) starts) kept → AllZip IsNamed listed (map (start_seen since m) starts)
+    → told_text m.packet m.message listed (told_from m.packet m.message 0 (map (start_seen since m) starts)) kept ≡ lines_as m.packet m.message (map (start_seen since m) starts)
 unfolding lines_as
 end_text since m starts listed kept is are differ agree named =
-    let seen : List (Option Seen) = map (shown_seen since m) starts in
+    let seen : List (Option Seen) = map (start_seen since m) starts in
     ap (λ (l : List ℕ). l ++ flat_map (kept_line m.packet m.message listed (told_from m.packet m.message 0 seen) kept) (spreads_from 0 (ids_of listed) listed)) (books m.packet m.message 0 seen)
     ∙ ap (λ (l : List ℕ). flat_map (text_of m.packet m.message) seen ++ l) (audits since m starts listed kept is are differ agree named)
 
@@ -257,6 +258,6 @@ named_case : (since : List Sent) (m : Sent) (i : Start) (b : Bool) → IsNamed i
 named_case since m i true = refl
 named_case since m i false = tt
 
-pub all_named : (since : List Sent) (m : Sent) (starts : List Start) → AllZip IsNamed (map (λ (i : Start). i.instrument) starts) (map (shown_seen since m) starts)
+pub all_named : (since : List Sent) (m : Sent) (starts : List Start) → AllZip IsNamed (map (λ (i : Start). i.instrument) starts) (map (start_seen since m) starts)
 all_named since m [] = tt
 all_named since m (i ∷ starts) = (named_case since m i (m.end && nat_lt i.base m.packet), all_named since m starts)

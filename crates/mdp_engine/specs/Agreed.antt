@@ -4,7 +4,7 @@ use Rattle.std.specs.List.{AllZip}
 use Rattle.mdp_templates.specs.Packet.{PacketContent}
 use Rattle.mdp_templates.specs.Snapshot.{SnapshotContent}
 use Rattle.mdp_templates.specs.declared.instrument.Instrument.{Instrument}
-use Rattle.mdp_books.specs.Feed.{sent, book_at}
+use Rattle.mdp_books.specs.Feed.{sent_by, book_at}
 use Rattle.mdp_engine.specs.Feed.{IsFeed, IsIn, IsJumpedTo}
 use Rattle.mdp_engine.specs.Owed.{Footing, lines}
 use Rattle.mdp_arbiter.specs.Machine.{Move}
@@ -17,11 +17,11 @@ use Rattle.mdp_arbiter.specs.Machine.Move.{passed, jumped}
 abbrev pub AreOf : List Instrument → List PacketContent → ℕ → List Move → Type 0
 AreOf listed feed next [] = ⊤
 AreOf listed feed next (passed packet ∷ moves) = (packet.number ≡ next) × IsIn feed packet × AreOf listed feed (next + 1) moves
-AreOf listed feed next (jumped old new snapshots ∷ moves) = AllZip (λ (i : Instrument) (s : SnapshotContent). IsJumpedTo feed new i.id s) listed snapshots × AreOf listed feed new moves
+AreOf listed feed next (jumped old new snapshots ∷ moves) = AllZip (λ (i : Instrument) (s : SnapshotContent). IsJumpedTo feed new i s) listed snapshots × AreOf listed feed new moves
 
 -- a listed security as the complete feed has it: its book after the packet that is its base
 abbrev pub start_of : List PacketContent → Footing → Start
-start_of feed i = record { instrument = i.instrument; base = i.base; jumped = i.jumped; book = book_at i.instrument.id (sent (take i.base feed)) }
+start_of feed i = record { instrument = i.instrument; base = i.base; jumped = i.jumped; book = book_at i.instrument (sent_by (take i.base feed)) }
 
 -- The moves show what the complete feed owes.
 abbrev pub ShowsWhatIsOwed : Type 0

@@ -1,9 +1,10 @@
 -- The complete feed that the lines are defined by.
-use Rattle.std.specs.Prelude.{◌≡◌, ◌≤◌, ℕ, ℤ, ◌+◌, ◌-◌, List, [], ◌∷◌, length, take, slice_get, Some, ⊤}
+use Rattle.std.specs.Prelude.{◌≡◌, ◌≤◌, ℕ, ◌+◌, ◌-◌, List, [], ◌∷◌, length, take, slice_get, Some, ⊤}
 use Rattle.mdp_templates.specs.Packet.{PacketContent}
 use Rattle.mdp_templates.specs.Snapshot.{SnapshotContent}
+use Rattle.mdp_templates.specs.declared.instrument.Instrument.{Instrument}
 use Rattle.mdp_books.specs.Book.{book_of_snapshot}
-use Rattle.mdp_books.specs.Feed.{sent, book_at}
+use Rattle.mdp_books.specs.Feed.{sent_by, book_at}
 
 -- packets in number order, the first of which has this number
 abbrev pub NumberedFrom : ℕ → List PacketContent → Type 0
@@ -21,11 +22,11 @@ pub record IsIn (feed : List PacketContent) (packet : PacketContent) : Type 0 wh
   pub place : slice_get feed (packet.number - 1) ≡ Some packet
 
 -- a snapshot's book is the complete feed's after its last packet
-pub record IsSnapshotOf (feed : List PacketContent) (id : ℤ) (snapshot : SnapshotContent) : Type 0 where
+pub record IsSnapshotOf (feed : List PacketContent) (i : Instrument) (snapshot : SnapshotContent) : Type 0 where
   pub within : snapshot.last ≤ length feed
-  pub book : book_of_snapshot snapshot ≡ book_at id (sent (take snapshot.last feed))
+  pub book : book_of_snapshot snapshot ≡ book_at i (sent_by (take snapshot.last feed))
 
 -- a snapshot of the feed that leaves out no packet behind a jump to this number
-pub record IsJumpedTo (feed : List PacketContent) (next : ℕ) (id : ℤ) (snapshot : SnapshotContent) : Type 0 where
+pub record IsJumpedTo (feed : List PacketContent) (next : ℕ) (i : Instrument) (snapshot : SnapshotContent) : Type 0 where
   pub covers : next ≤ snapshot.last + 1
-  pub is : IsSnapshotOf feed id snapshot
+  pub is : IsSnapshotOf feed i snapshot

@@ -1,5 +1,5 @@
 -- When events agree with a complete feed: the premise under which lines are promised.
-use Rattle.std.specs.Prelude.{◌≡◌, ◌≤◌, ℕ, ℤ, List, ◌++◌, IfSome}
+use Rattle.std.specs.Prelude.{◌≡◌, ◌≤◌, ℕ, List, ◌++◌, IfSome}
 use Rattle.std.specs.List.{AllByRecursion, Contains}
 use Rattle.mdp_templates.specs.Packet.{PacketContent}
 use Rattle.mdp_templates.specs.Snapshot.{SnapshotContent}
@@ -11,21 +11,21 @@ use Rattle.mdp_engine.specs.Feed.{IsFeed, IsIn, IsSnapshotOf}
 use Rattle.mdp_engine.specs.Agreed.{AreOf}
 
 -- Of each number the packet that came first is the feed's, whatever later copies say; and at each front of the events
--- each of these securities' newest snapshot, if it has one, is the feed's book.
-pub record IsHonest (ids : List ℤ) (feed : List PacketContent) (es : List Event) : Type 0 where
+-- each listed security's newest snapshot, if it has one, is the feed's book.
+pub record IsHonest (listed : List Instrument) (feed : List PacketContent) (es : List Event) : Type 0 where
   pub complete : IsFeed feed
   pub packets : (k : ℕ) → IfSome (first_of k (accepted_packets es)) (IsIn feed)
-  pub snapshots : (front rest : List Event) → es ≡ front ++ rest → AllByRecursion (λ (id : ℤ). IfSome (newest_snapshot id front) (IsSnapshotOf feed id)) ids
+  pub snapshots : (front rest : List Event) → es ≡ front ++ rest → AllByRecursion (λ (i : Instrument). IfSome (newest_snapshot i.id front) (IsSnapshotOf feed i)) listed
 
 -- the moves of honest events are the complete feed's
 abbrev pub HonestMovesAgree : Type 0
 HonestMovesAgree = (listed : List Instrument) (feed : List PacketContent) (room : ℕ) (es : List Event)
-    → IsHonest (ids_of listed) feed es → AreOf listed feed 1 (trace (channel_of listed room) es)
+    → IsHonest listed feed es → AreOf listed feed 1 (trace (channel_of listed room) es)
 
--- Where each packet has a number that a complete feed can have, and no snapshot is of one of these securities, there
+-- Where each packet has a number that a complete feed can have, and no snapshot is of a listed security, there
 -- is a complete feed that the events agree with.
 abbrev pub LawOfHonestFeeds : Type 0
-LawOfHonestFeeds = (ids : List ℤ) (es : List Event)
+LawOfHonestFeeds = (listed : List Instrument) (es : List Event)
     → AllByRecursion (λ (p : PacketContent). (1 ≤ p.number) × (p.number ≤ 4294967295)) (accepted_packets es)
-    → AllByRecursion (λ (s : SnapshotContent). Contains ids s.security → ⊥) (accepted_snapshots es)
-    → (feed : List PacketContent) × IsHonest ids feed es
+    → AllByRecursion (λ (s : SnapshotContent). Contains (ids_of listed) s.security → ⊥) (accepted_snapshots es)
+    → (feed : List PacketContent) × IsHonest listed feed es

@@ -1,14 +1,15 @@
 -- Which lines a run owes, read off the complete feed: at each event end the books of the securities that it names, and the
 -- verdicts on their calendar spreads.
-use Rattle.std.specs.Prelude.{ℕ, ◌-◌, List, [], ◌∷◌, ◌++◌, Bool, true, false, not, ◌&&◌, ◌||◌, if◌then◌else◌, fold, map, take, drop, nat_lt, Option, Some, None}
+use Rattle.std.specs.Prelude.{ℕ, ◌-◌, List, [], ◌∷◌, ◌++◌, Bool, true, false, ◌&&◌, if◌then◌else◌, fold, map, take, drop, nat_lt, Option, Some, None}
 use Rattle.mdp_templates.specs.Packet.{PacketContent}
 use Rattle.mdp_templates.specs.Snapshot.{SnapshotContent}
 use Rattle.mdp_templates.specs.declared.instrument.Instrument.{Instrument}
-use Rattle.mdp_books.specs.Feed.{Sent, sent, book_at, since_end, touches, has_end, behind}
+use Rattle.mdp_books.specs.Feed.{Sent, sent_by, book_at, behind}
 use Rattle.mdp_print.specs.Texts.{jump_line}
 use Rattle.mdp_arbiter.specs.Machine.{Move}
 use Rattle.mdp_arbiter.specs.Machine.Move.{passed, jumped}
 use Rattle.mdp_desks.specs.Lines.{Seen, lines_of}
+use Rattle.mdp_desks.specs.Due.{is_printed}
 
 -- a step of a run: a packet passes, or recovery jumps from one number to a later one and sets each listed security's base
 pub data Step : Type 0 where
@@ -21,31 +22,26 @@ pub record Footing : Type 0 where
   pub base : ℕ
   pub jumped : Bool
 
-abbrev pub footed : List Instrument → List ℕ → List Footing
-footed [] bases = []
-footed (i ∷ is) [] = []
-footed (i ∷ is) (base ∷ bases) = record { instrument = i; base = base; jumped = true } ∷ footed is bases
+abbrev pub footings_at_jump : List Instrument → List ℕ → List Footing
+footings_at_jump [] bases = []
+footings_at_jump (i ∷ is) [] = []
+footings_at_jump (i ∷ is) (base ∷ bases) = record { instrument = i; base = base; jumped = true } ∷ footings_at_jump is bases
 
-abbrev pub at_start : List Instrument → List Footing
-at_start listed = map (λ (i : Instrument). record { instrument = i; base = 0; jumped = false }) listed
+abbrev pub footings_before_jump : List Instrument → List Footing
+footings_before_jump listed = map (λ (i : Instrument). record { instrument = i; base = 0; jumped = false }) listed
 
 abbrev pub footings_through : List Instrument → List Footing → Step → List Footing
 footings_through listed so_far (pass k) = so_far
-footings_through listed so_far (jump old new bases) = footed listed bases
+footings_through listed so_far (jump old new bases) = footings_at_jump listed bases
 
 -- what the last jump of these steps bears
 abbrev pub footings : List Instrument → List Step → List Footing
-footings listed steps = fold (footings_through listed) (at_start listed) steps
+footings listed steps = fold (footings_through listed) (footings_before_jump listed) steps
 
--- Whether a security is printed at message m, which ends an event behind its base and comes after the messages
--- `before`: an entry has named it since the event end before, or there was a jump and m is the first event end
--- behind the base.
-abbrev pub is_printed : Footing → List Sent → Sent → Bool
-is_printed i before m = touches i.instrument.id (since_end before ++ m ∷ []) || (i.jumped && not (has_end (behind i.base before)))
-
--- none where m ends no event, or doesn't stand behind the security's base
+-- What message m, which comes after the messages `before`, shows of a security, which hears what stands behind its base:
+-- none where m ends no event, or doesn't stand behind that base.
 abbrev pub seen_at : List Sent → Sent → Footing → Option Seen
-seen_at before m i = if m.end && nat_lt i.base m.packet then Some (record { instrument = i.instrument; printed = is_printed i before m; book = book_at i.instrument.id (before ++ m ∷ []) }) else None
+seen_at before m i = if m.end && nat_lt i.base m.packet then Some (record { instrument = i.instrument; printed = is_printed i.instrument.id i.jumped (behind i.base before) m; book = book_at i.instrument (before ++ m ∷ []) }) else None
 
 abbrev pub lines_at : List Footing → List Sent → Sent → List ℕ
 lines_at listed before m = lines_of m (map (seen_at before m) listed)
@@ -56,13 +52,13 @@ lines_from listed before [] = []
 lines_from listed before (m ∷ ms) = lines_at listed before m ++ lines_from listed (before ++ m ∷ []) ms
 
 -- what a step owes that comes after these ones
-abbrev pub owed : List Instrument → List PacketContent → List Step → Step → List ℕ
-owed listed feed before (pass k) = lines_from (footings listed before) (sent (take (k - 1) feed)) (sent (take 1 (drop (k - 1) feed)))
-owed listed feed before (jump old new bases) = jump_line old new
+abbrev pub lines_of_step : List Instrument → List PacketContent → List Step → Step → List ℕ
+lines_of_step listed feed before (pass k) = lines_from (footings listed before) (sent_by (take (k - 1) feed)) (sent_by (take 1 (drop (k - 1) feed)))
+lines_of_step listed feed before (jump old new bases) = jump_line old new
 
 abbrev pub lines_after : List Instrument → List PacketContent → List Step → List Step → List ℕ
 lines_after listed feed before [] = []
-lines_after listed feed before (s ∷ steps) = owed listed feed before s ++ lines_after listed feed (before ++ s ∷ []) steps
+lines_after listed feed before (s ∷ steps) = lines_of_step listed feed before s ++ lines_after listed feed (before ++ s ∷ []) steps
 
 -- the lines that these steps owe under a complete feed
 abbrev pub lines : List Instrument → List PacketContent → List Step → List ℕ

@@ -43,7 +43,7 @@ LawOfFirstRounds = (listed : List Instrument) (rounds more : List (List Report))
 -- feed the text is that which the feed owes.
 abbrev pub LawOfRuns : Type 0
 LawOfRuns = (n : ℕ) (listed : List Instrument) (feed : List PacketContent) (room : ℕ) (es : List Event) (batches : List (List Moment))
-    → 1 ≤ n → AllPairs (λ a b. a ≢ b) (ids_of listed) → IsHonest (ids_of listed) feed es
+    → 1 ≤ n → AllPairs (λ a b. a ≢ b) (ids_of listed) → IsHonest listed feed es
     → moments listed (trace (channel_of listed room) es) ≡ flat_map (λ (ms : List Moment). ms) batches
     → collected_text listed (all_rounds_in (map (batch_of n) batches)) ≡ lines listed feed (steps_of (trace (channel_of listed room) es))
 

@@ -48,11 +48,11 @@ pub record IsUnder (count : ℕ) (spread : Spread) : Type 0 where
   pub leg2 : spread.leg2 < count
 
 -- what it shows of the desk at a place
-abbrev pub shown_there : ℕ → Option Desk → Option Seen
-shown_there packet None = None
-shown_there packet (Some d) = desk_standing packet d
+abbrev pub seen_there : ℕ → Option Desk → Option Seen
+seen_there packet None = None
+seen_there packet (Some d) = desk_standing packet d
 
 -- the line of the calendar spread at these places, where an event ends
 abbrev pub spread_line : ℕ → ℕ → List Desk → Spread → List ℕ
 spread_line packet message desks spread =
-    spread_text packet message (shown_there packet (slice_get desks spread.slot)) (shown_there packet (slice_get desks spread.leg1)) (shown_there packet (slice_get desks spread.leg2))
+    spread_text packet message (seen_there packet (slice_get desks spread.slot)) (seen_there packet (slice_get desks spread.leg1)) (seen_there packet (slice_get desks spread.leg2))

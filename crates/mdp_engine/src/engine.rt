@@ -100,7 +100,7 @@ impl<A: Allocator + Copy, W: Window<Packet<A>> + Drop> Engine<A, W> {
         ensures stands { OnOk result ((listed : List Instrument) (es : List Accepted) (drained : List ℕ) → Stands listed es drained self.old
             → Stands listed (es ++ event_of event ∷ []) drained self.new) }
         ensures under { OnOk result ((listed : List Instrument) (feed : List PacketContent) (es : List Accepted) (drained : List ℕ)
-            → IsHonest (ids_of listed) feed (es ++ event_of event ∷ []) → StandsUnder listed feed es drained self.old
+            → IsHonest listed feed (es ++ event_of event ∷ []) → StandsUnder listed feed es drained self.old
             → StandsUnder listed feed (es ++ event_of event ∷ []) drained self.new) }
         ensures channel { OnOk result (self.new.arbiter.channel ≡ self.old.arbiter.channel) }
         ensures sound { OnOk result (self.new.has_failed ≡ false) }
@@ -234,7 +234,7 @@ pub fn replay<A: Allocator + Copy, W: Window<Packet<A>> + Drop>(
     requires fit { AreFit instruments.now }
     requires first { (W.view window).first ≡ 1 }
     requires empty { (W.view window).held ≡ map.empty }
-    ensures { IfOk result (λ text. (feed : List PacketContent) → IsHonest (ids_of instruments.now) feed (map event_of events.now)
+    ensures { IfOk result (λ text. (feed : List PacketContent) → IsHonest instruments.now feed (map event_of events.now)
         → text.items ≡ lines instruments.now feed
         (steps_of (trace (channel_of instruments.now (W.view window).room) (map event_of events.now)))) }
 {

@@ -28,7 +28,8 @@ pub const REFUSED: u8 = 2;
 /// `input`, writes the text of the run to `output`, and tells what went wrong on `faults`. Answers the exit status:
 /// 0 for a run to the end and for help, 1 where memory ran out or a read or a write of the output failed, and 2 where
 /// the command line or the capture is refused; then nothing is written to `output`. Only where the words ask for a run
-/// is anything read. A write to `faults` that fails is passed over.
+/// is anything read. A run tells a line for each line of the capture that was skipped, then at status 1 why it ended.
+/// Why no run began is told alone. A write to `faults` that fails is passed over.
 pub fn program<I: CountedRead, O: CountedWrite, F: CountedWrite, A: Allocator + Copy>(
     words_alloc: Global,
     alloc: A,
@@ -161,8 +162,10 @@ fn run_capture<O: CountedWrite, F: CountedWrite, A: Allocator + Copy>(
     requires least { 1 ≤ window }
     requires most { window ≤ 65536 }
     ensures status { result ≤ 1 }
-    ensures printed { result ≡ 0 → HasPrinted capture.now window (O.taken output.old) (O.taken output.new) }
-    ensures told { result ≡ 0 → Tells F.failed F.taken faults.old faults.new (skipped_lines capture.now.skipped) }
+    ensures printed { result ≡ 0 →
+        HasPrinted capture.now window (O.taken output.old) (O.taken output.new) }
+    ensures told { result ≡ 0 →
+        Tells F.failed F.taken faults.old faults.new (skipped_lines capture.now.skipped) }
     ensures failed { result ≡ 1 → HasStopped capture.now window (Fails O.failed output.old output.new)
         (O.taken output.old) (O.taken output.new) (Tells F.failed F.taken faults.old faults.new) }
     ensures writes { result ≢ 1 → O.failed output.new ≡ O.failed output.old }

@@ -20,8 +20,8 @@ use Rattle.mdp_arbiter.specs.Machine.{Move, state_at, trace, go_on, is_lost}
 use Rattle.mdp_arbiter.specs.Channel.{Channel, channel_of}
 use Rattle.mdp_arbiter.proofs.Runs.{law_of_fronts}
 use Rattle.mdp_engine.specs.Engine.{View, Stands}
-use Rattle.mdp_desks.specs.Shown.{showed, shown_after, shown_lines}
-use Rattle.mdp_pipeline.specs.declared.run.Run.{Run}
+use Rattle.mdp_desks.specs.Shown.{shown_lines_of_move, shown_lines_after, shown_lines}
+use Rattle.mdp_pipeline.specs.declared.progress.Run.{Run}
 use Rattle.mdp_pipeline.specs.declared.summary.Summary.{Summary}
 use Rattle.mdp_pipeline.specs.declared.summary.RunFault.{RunFault}
 use Rattle.mdp_pipeline.specs.Merge.{Arrival, in_order}
@@ -29,7 +29,7 @@ use Rattle.mdp_pipeline.specs.Reading.{Reading, Said, Says, brings, refused, IsR
 use Rattle.mdp_pipeline.specs.Output.{end_lines, is_lost_after, moves_of, next_after, shown_output}
 use Rattle.mdp_pipeline.specs.RefusalTexts.{RefusalTexts}
 use Rattle.mdp_pipeline.specs.Running.{BeginsAll, PrintsAll, TakesAs, Writes}
-use Rattle.mdp_pipeline.proofs.Ending.{shown_after-append}
+use Rattle.mdp_pipeline.proofs.Ending.{shown_lines_after-append}
 use Rattle.mdp_pipeline.proofs.Written.{HasTaken, taken_more}
 
 -- ---- what records say that were not reached
@@ -86,7 +86,7 @@ text_prints listed room arrivals readings are = record { readings = readings; ar
 abbrev shown_later : List Instrument → ℕ → List Reading → List Reading → List ℕ
 shown_later listed room readings more =
     let moves = moves_of listed room (events_of readings) in
-    shown_after listed moves (go_on (channel_of listed room) (events_of readings) (state_at (channel_of listed room) (events_of readings)) (events_of more))
+    shown_lines_after listed moves (go_on (channel_of listed room) (events_of readings) (state_at (channel_of listed room) (events_of readings)) (events_of more))
 
 shown-front : (listed : List Instrument) (room : ℕ) (readings more : List Reading) → shown_lines listed (moves_of listed room (events_of (readings ++ more))) ≡ shown_lines listed (moves_of listed room (events_of readings)) ++ shown_later listed room readings more
 shown-front listed room readings more =
@@ -94,7 +94,7 @@ shown-front listed room readings more =
     let later = go_on (channel_of listed room) es (state_at (channel_of listed room) es) (events_of more) in
     ap (λ (t : List Event). shown_lines listed (trace (channel_of listed room) t)) (flat_map-append (λ (r : Reading). brought_by r.said) readings more)
     ∙ ap (shown_lines listed) (law_of_fronts (channel_of listed room) es (events_of more))
-    ∙ shown_after-append listed [] (moves_of listed room (events_of readings)) later
+    ∙ shown_lines_after-append listed [] (moves_of listed room (events_of readings)) later
 
 -- ---- a beginning
 

@@ -9,7 +9,7 @@ use Rattle.mdp_arbiter.specs.Accepted.{Event}
 use Rattle.mdp_engine.specs.Engine.{View, Stands}
 use Rattle.mdp_lanes.specs.Queues.{IntakeReceiverView}
 use Rattle.mdp_pipeline.specs.declared.batch.Batch.{Batch}
-use Rattle.mdp_pipeline.specs.declared.run.Run.{Run}
+use Rattle.mdp_pipeline.specs.declared.progress.Run.{Run}
 use Rattle.mdp_pipeline.specs.declared.summary.RunFault.{RunFault}
 use Rattle.mdp_pipeline.specs.Collecting.{HasTakenMore, ShowsMore, StopsWithin, events_taken}
 use Rattle.mdp_pipeline.specs.Readers.{batch_events}

@@ -7,9 +7,9 @@ use Rattle.mdp_arbiter.specs.Accepted.{Event}
 use Rattle.mdp_arbiter.specs.Channel.{Channel, channel_of}
 use Rattle.mdp_arbiter.specs.Machine.{Move, go_on, is_lost, state_at, trace}
 use Rattle.mdp_arbiter.proofs.Runs.{law_of_fronts}
-use Rattle.mdp_desks.specs.Shown.{showed, shown_after, shown_lines}
+use Rattle.mdp_desks.specs.Shown.{shown_lines_of_move, shown_lines_after, shown_lines}
 use Rattle.mdp_engine.specs.Engine.{View, Stands}
-use Rattle.mdp_pipeline.specs.declared.run.Run.{Run}
+use Rattle.mdp_pipeline.specs.declared.progress.Run.{Run}
 use Rattle.mdp_pipeline.specs.Merge.{Arrival}
 use Rattle.mdp_pipeline.specs.Output.{end_lines, is_lost_after, moves_of, next_after, shown_output}
 use Rattle.mdp_pipeline.specs.Reading.{by_feed, events_of, refusals_text}
@@ -26,25 +26,25 @@ shown_so_far listed room events start taken engine held so_far =
     ∙ ap (λ (c : Channel). shown_lines listed (trace c events)) so_far.channel
 
 -- what the moves show begins with what the first ones show
-pub shown_after-append : (listed : List Instrument) (before moves more : List Move) → shown_after listed before (moves ++ more) ≡ shown_after listed before moves ++ shown_after listed (before ++ moves) more
-shown_after-append listed before [] more = ap (λ (b : List Move). shown_after listed b more) (sym (append-nil before))
-shown_after-append listed before (m ∷ moves) more =
+pub shown_lines_after-append : (listed : List Instrument) (before moves more : List Move) → shown_lines_after listed before (moves ++ more) ≡ shown_lines_after listed before moves ++ shown_lines_after listed (before ++ moves) more
+shown_lines_after-append listed before [] more = ap (λ (b : List Move). shown_lines_after listed b more) (sym (append-nil before))
+shown_lines_after-append listed before (m ∷ moves) more =
     let now = before ++ m ∷ [] in
-    ap (λ (t : List ℕ). showed listed before m ++ t) (shown_after-append listed now moves more)
-    ∙ ap (λ (b : List Move). showed listed before m ++ (shown_after listed now moves ++ shown_after listed b more)) (append_assoc before (m ∷ []) moves)
-    ∙ sym (append_assoc (showed listed before m) (shown_after listed now moves) (shown_after listed (before ++ m ∷ moves) more))
+    ap (λ (t : List ℕ). shown_lines_of_move listed before m ++ t) (shown_lines_after-append listed now moves more)
+    ∙ ap (λ (b : List Move). shown_lines_of_move listed before m ++ (shown_lines_after listed now moves ++ shown_lines_after listed b more)) (append_assoc before (m ∷ []) moves)
+    ∙ sym (append_assoc (shown_lines_of_move listed before m) (shown_lines_after listed now moves) (shown_lines_after listed (before ++ m ∷ moves) more))
 
 -- what more events show
 abbrev shown_later : List Instrument → ℕ → List Event → List Event → List ℕ
 shown_later listed room events more =
     let channel = channel_of listed room in
-    shown_after listed (moves_of listed room events) (go_on channel events (state_at channel events) more)
+    shown_lines_after listed (moves_of listed room events) (go_on channel events (state_at channel events) more)
 
 shown_front : (listed : List Instrument) (room : ℕ) (events more : List Event) → shown_lines listed (moves_of listed room (events ++ more)) ≡ shown_lines listed (moves_of listed room events) ++ shown_later listed room events more
 shown_front listed room events more =
     let channel = channel_of listed room in
     ap (shown_lines listed) (law_of_fronts channel events more)
-    ∙ shown_after-append listed [] (moves_of listed room events) (go_on channel events (state_at channel events) more)
+    ∙ shown_lines_after-append listed [] (moves_of listed room events) (go_on channel events (state_at channel events) more)
 
 -- of the text that is held so many bytes went out; whatever comes behind these events, it is a beginning of the whole
 pub early : (listed : List Instrument) (room : ℕ) (events more : List Event) (refusals start taken taken' : List ℕ) (engine : View) (held : List ℕ) (n : ℕ) → taken' ≡ taken ++ take n held

@@ -17,7 +17,7 @@ use Rattle.mdp_arbiter.specs.Machine.{state_at, trace, is_lost}
 use Rattle.mdp_arbiter.specs.Channel.{Channel}
 use Rattle.mdp_engine.specs.Engine.{View, Stands}
 use Rattle.mdp_desks.specs.Shown.{shown_lines}
-use Rattle.mdp_pipeline.specs.declared.run.Run.{Run}
+use Rattle.mdp_pipeline.specs.declared.progress.Run.{Run}
 use Rattle.mdp_pipeline.specs.declared.summary.Summary.{Summary}
 use Rattle.mdp_pipeline.specs.declared.summary.RunFault.{RunFault}
 use Rattle.mdp_pipeline.specs.Counted.{HasCounted, counted, written_before}

@@ -8,7 +8,7 @@ use Rattle.mdp_arbiter.specs.Accepted.{Event}
 use Rattle.mdp_lanes.specs.Queues.{IntakeReceiverView, IntakeSenderView, IsFreshSenderOf}
 use Rattle.mdp_pipeline.specs.declared.batch.Batch.{Batch}
 use Rattle.mdp_pipeline.specs.declared.reader.ReaderOutcome.{ReaderOutcome}
-use Rattle.mdp_pipeline.specs.declared.run.Run.{Run}
+use Rattle.mdp_pipeline.specs.declared.progress.Run.{Run}
 use Rattle.mdp_pipeline.specs.Merging.{Tagged}
 use Rattle.mdp_pipeline.specs.Readers.{HasRead, batch_events}
 use Rattle.mdp_pipeline.specs.Running.{EndsEarly, HasShown}

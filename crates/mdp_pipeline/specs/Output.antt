@@ -6,7 +6,7 @@ use Rattle.mdp_print.specs.Texts.{last_line}
 use Rattle.mdp_capture.specs.Record.{RecordContent}
 use Rattle.mdp_arbiter.specs.Accepted.{Event}
 use Rattle.mdp_arbiter.specs.Machine.{Move, is_lost, state_at, trace}
-use Rattle.mdp_arbiter.specs.Channel.{ids_of, channel_of}
+use Rattle.mdp_arbiter.specs.Channel.{channel_of}
 use Rattle.mdp_desks.specs.Shown.{shown_lines}
 use Rattle.mdp_engine.specs.Honest.{IsHonest}
 use Rattle.mdp_engine.specs.Owed.{lines, steps_of}
@@ -48,7 +48,7 @@ pub record Prints (listed : List Instrument) (room : ℕ) (a b s : List RecordCo
   pub next_is : next ≡ next_after listed room (events_in merge)
   pub lost_is : lost ≡ is_lost_after listed room (events_in merge)
   pub shown : text ≡ shown_output listed room (refusals_text readings) (events_in merge)
-  pub owed : (feed : List PacketContent) → IsHonest (ids_of listed) feed (events_in merge) → text ≡ output listed feed room (refusals_text readings) (events_in merge)
+  pub owed : (feed : List PacketContent) → IsHonest listed feed (events_in merge) → text ≡ output listed feed room (refusals_text readings) (events_in merge)
 
 -- What went out of a run that ended early is a beginning of the text that the whole run prints.
 pub record Begins (listed : List Instrument) (room : ℕ) (a b s : List RecordContent) (merge : List Tagged) (start taken : List ℕ) : Type 0 where

@@ -9,7 +9,7 @@ use Rattle.mdp_engine.specs.Engine.{View, Stands}
 use Rattle.mdp_pipeline.specs.Merge.{Arrival}
 use Rattle.mdp_templates.specs.Refused.{FeedKind as Kind}
 use Rattle.mdp_capture.specs.Record.{Received}
-use Rattle.mdp_pipeline.specs.declared.run.Run.{Run}
+use Rattle.mdp_pipeline.specs.declared.progress.Run.{Run}
 use Rattle.mdp_pipeline.specs.Output.{is_lost_after, next_after, shown_output}
 use Rattle.mdp_pipeline.specs.RefusalTexts.{RefusalTexts, with_refusal}
 use Rattle.mdp_pipeline.specs.Reading.{Reading, AreReadings, Said, Says, brings, refused, brought_by, by_feed, events_of, kind_of, readings_on, refusal_lines, refusals_text}

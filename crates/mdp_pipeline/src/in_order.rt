@@ -10,7 +10,7 @@ ghost use Rattle.mdp_templates.specs.declared.instrument.Instrument.{Instrument}
 ghost use Rattle.mdp_arbiter.specs.Accepted.{Event};
 
 use crate::merge::InOrder;
-use crate::run::Run;
+use crate::progress::Run;
 use crate::summary::{RunFault, Summary};
 use mdp_capture::Record;
 use mdp_print::{CountedWrite, write_all_counted};

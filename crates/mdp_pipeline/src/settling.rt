@@ -12,9 +12,9 @@ ghost use Rattle.mdp_pipeline.specs.Running.{EndsEarly, HasShown};
 
 use crate::batch::Batch;
 use crate::in_order::finish;
+use crate::progress::Run;
 use crate::reader::ReaderOutcome;
 use crate::refusals::Refusals;
-use crate::run::Run;
 use crate::summary::{RunFault, Summary};
 use crate::taking::Taker;
 use mdp_capture::Record;

@@ -11,7 +11,7 @@ ghost use Rattle.mdp_pipeline.specs.Running.{GoesOn};
 use crate::batch::Batch;
 use crate::gate::Gate;
 use crate::in_order::hand_on_pieces;
-use crate::run::Run;
+use crate::progress::Run;
 use crate::summary::RunFault;
 use mdp_engine::Event;
 use mdp_lanes::IntakeReceiver;

@@ -12,8 +12,8 @@ ghost use Rattle.mdp_pipeline.specs.Readers.{HasRead, has_ended};
 
 use crate::batch::Batch;
 use crate::gate::Gate;
+use crate::progress::Run;
 use crate::reader::{ReaderOutcome, read_feed};
-use crate::run::Run;
 use crate::settling::{Readers, settle_alone, settle_and_finish};
 use crate::summary::{RunFault, Summary};
 use crate::taking::{Taker, collect};

@@ -2,9 +2,10 @@
 
 ghost use Rattle.std.specs.Prelude.{◌≡◌, ◌≤◌, ◌+◌, ◌++◌, length};
 ghost use Rattle.mdp_books.specs.Side.{HaveSizes};
-ghost use Rattle.mdp_quotes.specs.Computed.{consolidated};
+ghost use Rattle.mdp_quotes.specs.Computed.{consolidated_side};
+ghost use Rattle.mdp_quotes.specs.Entering.{most_levels};
 
-use crate::total::{Total, Way, enter_all};
+use crate::total::{MOST_LEVELS, Total, Way, enter_all};
 use arrayvec::ArrayVec;
 use mdp_books::{Book, Sides};
 use mdp_templates::Level;
@@ -13,8 +14,8 @@ use std::marker::Model;
 /// The totals of a good book's bids and offers, direct and implied together, seen as those two lists.
 #[derive(Drop)]
 pub struct Consolidated {
-    bids: ArrayVec<Total, 12>,
-    offers: ArrayVec<Total, 12>,
+    bids: ArrayVec<Total, MOST_LEVELS>,
+    offers: ArrayVec<Total, MOST_LEVELS>,
 }
 
 impl Model for Consolidated {
@@ -26,11 +27,11 @@ impl Model for Consolidated {
 }
 
 // Each price of a direct and an implied side once, with the sum of its sizes.
-fn side_of(way: Way, direct: &[Level], implied: &[Level]) -> ArrayVec<Total, 12>
-    requires few { length direct.now + length implied.now ≤ 12 }
+fn side_of(way: Way, direct: &[Level], implied: &[Level]) -> ArrayVec<Total, MOST_LEVELS>
+    requires few { length direct.now + length implied.now ≤ most_levels }
     requires direct_sizes { HaveSizes direct.now }
     requires implied_sizes { HaveSizes implied.now }
-    ensures { result.items ≡ consolidated way (direct.now ++ implied.now) }
+    ensures { result.items ≡ consolidated_side way (direct.now ++ implied.now) }
 {
     let mut totals = ArrayVec::new();
     enter_all(&mut totals, way, direct);

@@ -4,11 +4,14 @@ ghost use Rattle.std.specs.Prelude.{◌≡◌, ◌<◌, ◌≤◌, length, slice
 ghost use Rattle.std.specs.List.{prefix_len};
 ghost use Rattle.mdp_books.specs.Side.{HaveSizes};
 ghost use Rattle.mdp_quotes.specs.Order.{is_ahead, AreInOrder};
-ghost use Rattle.mdp_quotes.specs.Entering.{entered, entered_all, is_before, has_price, total_of, with, IsSmall, HasRoom};
+ghost use Rattle.mdp_quotes.specs.Entering.{with_level, with_levels, is_before, has_price, total_of, with, IsSmall, HasRoom};
 ghost use Rattle.mdp_quotes.specs.declared.total.Total.{Total};
 
 use arrayvec::ArrayVec;
-use mdp_templates::Level;
+use mdp_templates::{DIRECT_DEPTH, IMPLIED_DEPTH, Level};
+
+/// How many levels a direct and an implied side have at most together.
+pub const MOST_LEVELS: usize = DIRECT_DEPTH + IMPLIED_DEPTH;
 
 /// How the prices of a side run from its best level on: bids fall and offers rise.
 #[derive(Clone, Copy, Debug, PartialEq, Eq)]
@@ -93,7 +96,7 @@ fn with(total: &Total, level: &Level) -> Total
 }
 
 // Adds a level's size to the total there.
-fn add_at(totals: &mut ArrayVec<Total, 12>, at: usize, level: &Level)
+fn add_at(totals: &mut ArrayVec<Total, MOST_LEVELS>, at: usize, level: &Level)
     requires inside { at < length totals.old.items }
     requires small { IsSmall 1 (slice_index_or totals.old.items at zero_total) }
     ensures { totals.new.items ≡ slice_set totals.old.items at (with level.now (slice_index_or totals.old.items at zero_total)) }
@@ -105,9 +108,9 @@ fn add_at(totals: &mut ArrayVec<Total, 12>, at: usize, level: &Level)
 ghost use Rattle.mdp_quotes.specs.Entering.{zero_total};
 
 // Adds a level's size at its price.
-fn enter(totals: &mut ArrayVec<Total, 12>, way: Way, level: &Level)
+fn enter(totals: &mut ArrayVec<Total, MOST_LEVELS>, way: Way, level: &Level)
     requires { HasRoom way 1 totals.old.items }
-    ensures { totals.new.items ≡ entered way level.now totals.old.items }
+    ensures { totals.new.items ≡ with_level way level.now totals.old.items }
 {
     let at = place_of(totals.as_slice(), way, level);
     if has_price(totals.as_slice(), at, level) {
@@ -118,10 +121,10 @@ fn enter(totals: &mut ArrayVec<Total, 12>, way: Way, level: &Level)
 }
 
 /// Adds the size of each level at its price.
-pub fn enter_all(totals: &mut ArrayVec<Total, 12>, way: Way, levels: &[Level])
+pub fn enter_all(totals: &mut ArrayVec<Total, MOST_LEVELS>, way: Way, levels: &[Level])
     requires sizes { HaveSizes levels.now }
     requires room { HasRoom way (length levels.now) totals.old.items }
-    ensures { totals.new.items ≡ entered_all way levels.now totals.old.items }
+    ensures { totals.new.items ≡ with_levels way levels.now totals.old.items }
 {
     for level in levels {
         enter(totals, way, level);

@@ -22,7 +22,7 @@ use Rattle.mdp_templates.specs.declared.entry.Kind.TheVariants as kinds
 use Rattle.mdp_templates.specs.declared.quote.Quote.{Quote}
 use Rattle.mdp_templates.specs.declared.template.Template.{Template}
 use Rattle.mdp_templates.specs.declared.template.Template.TheVariants as templates
-use Rattle.mdp_templates.specs.Entry.{entry_of}
+use Rattle.mdp_templates.specs.Entry.{entry_of, direct_depth, implied_depth}
 use Rattle.mdp_templates.specs.Packet.{MessageContent, PacketContent}
 use Rattle.mdp_templates.specs.Snapshot.{SnapshotContent}
 use Rattle.mdp_templates.specs.Layout.{AreEntries, AreRefusedEntries, IsLaidOut, IsRefusedLayout}
@@ -313,10 +313,10 @@ four_sides root quotes (inl bids) (inl offers) (inl implied_bids) (inl implied_o
 sides_behind : (root : List ℕ) (texts : List (List ℕ)) (quotes : List (Option Quote)) → AreEntries quote_in texts quotes → FourSides root quotes
 sides_behind root texts quotes good =
     four_sides root quotes
-    (side_or_none kinds.Bid quotes 10 (are_shallow kinds.Bid texts quotes good))
-    (side_or_none kinds.Offer quotes 10 (are_shallow kinds.Offer texts quotes good))
-    (side_or_none kinds.ImpliedBid quotes 2 (are_shallow kinds.ImpliedBid texts quotes good))
-    (side_or_none kinds.ImpliedOffer quotes 2 (are_shallow kinds.ImpliedOffer texts quotes good))
+    (side_or_none kinds.Bid quotes direct_depth (are_shallow kinds.Bid texts quotes good))
+    (side_or_none kinds.Offer quotes direct_depth (are_shallow kinds.Offer texts quotes good))
+    (side_or_none kinds.ImpliedBid quotes implied_depth (are_shallow kinds.ImpliedBid texts quotes good))
+    (side_or_none kinds.ImpliedOffer quotes implied_depth (are_shallow kinds.ImpliedOffer texts quotes good))
 
 snapshot_fault : (message : Parts) (r : Refusal) → IsRefusedSnapshot message r → IsRefusedLayout quote_in 16 22 message r ⊎ ((p : List ℕ × List (Option Quote)) × IsLaidOut quote_in 16 22 message p.0 p.1 × (HasBadSide p.1 × (r ≡ refusals.SnapshotLevels)))
 snapshot_fault message r (in_layout bad) = inl bad

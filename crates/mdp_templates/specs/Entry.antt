@@ -19,12 +19,18 @@ kind_of n = if n == 48 then Ok kinds.Bid else (if n == 49 then Ok kinds.Offer el
 abbrev pub action_of : ℕ → Result Action Refusal
 action_of n = if n == 0 then Ok actions.New else (if n == 1 then Ok actions.Change else (if n == 2 then Ok actions.Delete else Err refusals.Action))
 
--- how many levels a side has at most: ten where it is direct, two where it is implied
+-- how many levels a side has at most, where it is direct and where it is implied
+abbrev pub direct_depth : ℕ
+direct_depth = 10
+
+abbrev pub implied_depth : ℕ
+implied_depth = 2
+
 abbrev pub depth_of : Kind → ℕ
-depth_of kinds.Bid = 10
-depth_of kinds.Offer = 10
-depth_of kinds.ImpliedBid = 2
-depth_of kinds.ImpliedOffer = 2
+depth_of kinds.Bid = direct_depth
+depth_of kinds.Offer = direct_depth
+depth_of kinds.ImpliedBid = implied_depth
+depth_of kinds.ImpliedOffer = implied_depth
 
 abbrev pub level_of : Kind → ℕ → Result ℕ Refusal
 level_of kind n = if n == 0 then Err refusals.Level else (if nat_lt (depth_of kind) n then Err refusals.Level else Ok n)
@@ -36,10 +42,10 @@ quote_of price size =
     else (if int_eq size (pos 2147483647) || int_lt size (pos 0) then Err refusals.Size else Ok (record { price = price; size = size }))
 
 -- with a delete the price and the size are not looked at
-abbrev pub quoted : Action → ℤ → ℤ → Result Level Refusal
-quoted actions.New price size = quote_of price size
-quoted actions.Change price size = quote_of price size
-quoted actions.Delete price size = Ok (record { price = price; size = size })
+abbrev pub action_quote : Action → ℤ → ℤ → Result Level Refusal
+action_quote actions.New price size = quote_of price size
+action_quote actions.Change price size = quote_of price size
+action_quote actions.Delete price size = Ok (record { price = price; size = size })
 
 -- the entry that a text of at least 27 bytes is, or the first refusal that holds
 unfoldable pub entry_of : List ℕ → Result Entry Refusal
@@ -47,5 +53,5 @@ entry_of text = do
   kind ← kind_of (slice_index text 26)
   action ← action_of (slice_index text 25)
   level ← level_of kind (slice_index text 24)
-  quote ← quoted action (int64_at 0 text) (int32_at 8 text)
+  quote ← action_quote action (int64_at 0 text) (int32_at 8 text)
   Ok (record { security = int32_at 12 text; kind = kind; action = action; level = level; price = quote.price; size = quote.size })

@@ -1,10 +1,16 @@
 //! One entry of a book message.
 
 ghost use Rattle.std.specs.Prelude.{◌≡◌, ◌≤◌, length};
-ghost use Rattle.mdp_templates.specs.Entry.{kind_of, action_of, level_of, quote_of, quoted, entry_of};
+ghost use Rattle.mdp_templates.specs.Entry.{kind_of, action_of, level_of, quote_of, action_quote, entry_of};
 
 use crate::layout::GroupEntry;
 use mdp_sbe::{Refusal, i32_at, i64_at};
+
+/// How many levels a direct side has at most.
+pub const DIRECT_DEPTH: usize = 10;
+
+/// How many levels an implied side has at most.
+pub const IMPLIED_DEPTH: usize = 2;
 
 /// The side of the book that an entry is for: bids or offers, direct or implied.
 #[derive(Clone, Copy, Debug, PartialEq, Eq)]
@@ -37,7 +43,8 @@ pub struct Entry {
     pub security: i32,
     pub kind: Kind,
     pub action: Action,
-    /// The position that the entry is for: 1 is the best, at most 10, at most 2 on an implied side.
+    /// The position that the entry is for: 1 is the best, at most [`DIRECT_DEPTH`], on an implied side
+    /// at most [`IMPLIED_DEPTH`].
     pub level: u8,
     pub price: i64,
     pub size: i32,
@@ -78,10 +85,10 @@ pub(crate) fn read_position(kind: Kind, level: u8) -> Result<u8, Refusal>
     ensures { result ≡ level_of kind level }
 {
     let depth = match kind {
-        Kind::Bid | Kind::Offer => 10,
-        Kind::ImpliedBid | Kind::ImpliedOffer => 2,
+        Kind::Bid | Kind::Offer => DIRECT_DEPTH,
+        Kind::ImpliedBid | Kind::ImpliedOffer => IMPLIED_DEPTH,
     };
-    if level == 0 || level > depth {
+    if level == 0 || usize::from(level) > depth {
         return Err(Refusal::Level);
     }
     Ok(level)
@@ -102,7 +109,7 @@ pub(crate) fn read_level(price: i64, size: i32) -> Result<Level, Refusal>
 
 // With a delete the price and the size are not looked at.
 fn read_quoted(action: Action, price: i64, size: i32) -> Result<Level, Refusal>
-    ensures { result ≡ quoted action price size }
+    ensures { result ≡ action_quote action price size }
 {
     match action {
         Action::New | Action::Change => read_level(price, size),

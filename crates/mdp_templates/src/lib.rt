@@ -16,7 +16,7 @@ mod side;
 mod snapshot;
 mod template;
 
-pub use entry::{Action, Entry, Kind, Level};
+pub use entry::{Action, DIRECT_DEPTH, Entry, IMPLIED_DEPTH, Kind, Level};
 pub use fault::{Fault, Memory};
 pub use feed::Feed;
 pub use incremental::read_packet;

@@ -4,12 +4,13 @@ ghost use Rattle.std.specs.Prelude.{◌≡◌, [], ◌≤◌, length, IfOk, IfEr
 ghost use Rattle.mdp_sbe.specs.Framing.{parts, AreRefused};
 ghost use Rattle.mdp_templates.specs.Answer.{OnRefusal};
 ghost use Rattle.mdp_templates.specs.declared.entry.Kind.TheVariants as kinds;
+ghost use Rattle.mdp_templates.specs.Entry.{direct_depth, implied_depth};
 ghost use Rattle.mdp_templates.specs.Recovery.{IsWhole, HasBadSide, IsSnapshot, IsRefusedSnapshot, IsRecovery, IsRefusedRecovery, Give, AreSnapshots};
 ghost use Rattle.mdp_templates.specs.Side.{AreShallow};
 ghost use Rattle.mdp_templates.specs.Refused.{IsRefusedAs};
 ghost use Rattle.mdp_templates.specs.Refused.FeedKind.{recovery};
 
-use crate::entry::Kind;
+use crate::entry::{DIRECT_DEPTH, IMPLIED_DEPTH, Kind};
 use crate::fault::Fault;
 use crate::layout::read_layout;
 use crate::quote::Quote;
@@ -27,19 +28,19 @@ const ROOT_LENGTH: u16 = 16;
 // The snapshot of a root block and of entries, or nothing where the levels of a side are bad.
 fn snapshot_of(root: &[u8], quotes: &[Option<Quote>]) -> Option<Snapshot>
     requires long { 16 ≤ length root.now }
-    requires bids { AreShallow kinds.Bid 10 quotes.now }
-    requires offers { AreShallow kinds.Offer 10 quotes.now }
-    requires implied_bids { AreShallow kinds.ImpliedBid 2 quotes.now }
-    requires implied_offers { AreShallow kinds.ImpliedOffer 2 quotes.now }
+    requires bids { AreShallow kinds.Bid direct_depth quotes.now }
+    requires offers { AreShallow kinds.Offer direct_depth quotes.now }
+    requires implied_bids { AreShallow kinds.ImpliedBid implied_depth quotes.now }
+    requires implied_offers { AreShallow kinds.ImpliedOffer implied_depth quotes.now }
     ensures some { IfSome result (IsWhole root.now quotes.now) }
     ensures none { IfNone result (HasBadSide quotes.now) }
 {
     let last = u32_at(root, 0);
     let security = i32_at(root, 8);
-    let bids = gather::<10>(quotes, Kind::Bid)?;
-    let offers = gather::<10>(quotes, Kind::Offer)?;
-    let implied_bids = gather::<2>(quotes, Kind::ImpliedBid)?;
-    let implied_offers = gather::<2>(quotes, Kind::ImpliedOffer)?;
+    let bids = gather::<DIRECT_DEPTH>(quotes, Kind::Bid)?;
+    let offers = gather::<DIRECT_DEPTH>(quotes, Kind::Offer)?;
+    let implied_bids = gather::<IMPLIED_DEPTH>(quotes, Kind::ImpliedBid)?;
+    let implied_offers = gather::<IMPLIED_DEPTH>(quotes, Kind::ImpliedOffer)?;
     Some(Snapshot::new(security, last, bids, offers, implied_bids, implied_offers))
 }
 

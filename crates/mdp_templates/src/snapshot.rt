@@ -1,9 +1,10 @@
 //! Snapshots of the market recovery feed.
 
 ghost use Rattle.std.specs.Prelude.{◌≡◌, ◌≤◌, length};
+ghost use Rattle.mdp_templates.specs.Entry.{direct_depth, implied_depth};
 ghost use Rattle.mdp_templates.specs.Snapshot.{SnapshotContent};
 
-use crate::entry::Level;
+use crate::entry::{DIRECT_DEPTH, IMPLIED_DEPTH, Level};
 use arrayvec::ArrayVec;
 use std::marker::Model;
 
@@ -12,10 +13,10 @@ use std::marker::Model;
 pub struct Snapshot {
     security: i32,
     last: u32,
-    bids: ArrayVec<Level, 10>,
-    offers: ArrayVec<Level, 10>,
-    implied_bids: ArrayVec<Level, 2>,
-    implied_offers: ArrayVec<Level, 2>,
+    bids: ArrayVec<Level, DIRECT_DEPTH>,
+    offers: ArrayVec<Level, DIRECT_DEPTH>,
+    implied_bids: ArrayVec<Level, IMPLIED_DEPTH>,
+    implied_offers: ArrayVec<Level, IMPLIED_DEPTH>,
 }
 
 impl Model for Snapshot {
@@ -38,10 +39,10 @@ impl Snapshot {
     pub fn new(
         security: i32,
         last: u32,
-        bids: ArrayVec<Level, 10>,
-        offers: ArrayVec<Level, 10>,
-        implied_bids: ArrayVec<Level, 2>,
-        implied_offers: ArrayVec<Level, 2>,
+        bids: ArrayVec<Level, DIRECT_DEPTH>,
+        offers: ArrayVec<Level, DIRECT_DEPTH>,
+        implied_bids: ArrayVec<Level, IMPLIED_DEPTH>,
+        implied_offers: ArrayVec<Level, IMPLIED_DEPTH>,
     ) -> Snapshot
         ensures { result ≡ record {
           security = security;
@@ -79,7 +80,7 @@ impl Snapshot {
     /// The direct bids.
     pub fn bids(&self) -> &[Level]
         ensures items { result.now ≡ self.now.bids }
-        ensures few { length self.now.bids ≤ 10 }
+        ensures few { length self.now.bids ≤ direct_depth }
     {
         self.bids.as_slice()
     }
@@ -87,7 +88,7 @@ impl Snapshot {
     /// The direct offers.
     pub fn offers(&self) -> &[Level]
         ensures items { result.now ≡ self.now.offers }
-        ensures few { length self.now.offers ≤ 10 }
+        ensures few { length self.now.offers ≤ direct_depth }
     {
         self.offers.as_slice()
     }
@@ -95,7 +96,7 @@ impl Snapshot {
     /// The implied bids.
     pub fn implied_bids(&self) -> &[Level]
         ensures items { result.now ≡ self.now.implied_bids }
-        ensures few { length self.now.implied_bids ≤ 2 }
+        ensures few { length self.now.implied_bids ≤ implied_depth }
     {
         self.implied_bids.as_slice()
     }
@@ -103,7 +104,7 @@ impl Snapshot {
     /// The implied offers.
     pub fn implied_offers(&self) -> &[Level]
         ensures items { result.now ≡ self.now.implied_offers }
-        ensures few { length self.now.implied_offers ≤ 2 }
+        ensures few { length self.now.implied_offers ≤ implied_depth }
     {
         self.implied_offers.as_slice()
     }

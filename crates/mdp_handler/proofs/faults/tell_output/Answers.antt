@@ -1,4 +1,4 @@
-use Rattle.std.proofs.Common.{◌≡◌, ◌++◌, rules, subst, append-nil}
+use Rattle.std.proofs.Common.{◌≡◌, rules, subst, append-nil}
 use Rattle.mdp_handler.specs.Faults.{Tells, output_line}
 use Rattle.mdp_handler.proofs.faults.tell_output.Goals as goal
 

@@ -1,4 +1,4 @@
-use Rattle.std.proofs.Common.{◌≡◌, inl, inr, arith}
+use Rattle.std.proofs.Common.{inl, inr, arith}
 use Rattle.mdp_handler.proofs.program.program.Goals as goal
 
 -- the words have a fault, since want of memory has status 1

@@ -3,6 +3,7 @@ use Rattle.std.proofs.lemmas.Result.{err_from_is_err_and}
 use Rattle.mdp_sbe.specs.Framing.{parts}
 use Rattle.mdp_templates.specs.declared.entry.Kind.TheVariants as kinds
 use Rattle.mdp_templates.specs.declared.quote.Quote.{Quote}
+use Rattle.mdp_templates.specs.Entry.{direct_depth, implied_depth}
 use Rattle.mdp_templates.specs.Recovery.{HasBadSide}
 use Rattle.mdp_templates.specs.Recovery.IsRefusedSnapshot.{in_sides}
 use Rattle.mdp_templates.specs.Side.{AreShallow}
@@ -16,16 +17,16 @@ returns-in_err-root-clause-refused g c =
     rw (p.1, p.2) (refused_snapshot (parts c.args.message.now) c.in_err-root.field-0.0 c.in_err-root.ensures.refused)
 
 pub snapshot_of-requires-clause-bids : goal.snapshot_of-requires-clause-bids
-snapshot_of-requires-clause-bids g c = subst (λ (qs : List (Option Quote)). AreShallow kinds.Bid 10 qs) (sym c.deref.ensures.value) (are_shallow kinds.Bid c.in_ok-root.ensures.ok.texts c.in_ok-root.quotes.items c.in_ok-root.ensures.ok.each)
+snapshot_of-requires-clause-bids g c = subst (λ (qs : List (Option Quote)). AreShallow kinds.Bid direct_depth qs) (sym c.deref.ensures.value) (are_shallow kinds.Bid c.in_ok-root.ensures.ok.texts c.in_ok-root.quotes.items c.in_ok-root.ensures.ok.each)
 
 pub snapshot_of-requires-clause-offers : goal.snapshot_of-requires-clause-offers
-snapshot_of-requires-clause-offers g c = subst (λ (qs : List (Option Quote)). AreShallow kinds.Offer 10 qs) (sym c.deref.ensures.value) (are_shallow kinds.Offer c.in_ok-root.ensures.ok.texts c.in_ok-root.quotes.items c.in_ok-root.ensures.ok.each)
+snapshot_of-requires-clause-offers g c = subst (λ (qs : List (Option Quote)). AreShallow kinds.Offer direct_depth qs) (sym c.deref.ensures.value) (are_shallow kinds.Offer c.in_ok-root.ensures.ok.texts c.in_ok-root.quotes.items c.in_ok-root.ensures.ok.each)
 
 pub snapshot_of-requires-clause-implied_bids : goal.snapshot_of-requires-clause-implied_bids
-snapshot_of-requires-clause-implied_bids g c = subst (λ (qs : List (Option Quote)). AreShallow kinds.ImpliedBid 2 qs) (sym c.deref.ensures.value) (are_shallow kinds.ImpliedBid c.in_ok-root.ensures.ok.texts c.in_ok-root.quotes.items c.in_ok-root.ensures.ok.each)
+snapshot_of-requires-clause-implied_bids g c = subst (λ (qs : List (Option Quote)). AreShallow kinds.ImpliedBid implied_depth qs) (sym c.deref.ensures.value) (are_shallow kinds.ImpliedBid c.in_ok-root.ensures.ok.texts c.in_ok-root.quotes.items c.in_ok-root.ensures.ok.each)
 
 pub snapshot_of-requires-clause-implied_offers : goal.snapshot_of-requires-clause-implied_offers
-snapshot_of-requires-clause-implied_offers g c = subst (λ (qs : List (Option Quote)). AreShallow kinds.ImpliedOffer 2 qs) (sym c.deref.ensures.value) (are_shallow kinds.ImpliedOffer c.in_ok-root.ensures.ok.texts c.in_ok-root.quotes.items c.in_ok-root.ensures.ok.each)
+snapshot_of-requires-clause-implied_offers g c = subst (λ (qs : List (Option Quote)). AreShallow kinds.ImpliedOffer implied_depth qs) (sym c.deref.ensures.value) (are_shallow kinds.ImpliedOffer c.in_ok-root.ensures.ok.texts c.in_ok-root.quotes.items c.in_ok-root.ensures.ok.each)
 
 pub returns-clause-refused : goal.returns-clause-refused
 returns-clause-refused g c =

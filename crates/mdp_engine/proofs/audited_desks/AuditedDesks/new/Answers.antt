@@ -1,9 +1,8 @@
-use Rattle.std.proofs.Common.{◌≡◌, ap, sym, subst, ◌∙◌}
+use Rattle.std.proofs.Common.{ap, sym, subst, ◌∙◌}
 use Rattle.mdp_templates.specs.declared.instrument.Instrument.{Instrument}
 use Rattle.std.specs.Prelude.{List}
 use Rattle.mdp_desks.specs.Beside.{listed_in}
 use Rattle.mdp_arbiter.specs.Channel.{ids_of}
-use Rattle.mdp_desks.specs.Desks.{desk_at_start}
 use Rattle.mdp_desks.proofs.Hearing.{start_listed, ids_differ}
 use Rattle.mdp_engine.specs.Spreads.{AreSpreadsOf, spreads_from}
 use Rattle.mdp_engine.proofs.audited_desks.AuditedDesks.new.Goals as goal

@@ -1,7 +1,7 @@
 use Rattle.std.proofs.Common.{◌≡◌, map, take}
 use Rattle.mdp_arbiter.specs.Accepted.{recovered}
 use Rattle.mdp_pipeline.specs.Running.{GoesOn}
-use Rattle.mdp_pipeline.proofs.run.Run.recover.Given as goal
+use Rattle.mdp_pipeline.proofs.progress.Run.recover.Given as goal
 
 -- the snapshots so far were taken in
 abbrev pub invariant-loop-snapshot : goal.invariant-loop-snapshot

@@ -1,6 +1,6 @@
 use Rattle.mdp_engine.specs.Steps.{event_of}
 use Rattle.mdp_pipeline.proofs.Going.{goes_one}
-use Rattle.mdp_pipeline.proofs.run.Run.on.Goals as goal
+use Rattle.mdp_pipeline.proofs.progress.Run.on.Goals as goal
 
 pub returns-clause-goes : goal.returns-clause-goes
 returns-clause-goes g c =

@@ -1,6 +1,6 @@
 use Rattle.std.proofs.Common.{◌∙◌}
 use Rattle.mdp_pipeline.proofs.Written.{recovered_more}
-use Rattle.mdp_pipeline.proofs.run.Run.recover.Goals as goal
+use Rattle.mdp_pipeline.proofs.progress.Run.recover.Goals as goal
 
 pub loop-snapshot-preserved : goal.loop-snapshot-preserved
 loop-snapshot-preserved g c = record {
