@@ -34,7 +34,7 @@ abbrev pub footings_through : List Instrument → List Footing → Step → List
 footings_through listed so_far (pass k) = so_far
 footings_through listed so_far (jump old new bases) = footings_at_jump listed bases
 
--- what the last jump of these steps bears
+-- each listed security's base after these steps
 abbrev pub footings : List Instrument → List Step → List Footing
 footings listed steps = fold (footings_through listed) (footings_before_jump listed) steps
 
