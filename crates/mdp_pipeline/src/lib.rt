@@ -13,6 +13,8 @@ mod refusals;
 mod settling;
 mod summary;
 mod taking;
+#[cfg(test)]
+mod tests;
 mod threads;
 
 pub use decoding::{Decoded, read_record};
