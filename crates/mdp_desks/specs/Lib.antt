@@ -8,3 +8,4 @@ pub mod Moments
 pub mod Shares
 pub mod Reports
 pub mod ShareLaws
+pub mod ToldCode

@@ -1,12 +1,14 @@
 //! A listed security: its book, moved forward in place, and its mark.
 
-ghost use Rattle.std.specs.Prelude.{◌≡◌, ◌++◌, OnOk};
+ghost use Rattle.std.specs.Prelude.{◌≡◌, ◌++◌, IfOk, OnOk};
 ghost use Rattle.mdp_desks.specs.Desks.{desk_at_start, desk_entered, desk_jumped, desk_rebased, desk_settled, desk_standing};
 ghost use Rattle.mdp_desks.specs.Lines.{text_of};
+ghost use Rattle.mdp_desks.specs.Reports.{told_list, told_there};
 
 use crate::lines::put_book;
+use crate::told::ToldSecurity;
 use mdp_books::Place;
-use mdp_quotes::Live;
+use mdp_quotes::{Best, Live};
 use mdp_templates::{Entry, Instrument, Memory, Snapshot};
 use std::alloc::Allocator;
 
@@ -84,5 +86,33 @@ impl Desk {
             put_book(out, packet, message, name, &self.book)?;
         }
         Ok(())
+    }
+
+    /// Tells what an event end in message `message` of packet `packet` shows of the security, which stands at this place; none where
+    /// it is not printed there.
+    ///
+    /// # Errors
+    ///
+    /// Memory ran out.
+    pub fn tell<A: Allocator + Copy>(
+        &self,
+        alloc: A,
+        packet: u32,
+        message: u64,
+        slot: u16,
+    ) -> Result<Option<ToldSecurity<A>>, Memory>
+        ensures { IfOk result (λ told. told_list told ≡ told_there packet message slot (desk_standing packet self.now)) }
+    {
+        if packet <= self.base {
+            return Ok(None);
+        }
+        if !self.marked {
+            return Ok(None);
+        }
+        let mut lines = Vec::new(alloc);
+        let name = self.instrument.name.as_str().as_bytes();
+        put_book(&mut lines, packet, message, name, &self.book)?;
+        let best = Best::of(self.book.book());
+        Ok(Some(ToldSecurity::new(slot, lines, best)))
     }
 }
