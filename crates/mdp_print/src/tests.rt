@@ -1,13 +1,13 @@
 //! The texts of the lines, writers that fail, and allocations that are refused.
 
 use crate::{
-    CountedWrite, Counting, Feed, put_audit, put_consolidated, put_direct, put_fault, put_implied,
+    CountedWrite, Counting, put_audit, put_consolidated, put_direct, put_fault, put_implied,
     put_jump, put_last, put_refusal, write_all_counted,
 };
 use mdp_books::Place;
 use mdp_quotes::{Total, Verdict};
 use mdp_sbe::Refusal;
-use mdp_templates::{Level, Memory};
+use mdp_templates::{Feed, Level, Memory};
 use refusing::Refusing;
 use std::alloc::{Allocator, Global};
 use std::io;
