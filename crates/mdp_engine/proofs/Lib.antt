@@ -12,3 +12,4 @@ pub mod Telling
 pub mod Collecting
 pub mod Ascending
 pub mod Batching
+pub mod Marking

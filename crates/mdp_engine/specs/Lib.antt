@@ -7,3 +7,4 @@ pub mod Engine
 pub mod Steps
 pub mod Rounds
 pub mod RoundLaws
+pub mod Marks

@@ -3,6 +3,7 @@
 ghost use Rattle.mdp_engine.specs.Agreed.{ShowsWhatIsOwed};
 ghost use Rattle.mdp_engine.specs.Engine.{StandsAlike};
 ghost use Rattle.mdp_engine.specs.Honest.{HonestMovesAgree, LawOfHonestFeeds};
+ghost use Rattle.mdp_engine.specs.Marks.{LawOfMarks};
 ghost use Rattle.mdp_engine.specs.RoundLaws.{LawOfAscent, LawOfBatches, LawOfCuts, LawOfFirstRounds, LawOfRuns, LawOfWorkers};
 
 /// Moves that are a complete feed's show exactly the lines that the feed owes.
@@ -26,6 +27,11 @@ pub fn stands_alike()
 /// no snapshot is of a listed security.
 pub fn honest_feeds_exist()
     ensures { LawOfHonestFeeds }
+{}
+
+/// When a security is due can be read off the whole feed or off what stands behind its base: it is the same.
+pub fn marks_are_the_feeds()
+    ensures { LawOfMarks }
 {}
 
 /// Whatever the number of workers, what the collector makes of their reports is what the moves show.
