@@ -9,7 +9,7 @@ use Rattle.std.proofs.lemmas.List.{length_push}
 use Rattle.mdp_templates.specs.declared.instrument.Instrument.{Instrument}
 use Rattle.mdp_capture.specs.Line.{LineContent, Blank, Listing, Packet, Closing, Skipped, line_of}
 use Rattle.mdp_capture.specs.Capture.{CaptureContent, RefusedLine, add_line, add_lines, and_then, capture_of, has_record, kind_with_id, needs_instrument, next_line, no_capture, refusal_of}
-use Rattle.mdp_capture.specs.Lines.{NumberedLine, numbered, instruments_of, records_on, skipped_of, InstrumentsFirst, IsCaptureOf}
+use Rattle.mdp_capture.specs.Lines.{NumberedLine, line_with_number, instruments_of, records_on, skipped_of, InstrumentsFirst, IsCaptureOf}
 use Rattle.mdp_capture.specs.declared.fault.CaptureRefusal.TheVariants.{NoInstrument}
 use Rattle.mdp_templates.specs.declared.feed.Feed.{Feed}
 use Rattle.mdp_templates.specs.declared.feed.Feed.TheVariants as feeds
@@ -92,7 +92,7 @@ pub next_number : (place : ℕ) → next_line (number_at place) ≡ number_at (p
 next_number place = omega arith
 
 abbrev pub lines_from : ℕ → List (List ℕ) → List NumberedLine
-lines_from place texts = map numbered (enumerate_from place texts)
+lines_from place texts = map line_with_number (enumerate_from place texts)
 
 pub all_lines : (place : ℕ) (texts : List (List ℕ)) (old new : CaptureContent) → add_lines (number_at place) texts old ≡ Ok new → Adds (lines_from place texts) old new
 all_lines place [] old new is = subst (Adds [] old) (same_capture old new is) (no_more old)

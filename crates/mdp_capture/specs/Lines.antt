@@ -18,12 +18,12 @@ pub record NumberedLine : Type 0 where
   pub content : LineContent
 
 -- the line at a place; each line past 4294967295 bears that number
-abbrev pub numbered : ℕ × List ℕ → NumberedLine
-numbered line = record { number = min line.0 4294967295; content = line_of line.1 }
+abbrev pub line_with_number : ℕ × List ℕ → NumberedLine
+line_with_number line = record { number = min line.0 4294967295; content = line_of line.1 }
 
 -- the lines of a text, counted from 1
 abbrev pub numbered_lines : List ℕ → List NumberedLine
-numbered_lines text = map numbered (enumerate_from 1 (lines text))
+numbered_lines text = map line_with_number (enumerate_from 1 (lines text))
 
 -- the instrument of an `I` line
 abbrev pub instruments_in : LineContent → List Instrument

@@ -20,7 +20,7 @@ use Rattle.mdp_desks.specs.Shown.{shown_lines}
 use Rattle.mdp_pipeline.specs.declared.progress.Run.{Run}
 use Rattle.mdp_pipeline.specs.declared.summary.Summary.{Summary}
 use Rattle.mdp_pipeline.specs.declared.summary.RunFault.{RunFault}
-use Rattle.mdp_pipeline.specs.Counted.{HasCounted, counted, written_before}
+use Rattle.mdp_pipeline.specs.Counted.{HasCounted, saturating_count, written_before}
 use Rattle.mdp_pipeline.specs.Merge.{Arrival, in_order}
 use Rattle.mdp_pipeline.specs.Reading.{Reading, Said, brings, refused, IsReading, AreReadings, brought_by, by_feed, events_of, is_on, kind_of, readings_on, refusal_lines, refusal_text, refusals_text}
 use Rattle.mdp_pipeline.specs.Output.{is_lost_after, moves_of, next_after}
@@ -156,7 +156,7 @@ taken_all listed room a b s start taken engine held refusals a' b' s' none so_fa
 pub counted_none : (taken : List ℕ) → HasCounted taken taken 0
 counted_none taken =
     let none : length taken - length taken ≡ 0 = omega arith in
-    record { grown = omega arith; count = sym (ap counted none ∙ zero-min (2 ^ 64 - 1)) }
+    record { grown = omega arith; count = sym (ap saturating_count none ∙ zero-min (2 ^ 64 - 1)) }
 
 pub run_counted : (start taken after : List ℕ) (written : ℕ) (result : Result Summary RunFault)
     → IfOk result (λ (summary : Summary). (start : List ℕ) → HasCounted start taken written → HasCounted start after summary.written)
