@@ -1,12 +1,13 @@
 #!/usr/bin/env bash
 # Runs the rows of tests/rows against a built program: run_rows.sh PROGRAM
 #
-# Prints each row that fails with how it differs, then one line 'N passed, M failed'. The exit status is 1 if any failed.
+# A row with a file `merges` has one text for every merge of its feeds: it is run over threads too, with 1, 2 and 16 workers.
+# Prints each run that fails with how it differs, then one line 'N passed, M failed'. The exit status is 1 if any failed.
 set -u
 
 # How far the program is. A row is run where its file `from` names one of these pieces of work, and, where it has a
 # file `stage`, that file names one of these stages.
-made="first_path capture_text all_templates consolidation two_feeds recovery audit"
+made="first_path capture_text all_templates consolidation two_feeds recovery audit threads"
 stages="base"
 
 if [ $# -ne 1 ] || [ ! -x "$1" ]; then
@@ -50,12 +51,11 @@ show_difference() {
     diff -u --label wanted --label found "$2" "$1" | head -n 20
 }
 
-# Runs the row $1, and prints what differs; nothing where all is as wanted.
+# Runs the row $1 with the words behind it, and prints what differs; nothing where all is as wanted.
 run_row() {
     local row=$1 status wanted text
-    local words=()
-    [ ! -e "$row/args" ] || mapfile -t words <"$row/args"
-    timeout 60 "$program" ${words[@]+"${words[@]}"} <"$row/capture" >"$scratch/out" 2>"$scratch/err"
+    shift
+    timeout 60 "$program" "$@" <"$row/capture" >"$scratch/out" 2>"$scratch/err"
     status=$?
     wanted=$(cat "$row/status")
     [ "$status" = "$wanted" ] || echo "status $status, wanted $wanted"
@@ -73,6 +73,33 @@ run_row() {
     fi
 }
 
+# Judges the row $1 with the words behind it.
+judge() {
+    local row=$1 difference
+    difference=$(run_row "$@")
+    if [ -z "$difference" ]; then
+        passed=$((passed + 1))
+    else
+        failed=$((failed + 1))
+        shift
+        echo "FAILED $(basename "$row") with '$*': $(cat "$row/note")"
+        printf '%s\n' "$difference"
+    fi
+}
+
+# Judges the row $1 over threads, with the words behind it but for --in-order, and 1, 2 and 16 workers.
+judge_over_threads() {
+    local row=$1 word workers
+    local words=()
+    shift
+    for word in "$@"; do
+        [ "$word" = --in-order ] || words+=("$word")
+    done
+    for workers in 1 2 16; do
+        judge "$row" ${words[@]+"${words[@]}"} --workers "$workers"
+    done
+}
+
 passed=0
 failed=0
 off=0
@@ -82,14 +109,10 @@ for row in "$rows"/*/; do
         off=$((off + 1))
         continue
     fi
-    difference=$(run_row "$row")
-    if [ -z "$difference" ]; then
-        passed=$((passed + 1))
-    else
-        failed=$((failed + 1))
-        echo "FAILED $(basename "$row"): $(cat "$row/note")"
-        printf '%s\n' "$difference"
-    fi
+    words=()
+    [ ! -e "$row/args" ] || mapfile -t words <"$row/args"
+    judge "$row" ${words[@]+"${words[@]}"}
+    [ ! -e "$row/merges" ] || judge_over_threads "$row" ${words[@]+"${words[@]}"}
 done
 if [ "$off" -ne 0 ]; then
     echo "not run: $off rows of other stages"

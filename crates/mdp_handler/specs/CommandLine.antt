@@ -80,3 +80,10 @@ pub record AreSettings (words : List Text) (settings : Settings) : Type 0 where
   pub window : IsSetting (codes "window") 65536 1024 words settings.window
   pub workers : IsSetting (codes "workers") 16 2 words settings.workers
   pub in_order : IsFlag (codes "in-order") words settings.in_order
+
+-- a window that covers 1 to 65536 packet numbers, and 1 to 16 workers
+pub record AreLawful (settings : Settings) : Type 0 where
+  pub some_window : 1 ≤ settings.window
+  pub most_window : settings.window ≤ 65536
+  pub some_workers : 1 ≤ settings.workers
+  pub most_workers : settings.workers ≤ 16

@@ -46,7 +46,15 @@ fn main(rt: HostRuntime) -> ExitCode {
         faults::tell_memory(&mut faults);
         return ExitCode::from(program::FAILED);
     };
-    let status = program::program(alloc, alloc, &words, &mut input, &mut output, &mut faults);
+    let status = program::program(
+        &rt,
+        alloc,
+        alloc,
+        &words,
+        &mut input,
+        &mut output,
+        &mut faults,
+    );
     ExitCode::from(status)
 }
 

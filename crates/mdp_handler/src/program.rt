@@ -1,21 +1,25 @@
 //! The program, over any input and outputs.
 
-ghost use Rattle.std.specs.Prelude.{◌≡◌, ◌≢◌, ◌≤◌, ◌<◌, ◌-◌, ◌^◌, ◌++◌, ◌⊎◌, [], ℕ, List};
+ghost use Rattle.std.specs.Prelude.{◌≡◌, ◌≢◌, ◌≤◌, ◌<◌, ◌-◌, ◌^◌, ◌++◌, ◌⊎◌, [], ℕ, List, IfOk, IfErr};
 ghost use Rattle.clap.specs.Words.{IsAmong, kind_of};
-ghost use Rattle.mdp_handler.specs.CommandLine.{AsksToRun, shown_kinds, texts_of};
+ghost use Rattle.mdp_handler.specs.CommandLine.{AreLawful, AsksToRun, shown_kinds, texts_of};
 ghost use Rattle.mdp_handler.specs.Faults.{Tells, skipped_lines};
 ghost use Rattle.mdp_handler.specs.Outcome.{Fails, HasDone, HasFailed, HasFailedRun, HasFailedWrite, HasNoMemory, HasRefused, HasRefusedCapture, HasRun, HasStopped};
-ghost use Rattle.mdp_handler.specs.Printed.{HasPrinted};
+ghost use Rattle.mdp_handler.specs.Printed.{HasBegun, HasPrinted};
+ghost use Rattle.mdp_pipeline.specs.Counted.{HasCounted, written_before};
+ghost use Rattle.mdp_pipeline.specs.Faults.{FailsBy};
 ghost use Rattle.mdp_templates.specs.Instrument.{AreFit};
 
 use crate::faults::{tell, tell_input, tell_memory, tell_output, tell_refused, tell_skipped};
-use crate::settings::read_settings;
+use crate::settings::{Settings, read_settings};
 use clap::Error;
 use clap::error::ErrorKind;
 use mdp_capture::{Capture, CaptureFault, CountedRead, read_capture};
-use mdp_pipeline::{RunFault, run_in_order};
+use mdp_pipeline::{Open, RunFault, Summary, run, run_in_order};
 use mdp_print::{CountedWrite, write_all_counted};
 use std::alloc::{Allocator, Global};
+use std::sync::Wait;
+use std::thread::Threads;
 
 /// The exit status of a run to the end, and of help.
 pub const DONE: u8 = 0;
@@ -28,9 +32,11 @@ pub const REFUSED: u8 = 2;
 /// `input`, writes the text of the run to `output`, and tells what went wrong on `faults`. Answers the exit status:
 /// 0 for a run to the end and for help, 1 where memory ran out or a read or a write of the output failed, and 2 where
 /// the command line or the capture is refused; then nothing is written to `output`. Only where the words ask for a run
-/// is anything read. A run tells a line for each line of the capture that was skipped, then at status 1 why it ended.
-/// Why no run began is told alone. A write to `faults` that fails is passed over.
-pub fn program<I: CountedRead, O: CountedWrite, F: CountedWrite, A: Allocator + Copy>(
+/// is anything read. A run goes over threads, unless the words say `--in-order`. It tells a line for each line of the
+/// capture that was skipped, then at status 1 why it ended. Why no run began is told alone. A write to `faults` that
+/// fails is passed over.
+pub fn program<R, I, O, F, A>(
+    rt: &R,
     words_alloc: Global,
     alloc: A,
     words: &[&str],
@@ -38,6 +44,12 @@ pub fn program<I: CountedRead, O: CountedWrite, F: CountedWrite, A: Allocator + 
     output: &mut O,
     faults: &mut F,
 ) -> u8
+where
+    R: Threads + Wait + Sync,
+    I: CountedRead,
+    O: CountedWrite,
+    F: CountedWrite,
+    A: Allocator + Copy + Send + Sync,
     requires input { I.failed input.old < 2 ^ 64 - 1 }
     requires output { O.failed output.old < 2 ^ 64 - 1 }
     ensures status { result ≤ 2 }
@@ -54,7 +66,7 @@ pub fn program<I: CountedRead, O: CountedWrite, F: CountedWrite, A: Allocator + 
     ensures writes { result ≢ 1 → O.failed output.new ≡ O.failed output.old }
 {
     match read_settings(words_alloc, words) {
-        Ok(settings) => run_over(alloc, settings.window, input, output, faults),
+        Ok(settings) => run_over(rt, alloc, settings, input, output, faults),
         Err(error) => show(alloc, &error, output, faults),
     }
 }
@@ -105,26 +117,32 @@ fn show<O: CountedWrite, F: CountedWrite, A: Allocator>(
 }
 
 // Reads the capture and runs over it.
-fn run_over<I: CountedRead, O: CountedWrite, F: CountedWrite, A: Allocator + Copy>(
+fn run_over<R, I, O, F, A>(
+    rt: &R,
     alloc: A,
-    window: u32,
+    settings: Settings,
     input: &mut I,
     output: &mut O,
     faults: &mut F,
 ) -> u8
+where
+    R: Threads + Wait + Sync,
+    I: CountedRead,
+    O: CountedWrite,
+    F: CountedWrite,
+    A: Allocator + Copy + Send + Sync,
     requires input { I.failed input.old < 2 ^ 64 - 1 }
     requires output { O.failed output.old < 2 ^ 64 - 1 }
-    requires least { 1 ≤ window }
-    requires most { window ≤ 65536 }
+    requires lawful { AreLawful settings }
     ensures status { result ≤ 2 }
-    ensures done { result ≡ 0 → HasRun (I.rest input.old) window
+    ensures done { result ≡ 0 → HasRun (I.rest input.old) settings
         (O.taken output.old) (O.taken output.new) (Tells F.failed F.taken faults.old faults.new) }
     ensures failed { result ≡ 1 →
         let FailedReads = Fails I.failed input.old input.new in
         let FailedWrites = Fails O.failed output.old output.new in
         let Told = Tells F.failed F.taken faults.old faults.new in
         (FailedReads 0 × HasNoMemory FailedWrites (O.taken output.old) (O.taken output.new) Told)
-        ⊎ HasFailedRun (I.rest input.old) window FailedReads FailedWrites
+        ⊎ HasFailedRun (I.rest input.old) settings FailedReads FailedWrites
         (O.taken output.old) (O.taken output.new) Told }
     ensures refused { result ≡ 2 → HasRefusedCapture (I.rest input.old)
         (Tells F.failed F.taken faults.old faults.new) }
@@ -133,7 +151,7 @@ fn run_over<I: CountedRead, O: CountedWrite, F: CountedWrite, A: Allocator + Cop
     ensures writes { result ≢ 1 → O.failed output.new ≡ O.failed output.old }
 {
     match read_capture(alloc, input) {
-        Ok(capture) => run_capture(alloc, &capture, window, output, faults),
+        Ok(capture) => run_capture(rt, alloc, &capture, settings, output, faults),
         Err(CaptureFault::Refused { line, refusal }) => {
             tell_refused(faults, line, refusal);
             REFUSED
@@ -150,36 +168,33 @@ fn run_over<I: CountedRead, O: CountedWrite, F: CountedWrite, A: Allocator + Cop
 }
 
 // Tells the skipped lines, and runs over the records of all feeds.
-fn run_capture<O: CountedWrite, F: CountedWrite, A: Allocator + Copy>(
+fn run_capture<R, O, F, A>(
+    rt: &R,
     alloc: A,
     capture: &Capture<A>,
-    window: u32,
+    settings: Settings,
     output: &mut O,
     faults: &mut F,
 ) -> u8
+where
+    R: Threads + Wait + Sync,
+    O: CountedWrite,
+    F: CountedWrite,
+    A: Allocator + Copy + Send + Sync,
     requires output { O.failed output.old < 2 ^ 64 - 1 }
     requires fit { AreFit capture.now.instruments }
-    requires least { 1 ≤ window }
-    requires most { window ≤ 65536 }
+    requires lawful { AreLawful settings }
     ensures status { result ≤ 1 }
     ensures printed { result ≡ 0 →
-        HasPrinted capture.now window (O.taken output.old) (O.taken output.new) }
+        HasPrinted capture.now settings (O.taken output.old) (O.taken output.new) }
     ensures told { result ≡ 0 →
         Tells F.failed F.taken faults.old faults.new (skipped_lines capture.now.skipped) }
-    ensures failed { result ≡ 1 → HasStopped capture.now window (Fails O.failed output.old output.new)
+    ensures failed { result ≡ 1 → HasStopped capture.now settings (Fails O.failed output.old output.new)
         (O.taken output.old) (O.taken output.new) (Tells F.failed F.taken faults.old faults.new) }
     ensures writes { result ≢ 1 → O.failed output.new ≡ O.failed output.old }
 {
     tell_skipped(faults, capture.skipped());
-    match run_in_order(
-        alloc,
-        capture.instruments(),
-        capture.a(),
-        capture.b(),
-        capture.s(),
-        window,
-        output,
-    ) {
+    match run_records(rt, alloc, capture, settings, output) {
         Ok(_) => DONE,
         Err(RunFault::Memory { .. }) => {
             tell_memory(faults);
@@ -190,4 +205,48 @@ fn run_capture<O: CountedWrite, F: CountedWrite, A: Allocator + Copy>(
             FAILED
         }
     }
+}
+
+// Runs over the records of all feeds: over threads, or on one thread in the order of the capture's lines.
+fn run_records<R, O, A>(
+    rt: &R,
+    alloc: A,
+    capture: &Capture<A>,
+    settings: Settings,
+    output: &mut O,
+) -> Result<Summary, RunFault>
+where
+    R: Threads + Wait + Sync,
+    O: CountedWrite,
+    A: Allocator + Copy + Send + Sync,
+    requires output { O.failed output.old < 2 ^ 64 - 1 }
+    requires fit { AreFit capture.now.instruments }
+    requires lawful { AreLawful settings }
+    ensures printed { IfOk result (λ _.
+        HasPrinted capture.now settings (O.taken output.old) (O.taken output.new)) }
+    ensures begun { IfErr result (λ _.
+        HasBegun capture.now settings (O.taken output.old) (O.taken output.new)) }
+    ensures told { IfErr result (λ fault.
+        HasCounted (O.taken output.old) (O.taken output.new) (written_before fault)) }
+    ensures failed { FailsBy result (O.failed output.old) (O.failed output.new) }
+{
+    let instruments = capture.instruments();
+    let (a, b, s) = (capture.a(), capture.b(), capture.s());
+    let window = settings.window;
+    if settings.in_order {
+        return run_in_order(alloc, instruments, a, b, s, window, output);
+    }
+    let workers = u32::from(settings.workers);
+    run(
+        rt,
+        alloc,
+        instruments,
+        a,
+        b,
+        s,
+        workers,
+        window,
+        &Open,
+        output,
+    )
 }

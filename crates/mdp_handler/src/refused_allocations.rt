@@ -6,7 +6,9 @@ use mdp_capture::CountingReader;
 use refusing::Refusing;
 use std::alloc::Global;
 use std::process::Abort;
+use std::sync::Wait;
 use std::test::Fail;
+use std::thread::Threads;
 
 // Snapshots of different numbers for three securities, after a loss on both feeds.
 const RECOVERY: &[u8] = b"\
@@ -109,20 +111,27 @@ Z 6 live\n\
 ";
 
 // Runs with each allocation refused in turn, until none is, and answers how many were.
-fn refuse_each(
-    rt: &impl Abort,
+fn refuse_each<R: Threads + Wait + Sync + Abort>(
+    rt: &R,
     alloc: Global,
-    window: &str,
+    words: &[&str],
     capture: &[u8],
     wanted: &[u8],
 ) -> Result<u64, Fail> {
-    let words = ["mdp_handler", "--in-order", "--window", window];
     for number in 1..10_000u64 {
         let heap = Refusing::new(alloc, number);
         let mut input = CountingReader::new(capture);
         let mut output = Kept::new(alloc);
         let mut faults = Kept::new(alloc);
-        let status = program(alloc, &heap, &words, &mut input, &mut output, &mut faults);
+        let status = program(
+            rt,
+            alloc,
+            &heap,
+            words,
+            &mut input,
+            &mut output,
+            &mut faults,
+        );
         let printed = output.bytes.as_slice();
         if !heap.has_refused() {
             assert_eq!(rt; status, 0);
@@ -136,23 +145,32 @@ fn refuse_each(
     Err("no run without a refused allocation".into())
 }
 
+// The same on one thread and over threads.
+fn refuse_each_both_ways<R: Threads + Wait + Sync + Abort>(
+    rt: &R,
+    alloc: Global,
+    window: &str,
+    capture: &[u8],
+    wanted: &[u8],
+) -> Result<(), Fail> {
+    let in_order = ["mdp_handler", "--in-order", "--window", window];
+    let over_threads = ["mdp_handler", "--window", window];
+    assert!(rt; refuse_each(rt, alloc, &in_order, capture, wanted)? > 20);
+    assert!(rt; refuse_each(rt, alloc, &over_threads, capture, wanted)? > 20);
+    Ok(())
+}
+
 #[test]
 fn recovery_with_each_allocation_refused(rt: HostRuntime) -> Result<(), Fail> {
-    let refused = refuse_each(&rt, rt.alloc(), "4", RECOVERY, RECOVERY_TEXT)?;
-    assert!(rt; refused > 20);
-    Ok(())
+    refuse_each_both_ways(&rt, rt.alloc(), "4", RECOVERY, RECOVERY_TEXT)
 }
 
 #[test]
 fn refused_datagrams_with_each_allocation_refused(rt: HostRuntime) -> Result<(), Fail> {
-    let refused = refuse_each(&rt, rt.alloc(), "4", REFUSED, REFUSED_TEXT)?;
-    assert!(rt; refused > 20);
-    Ok(())
+    refuse_each_both_ways(&rt, rt.alloc(), "4", REFUSED, REFUSED_TEXT)
 }
 
 #[test]
 fn two_feeds_and_a_spread_with_each_allocation_refused(rt: HostRuntime) -> Result<(), Fail> {
-    let refused = refuse_each(&rt, rt.alloc(), "1024", SPREAD, SPREAD_TEXT)?;
-    assert!(rt; refused > 20);
-    Ok(())
+    refuse_each_both_ways(&rt, rt.alloc(), "1024", SPREAD, SPREAD_TEXT)
 }

@@ -2,7 +2,7 @@
 
 ghost use Rattle.std.specs.Prelude.{◌≡◌, ◌≤◌, IfOk, codes, false, map};
 ghost use Rattle.clap.specs.Words.{FailsBy, app_of, fault_of, rule_of};
-ghost use Rattle.mdp_handler.specs.CommandLine.{AreSettings, flag, option, options, up_to};
+ghost use Rattle.mdp_handler.specs.CommandLine.{AreLawful, AreSettings, flag, option, options, up_to};
 
 use clap::builder::ValueParser;
 use clap::{Arg, ArgAction, Command, Error, value_parser};
@@ -29,9 +29,10 @@ The capture is text, one record a line:
   A HEX, B HEX           a datagram of incremental feed A or B
   S HEX                  a datagram of the snapshot feed
   X                      the channel is closed
-Instruments come first. A datagram has at most 2,048 bytes. Of the two copies of a
-packet the one that comes first is used. Records are taken in the order of their
-lines, by one thread so far, whatever the options say.
+Instruments come first. A datagram has at most 2,048 bytes. Each feed is read in a
+thread of its own, and of the two copies of a packet the one that comes first is
+used; with --in-order one thread takes all records in the order of their lines.
+Books are kept in one thread so far, whatever --workers says.
 
 At each event end these lines are printed for each security that it names, and after
 a jump for each security at the first event end past its snapshot. K.J is the
@@ -133,8 +134,7 @@ fn command<'a>(alloc: Global) -> Result<Command<'a>, AllocError>
 pub fn read_settings(alloc: Global, words: &[&str]) -> Result<Settings, Error>
     ensures fault { FailsBy (fault_of options (map (λ word. word.now) words.now)) result }
     ensures settings { IfOk result (AreSettings (map (λ word. word.now) words.now)) }
-    ensures window { IfOk result (λ settings. (1 ≤ settings.window) × (settings.window ≤ 65536)) }
-    ensures workers { IfOk result (λ settings. (1 ≤ settings.workers) × (settings.workers ≤ 16)) }
+    ensures lawful { IfOk result AreLawful }
 {
     let matches = command(alloc)?.try_get_matches_from(words)?;
     // What `clap` lets through lies in these ranges already.

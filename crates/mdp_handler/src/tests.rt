@@ -12,7 +12,9 @@ use std::alloc::Global;
 use std::io;
 use std::io::{ErrorKind, Read};
 use std::process::Abort;
+use std::sync::Wait;
 use std::test::Fail;
+use std::thread::Threads;
 
 const CAPTURE: &[u8] =
     b"I 1 NEAR O\nA 01000000000000000000000038000b002e000100090000000000000000008000002000016400000000000000050000000100000000000000010000000100300000000000\n";
@@ -20,6 +22,9 @@ const CAPTURE: &[u8] =
 const TEXT: &[u8] = b"D 1.1 NEAR B 100x5 O\nI 1.1 NEAR B O\nC 1.1 NEAR B 100x5 O\nZ 2 live\n";
 
 const WORDS: &[&str] = &["mdp_handler", "--in-order"];
+
+// A run on one thread, and one over threads.
+const RUNS: [&[&str]; 2] = [WORDS, &["mdp_handler"]];
 
 // Keeps what it takes, at most so many bytes a call, and fails at one call.
 #[derive(Drop)]
@@ -116,7 +121,15 @@ fn a_failed_read_prints_nothing(rt: HostRuntime) -> Result<(), Fail> {
         });
         let mut output = Kept::new(alloc);
         let mut faults = Kept::new(alloc);
-        let status = program(alloc, alloc, WORDS, &mut input, &mut output, &mut faults);
+        let status = program(
+            &rt,
+            alloc,
+            alloc,
+            WORDS,
+            &mut input,
+            &mut output,
+            &mut faults,
+        );
         if status == 0 {
             assert_eq!(rt; input.failures(), 0);
             assert_eq!(rt; output.bytes.as_slice(), TEXT);
@@ -136,18 +149,28 @@ fn a_failed_read_prints_nothing(rt: HostRuntime) -> Result<(), Fail> {
 #[test]
 fn a_failed_write_tells_what_went_out(rt: HostRuntime) -> Result<(), Fail> {
     let alloc = rt.alloc();
-    let mut input = CountingReader::new(CAPTURE);
-    let mut output = Kept::slow(alloc, 1, 30);
-    let mut faults = Kept::new(alloc);
-    let status = program(alloc, alloc, WORDS, &mut input, &mut output, &mut faults);
-    assert_eq!(rt; status, 1);
-    assert_eq!(rt; TEXT.len(), 66);
-    assert_eq!(rt; output.bytes.as_slice(), &TEXT[..29]);
-    assert_eq!(rt; output.calls, 30);
-    assert_eq!(rt;
-        faults.bytes.as_slice(),
-        b"42 Output after 29 bytes\n".as_slice()
-    );
+    for words in RUNS {
+        let mut input = CountingReader::new(CAPTURE);
+        let mut output = Kept::slow(alloc, 1, 30);
+        let mut faults = Kept::new(alloc);
+        let status = program(
+            &rt,
+            alloc,
+            alloc,
+            words,
+            &mut input,
+            &mut output,
+            &mut faults,
+        );
+        assert_eq!(rt; status, 1);
+        assert_eq!(rt; TEXT.len(), 66);
+        assert_eq!(rt; output.bytes.as_slice(), &TEXT[..29]);
+        assert_eq!(rt; output.calls, 30);
+        assert_eq!(rt;
+            faults.bytes.as_slice(),
+            b"42 Output after 29 bytes\n".as_slice()
+        );
+    }
     Ok(())
 }
 
@@ -160,6 +183,7 @@ fn each_refused_allocation_ends_the_run(rt: HostRuntime) -> Result<(), Fail> {
         let mut output = Kept::new(rt.alloc());
         let mut faults = Kept::new(rt.alloc());
         let status = program(
+            &rt,
             rt.alloc(),
             &heap,
             WORDS,
@@ -192,6 +216,7 @@ fn want_of_memory_at_the_capture_tells_no_skipped_line(rt: HostRuntime) -> Resul
         let mut output = Kept::new(rt.alloc());
         let mut faults = Kept::new(rt.alloc());
         let status = program(
+            &rt,
             rt.alloc(),
             &heap,
             WORDS,
@@ -207,7 +232,12 @@ fn want_of_memory_at_the_capture_tells_no_skipped_line(rt: HostRuntime) -> Resul
 }
 
 // Asks for help with an output that fails at a call, and answers the status.
-fn ask_for_help(alloc: Global, output: &mut Kept, faults: &mut Kept) -> u8
+fn ask_for_help<R: Threads + Wait + Sync>(
+    rt: &R,
+    alloc: Global,
+    output: &mut Kept,
+    faults: &mut Kept,
+) -> u8
     requires { output.old.failures < 2 ^ 64 - 1 }
 {
     let words = ["mdp_handler", "--help"];
@@ -217,7 +247,7 @@ fn ask_for_help(alloc: Global, output: &mut Kept, faults: &mut Kept) -> u8
         calls: 0,
         fail_at: 1,
     });
-    program(alloc, alloc, &words, &mut input, output, faults)
+    program(rt, alloc, alloc, &words, &mut input, output, faults)
 }
 
 #[test]
@@ -225,7 +255,7 @@ fn help_reads_no_capture(rt: HostRuntime) -> Result<(), Fail> {
     let alloc = rt.alloc();
     let mut output = Kept::new(alloc);
     let mut faults = Kept::new(alloc);
-    assert_eq!(rt; ask_for_help(alloc, &mut output, &mut faults), 0);
+    assert_eq!(rt; ask_for_help(&rt, alloc, &mut output, &mut faults), 0);
     let usage = b"Usage: mdp_handler";
     assert!(rt;
         output
@@ -235,7 +265,7 @@ fn help_reads_no_capture(rt: HostRuntime) -> Result<(), Fail> {
     );
     assert_eq!(rt; faults.bytes.as_slice(), b"".as_slice());
     let mut output = Kept::slow(alloc, 1, 8);
-    assert_eq!(rt; ask_for_help(alloc, &mut output, &mut faults), 1);
+    assert_eq!(rt; ask_for_help(&rt, alloc, &mut output, &mut faults), 1);
     assert_eq!(rt;
         faults.bytes.as_slice(),
         b"42 Output after 7 bytes\n".as_slice()
@@ -255,7 +285,15 @@ fn help_reads_nothing_and_shows_each_option(rt: HostRuntime) -> Result<(), Fail>
     });
     let mut output = Kept::new(alloc);
     let mut faults = Kept::new(alloc);
-    let status = program(alloc, alloc, &words, &mut input, &mut output, &mut faults);
+    let status = program(
+        &rt,
+        alloc,
+        alloc,
+        &words,
+        &mut input,
+        &mut output,
+        &mut faults,
+    );
     assert_eq!(rt; status, 0);
     assert_eq!(rt; input.failures(), 0);
     assert_eq!(rt; faults.calls, 0);
@@ -271,7 +309,8 @@ fn help_reads_nothing_and_shows_each_option(rt: HostRuntime) -> Result<(), Fail>
 }
 
 // Runs over a capture, and answers the status with what was told.
-fn run_over(
+fn run_over<R: Threads + Wait + Sync>(
+    rt: &R,
     alloc: Global,
     words: &[&str],
     capture: &[u8],
@@ -281,7 +320,7 @@ fn run_over(
     requires { output.old.failures < 2 ^ 64 - 1 }
 {
     let mut input = CountingReader::new(capture);
-    program(alloc, alloc, words, &mut input, output, faults)
+    program(rt, alloc, alloc, words, &mut input, output, faults)
 }
 
 #[test]
@@ -291,7 +330,7 @@ fn the_version_is_shown(rt: HostRuntime) -> Result<(), Fail> {
     let mut output = Kept::new(alloc);
     let mut faults = Kept::new(alloc);
     assert_eq!(rt;
-        run_over(alloc, &words, CAPTURE, &mut output, &mut faults),
+        run_over(&rt, alloc, &words, CAPTURE, &mut output, &mut faults),
         0
     );
     assert_eq!(rt; output.bytes.as_slice(), b"mdp_handler 0.1.0\n".as_slice());
@@ -306,7 +345,7 @@ fn a_fault_of_the_command_line_is_told_alone(rt: HostRuntime) -> Result<(), Fail
     let mut output = Kept::new(alloc);
     let mut faults = Kept::new(alloc);
     assert_eq!(rt;
-        run_over(alloc, &words, CAPTURE, &mut output, &mut faults),
+        run_over(&rt, alloc, &words, CAPTURE, &mut output, &mut faults),
         2
     );
     assert_eq!(rt; output.calls, 0);
@@ -331,7 +370,7 @@ fn a_refused_capture_is_told_alone(rt: HostRuntime) -> Result<(), Fail> {
         let mut output = Kept::new(alloc);
         let mut faults = Kept::new(alloc);
         assert_eq!(rt;
-            run_over(alloc, WORDS, capture, &mut output, &mut faults),
+            run_over(&rt, alloc, WORDS, capture, &mut output, &mut faults),
             2
         );
         assert_eq!(rt; output.calls, 0);
@@ -347,7 +386,7 @@ fn skipped_lines_are_told_in_their_order(rt: HostRuntime) -> Result<(), Fail> {
     let mut faults = Kept::new(alloc);
     let capture = b"I 1 NEAR O\nA 0\nQ\n";
     assert_eq!(rt;
-        run_over(alloc, WORDS, capture, &mut output, &mut faults),
+        run_over(&rt, alloc, WORDS, capture, &mut output, &mut faults),
         0
     );
     assert_eq!(rt; output.bytes.as_slice(), b"Z 1 live\n".as_slice());

@@ -268,7 +268,7 @@ pub fn run<R, G, W, A>(
     a: &[Record<A>],
     b: &[Record<A>],
     s: &[Record<A>],
-    _workers: u32,
+    workers: u32,
     window: u32,
     gate: &G,
     writer: &mut W,
@@ -282,6 +282,8 @@ where
     requires fit { AreFit instruments.now }
     requires least { 1 ≤ window }
     requires most { window ≤ 65536 }
+    requires some_workers { 1 ≤ workers }
+    requires most_workers { workers ≤ 16 }
     ensures text { IfOk result (λ summary. (text : List ℕ) × (W.taken writer.new ≡ W.taken writer.old ++ text)
         × PrintsMerge instruments.now window a.now b.now s.now text summary.next summary.lost) }
     ensures begins { IfErr result (λ _. BeginsMerge instruments.now window a.now b.now s.now (W.taken writer.old) (W.taken writer.new)) }
@@ -289,6 +291,8 @@ where
     ensures told { IfErr result (λ fault. HasCounted (W.taken writer.old) (W.taken writer.new) (written_before fault)) }
     ensures failed { FailsBy result (W.failed writer.old) (W.failed writer.new) }
 {
+    // One thread keeps all books so far.
+    let _ = workers;
     run_where(
         rt,
         &Always,
