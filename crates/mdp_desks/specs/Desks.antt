@@ -15,7 +15,10 @@ desk_at_start i = record { instrument = i; base = 0; book = empty_book; marked =
 
 -- an entry for the security, where its packet stands behind the base
 abbrev pub desk_entered : Place → Entry → Desk → Desk
-desk_entered place entry d = if nat_lt d.base place.packet then record { instrument = d.instrument; base = d.base; book = after_entry place entry d.book; marked = true } else d
+desk_entered place entry d =
+    if nat_lt d.base place.packet then
+    record { instrument = d.instrument; base = d.base; book = after_entry place entry d.book; marked = true }
+    else d
 
 -- an entry that may be for another security
 abbrev pub desk_heard : Place → Entry → Desk → Desk
@@ -24,25 +27,44 @@ desk_heard place entry d = if names d.instrument.id entry then desk_entered plac
 -- the entries of a message, the first of which has this number
 abbrev pub desks_through : ℕ → ℕ → ℕ → List Entry → List Desk → List Desk
 desks_through packet message n [] ds = ds
-desks_through packet message n (entry ∷ entries) ds = desks_through packet message (n + 1) entries (map (desk_heard (place_at packet message n) entry) ds)
+desks_through packet message n (entry ∷ entries) ds =
+    desks_through packet message (n + 1) entries (map (desk_heard (place_at packet message n) entry) ds)
 
 -- where an event ends the mark goes
 abbrev pub desk_settled : ℕ → Desk → Desk
-desk_settled packet d = if nat_lt d.base packet then record { instrument = d.instrument; base = d.base; book = d.book; marked = false } else d
+desk_settled packet d =
+    if nat_lt d.base packet then
+    record { instrument = d.instrument; base = d.base; book = d.book; marked = false }
+    else d
 
 -- what an event end in this packet shows of the desk as it is
 abbrev pub desk_standing : ℕ → Desk → Option Seen
-desk_standing packet d = if nat_lt d.base packet then Some (record { instrument = d.instrument; printed = d.marked; book = d.book }) else None
+desk_standing packet d =
+    if nat_lt d.base packet then
+    Some (record { instrument = d.instrument; printed = d.marked; book = d.book })
+    else None
 
 -- a whole message
 abbrev pub desk_with_message : Sent → Desk → Desk
-desk_with_message m d = record { instrument = d.instrument; base = d.base; book = book_after d.instrument d.book m; marked = not m.end && (d.marked || is_named_in d.instrument.id m) }
+desk_with_message m d = record {
+  instrument = d.instrument;
+  base = d.base;
+  book = book_after d.instrument d.book m;
+  marked = not m.end && (d.marked || is_named_in d.instrument.id m);
+}
 
 abbrev pub desk_after : Sent → Desk → Desk
 desk_after m d = if nat_lt d.base m.packet then desk_with_message m d else d
 
 abbrev pub desk_seen : Sent → Desk → Option Seen
-desk_seen m d = if m.end && nat_lt d.base m.packet then Some (record { instrument = d.instrument; printed = d.marked || is_named_in d.instrument.id m; book = book_after d.instrument d.book m }) else None
+desk_seen m d =
+    if m.end && nat_lt d.base m.packet then
+    Some (record {
+      instrument = d.instrument;
+      printed = d.marked || is_named_in d.instrument.id m;
+      book = book_after d.instrument d.book m;
+    })
+    else None
 
 abbrev pub desks_after : Sent → List Desk → List Desk
 desks_after m ds = map (desk_after m) ds
