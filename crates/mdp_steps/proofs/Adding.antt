@@ -152,6 +152,10 @@ sent_as_before listed room before events batches old new turns so_far fed none =
       all = more.all ∙ one_more batches turns ∙ ap (λ (l : List Move). moves_sent batches ++ l) none ∙ append-nil (moves_sent batches);
     }
 
+-- the arbiter's state is the machine's
+pub state_there : (listed : List Instrument) (room : ℕ) (events : List Event) (batches : List (List Move)) (v : View) → HasSentAll listed room events batches v → state v ≡ state_at (channel_of listed room) events
+state_there listed room events batches v sent = sent.settled.state ∙ ap (λ (c : Channel). state_at c events) sent.channel
+
 -- at the end, where all went well
 pub all_sent : {X E : Type 0} (listed : List Instrument) (room : ℕ) (events : List Event) (batches : List (List Move)) (v : View) (x : X) → HasSentAll listed room events batches v → AreSent {X = X} {E = E} listed room events batches (Ok x)
 all_sent listed room events batches v x sent = record { rest = []; front = sent.all ∙ sym (append-nil (moves_sent batches)); whole = refl }

@@ -134,8 +134,14 @@ fn a_share_has_the_turns_of_the_first(rt: HostRuntime) -> Result<(), Fail> {
 }
 
 /// Makes the turns of all events, and shares them; those that were made are the first. All memory comes from the heap.
-fn share_all(rt: &impl Abort, heap: &Refusing<Global>) -> Result<(), Fail> {
-    let mut arbiter = Arbiter::new(heap, &near()?, MapWindow::new(heap, 4))?;
+fn share_all(
+    rt: &impl Abort,
+    heap: &Refusing<Global>,
+    instruments: &[Instrument],
+) -> Result<(), Memory>
+    requires { AreFit instruments.now }
+{
+    let mut arbiter = Arbiter::new(heap, instruments, MapWindow::new(heap, 4))?;
     let mut turns = Vec::new(heap);
     let fed = feed_all(heap, &mut arbiter, all_events(heap)?, &mut turns);
     are_first(rt, &turns);
@@ -148,10 +154,11 @@ fn share_all(rt: &impl Abort, heap: &Refusing<Global>) -> Result<(), Fail> {
 
 #[test]
 fn each_want_of_memory_is_answered_and_leaves_a_beginning(rt: HostRuntime) -> Result<(), Fail> {
+    let listed = near()?;
     let mut refused = 0u64;
     for number in 1..1000u64 {
         let heap = Refusing::new(rt.alloc(), number);
-        let shared = share_all(&rt, &heap).is_ok();
+        let shared = share_all(&rt, &heap, &listed).is_ok();
         assert_eq!(rt; shared, !heap.has_refused());
         if shared {
             break;
