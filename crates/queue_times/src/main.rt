@@ -1,0 +1,139 @@
+//! Tells on standard error how long a message takes through a queue of mdp_lanes, in nanoseconds, the least of five turns: through
+//! a lane, and through an intake with three senders. The first word is how many messages each sender puts, 1,000 where none is
+//! given.
+#![tactic(auto)]
+
+ghost use Rattle.std.specs.Prelude.{◌≤◌, false};
+ghost use Rattle.std.specs.List.{list_any};
+
+use mdp_lanes::{Ends, Intake, IntakeSender, Lane, LaneSender};
+use std::alloc::Global;
+use std::env;
+use std::io::Write;
+use std::sync::Wait;
+use std::thread;
+use std::thread::Threads;
+use std::time::{Clock, Instant};
+
+const CAPACITIES: [usize; 2] = [64, 256];
+
+/// How often each queue is timed.
+const TURNS: usize = 5;
+
+/// What a sender of an intake puts.
+#[derive(Drop)]
+struct Message {
+    number: u64,
+    is_last: bool,
+}
+
+impl Ends for Message {
+    ghost is_end = { λ m. m.is_last };
+
+    fn is_end(&self) -> bool {
+        self.is_last
+    }
+}
+
+// Puts so many messages into a lane.
+fn put_all<R: Wait>(
+    rt: &R,
+    mut sender: LaneSender<u64, Global>,
+    count: u64,
+) -> LaneSender<u64, Global> {
+    for number in 0..count {
+        sender.put(rt, number);
+    }
+    sender
+}
+
+// Times so many messages through a lane.
+fn through_lane<R: Threads + Wait + Clock + Copy + Send + 'static>(
+    rt: R,
+    alloc: Global,
+    capacity: usize,
+    count: u64,
+) -> anyhow::Result<u128>
+    requires least { 1 ≤ capacity }
+    requires most { capacity ≤ 65536 }
+{
+    let (sender, mut receiver) = Lane::new(alloc, capacity)?;
+    let start = Instant::now(&rt)?;
+    let handle = thread::spawn(&rt, move || put_all(&rt, sender, count))?;
+    let mut sum = 0u64;
+    for _ in 0..count {
+        sum = sum.wrapping_add(receiver.take(&rt));
+    }
+    let _ = handle.join(&rt);
+    Ok(start.elapsed(&rt)?.as_nanos())
+}
+
+// Puts so many messages into an intake, and then the last.
+fn put_all_and_end<R: Wait>(
+    rt: &R,
+    mut sender: IntakeSender<Message, Global>,
+    count: u64,
+) -> IntakeSender<Message, Global> {
+    for number in 0..count {
+        if !sender.ended() {
+            let is_last = number + 1 == count;
+            sender.put(rt, Message { number, is_last });
+        }
+    }
+    sender
+}
+
+// Times so many messages of each of three senders through an intake.
+fn through_intake<R: Threads + Wait + Clock + Copy + Send + 'static>(
+    rt: R,
+    alloc: Global,
+    capacity: usize,
+    count: u64,
+) -> anyhow::Result<u128>
+    requires least { 1 ≤ capacity }
+    requires most { capacity ≤ 65536 }
+{
+    let (to_a, to_b, to_s, mut receiver) = Intake::new(alloc, capacity)?;
+    let start = Instant::now(&rt)?;
+    let a = thread::spawn(&rt, move || put_all_and_end(&rt, to_a, count))?;
+    let b = thread::spawn(&rt, move || put_all_and_end(&rt, to_b, count))?;
+    let s = thread::spawn(&rt, move || put_all_and_end(&rt, to_s, count))?;
+    let mut sum = 0u64;
+    for _ in rt.forever() {
+        if receiver.ends() == 3 {
+            break;
+        }
+        let (_, message) = receiver.take(&rt);
+        sum = sum.wrapping_add(message.number);
+    }
+    let _ = a.join(&rt);
+    let _ = b.join(&rt);
+    let _ = s.join(&rt);
+    Ok(start.elapsed(&rt)?.as_nanos())
+}
+
+// The number of messages that the words ask for, 1 at least.
+fn count_asked(alloc: Global, words: env::Args) -> u64 {
+    let _ = alloc;
+    match words.skip(1).next() {
+        Some(word) => word.parse::<u64>().unwrap_or(1000).max(1),
+        None => 1000,
+    }
+}
+
+fn main(rt: HostRuntime) -> anyhow::Result<()> {
+    let alloc = rt.alloc();
+    let count = count_asked(alloc, env::args(&rt)?);
+    for capacity in CAPACITIES {
+        let mut lane = u128::MAX;
+        let mut intake = u128::MAX;
+        for _ in 0..TURNS {
+            lane = lane.min(through_lane(rt, alloc, capacity, count)?);
+            intake = intake.min(through_intake(rt, alloc, capacity, count)?);
+        }
+        let each = lane / u128::from(count);
+        let of_three = intake / u128::from(count) / 3;
+        eprintln!(rt; "capacity {capacity}: lane {each} ns a message, intake of three senders {of_three} ns")?;
+    }
+    Ok(())
+}
