@@ -1,0 +1,5 @@
+pub mod Flatting
+pub mod Reading
+pub mod Least
+pub mod Rounds
+pub mod Marking

@@ -1,0 +1,18 @@
+//! What a worker reports of the moves that it took with the books of its own securities, and what the collector makes of the reports
+//! of all workers: the text of all of them, and nothing of threads or queues.
+#![tactic(auto)]
+
+mod answer;
+mod audits;
+mod collector;
+mod kept;
+mod merge;
+mod reports;
+mod rest;
+mod row;
+
+pub use answer::Answer;
+pub use collector::Collector;
+pub use reports::Reports;
+pub use rest::Rest;
+pub use row::{Heading, Line};
