@@ -32,7 +32,7 @@ abbrev pub Leads : Channel → List Event → State → List Move → State → 
 Leads channel es s [] to = to ≡ s
 Leads channel es s (m ∷ ms) to = (next_move channel es s ≡ Some m) × Leads channel es (after s m) ms to
 
-leads-push : (channel : Channel) (es : List Event) (s : State) (ms : List Move) (to further : State) (m : Move)
+pub leads-push : (channel : Channel) (es : List Event) (s : State) (ms : List Move) (to further : State) (m : Move)
     → Leads channel es s ms to → next_move channel es to ≡ Some m → further ≡ after to m → Leads channel es s (ms ++ m ∷ []) further
 leads-push channel es s [] to further m leads possible on =
     (ap (next_move channel es) (sym leads) ∙ possible, on ∙ ap (λ (t : State). after t m) leads)
@@ -123,7 +123,7 @@ moves_further old now new mid step so_far kept steps channel desks held arbiter 
     let made = so_far listed es moves drained under in
     move_on old now new mid step listed es moves drained kept (steps es made.under_way.stands) channel desks held arbiter made
 
-no_move : {A : Type 0} (m : Option Move) (step : Option (Step A)) → step ≡ None → Answers m step → m ≡ None
+pub no_move : {A : Type 0} (m : Option Move) (step : Option (Step A)) → step ≡ None → Answers m step → m ≡ None
 no_move None step is answers = refl
 no_move (Some m) step is answers = elim (subst (Answers (Some m)) is answers) [ ]
 

@@ -1,0 +1,177 @@
+-- What events add one after another, and batch by batch, adds up.
+use Rattle.std.proofs.Common.{◌≡◌, ℕ, List, [], ◌∷◌, ◌++◌, map, refl, sym, ap, subst, ◌∙◌, append_assoc}
+use Rattle.std.specs.Prelude.{Result, Ok, Err}
+use Rattle.std.specs.List.{flat_map}
+use Rattle.std.proofs.lemmas.List.{append-nil, map-append}
+use Rattle.std.proofs.lemmas.List.Concat.{flat_map-append}
+use Rattle.mdp_templates.specs.declared.instrument.Instrument.{Instrument}
+use Rattle.mdp_arbiter.specs.Accepted.{Event}
+use Rattle.mdp_arbiter.specs.Channel.{Channel, channel_of}
+use Rattle.mdp_arbiter.specs.Machine.{Move, go_on, start, state_at, trace}
+use Rattle.mdp_arbiter.specs.Arbiter.{View, state}
+use Rattle.mdp_arbiter.specs.Standing.{StandsAt}
+use Rattle.mdp_arbiter.proofs.Runs.{law_of_fronts}
+use Rattle.mdp_engine.specs.Engine.{IsSettled}
+use Rattle.mdp_engine.specs.Steps.{event_of}
+use Rattle.mdp_engine.specs.declared.event.Event.{Event as Came}
+use Rattle.mdp_steps.specs.Fed.{IsFed, IsFedAll}
+use Rattle.mdp_steps.specs.Sent.{AreSent, HasSentAll, moves_sent}
+use Rattle.mdp_steps.proofs.Making.{if_ok}
+
+-- all went well
+abbrev pub well : Result (Unit {0}) (Unit {0})
+well = Ok tt
+
+-- ---- events one after another
+
+-- no events add no moves
+pub fed_none : (listed : List Instrument) (before : List Event) (v : View) (turns : List Move) → IsSettled listed before v → IsFedAll listed before [] v v turns turns well
+fed_none listed before v turns settled =
+    let same : before ++ [] ≡ before = append-nil before in
+    record {
+      made = [];
+      rest = [];
+      appended = sym (append-nil turns);
+      front = ap (trace v.channel) same ∙ sym (append-nil (trace v.channel before));
+      whole = (refl, subst (λ (es : List Event). IsSettled listed es v) (sym same) settled, refl);
+    }
+
+-- where memory sufficed it does not matter which fault there was not
+fed_well : {E F : Type 0} (listed : List Instrument) (before events : List Event) (old new : View) (turns turns' : List Move)
+    → IsFedAll {E = E} listed before events old new turns turns' (Ok tt) → IsFedAll {E = F} listed before events old new turns turns' (Ok tt)
+fed_well listed before events old new turns turns' fed = record { made = fed.made; rest = fed.rest; appended = fed.appended; front = fed.front; whole = fed.whole }
+
+-- these events and then those add what these add and then what those add
+pub fed_more : {E F : Type 0} (listed : List Instrument) (before xs ys : List Event) (old mid new : View) (turns so_far full : List Move) (result : Result (Unit {0}) F)
+    → IsFedAll {E = E} listed before xs old mid turns so_far (Ok tt) → IsFedAll listed (before ++ xs) ys mid new so_far full result → IsFedAll listed before (xs ++ ys) old new turns full result
+fed_more listed before xs ys old mid new turns so_far full result one two =
+    let joined : (before ++ xs) ++ ys ≡ before ++ (xs ++ ys) = append_assoc before xs ys in
+    let first : trace old.channel (before ++ xs) ≡ trace old.channel before ++ one.made =
+    one.front ∙ ap (λ (l : List Move). trace old.channel before ++ (one.made ++ l)) one.whole.0 ∙ ap (λ (l : List Move). trace old.channel before ++ l) (append-nil one.made) in
+    let second : trace old.channel ((before ++ xs) ++ ys) ≡ trace old.channel (before ++ xs) ++ (two.made ++ two.rest) =
+    subst (λ (c : Channel). trace c ((before ++ xs) ++ ys) ≡ trace c (before ++ xs) ++ (two.made ++ two.rest)) one.whole.2 two.front in
+    record {
+      made = one.made ++ two.made;
+      rest = two.rest;
+      appended = two.appended ∙ ap (λ (l : List Move). l ++ two.made) one.appended ∙ append_assoc turns one.made two.made;
+      front =
+          ap (trace old.channel) (sym joined) ∙ second ∙ ap (λ (l : List Move). l ++ (two.made ++ two.rest)) first
+          ∙ append_assoc (trace old.channel before) one.made (two.made ++ two.rest)
+          ∙ ap (λ (l : List Move). trace old.channel before ++ l) (sym (append_assoc one.made two.made two.rest));
+      whole = if_ok result (λ (w : (two.rest ≡ []) × IsSettled listed ((before ++ xs) ++ ys) new × (new.channel ≡ mid.channel)). (
+        w.0,
+        subst (λ (es : List Event). IsSettled listed es new) joined w.1,
+        w.2 ∙ one.whole.2,
+      )) two.whole;
+    }
+
+-- where memory ran out, whatever further events add is missing too
+pub fed_no_more : {E F : Type 0} (listed : List Instrument) (before xs ys : List Event) (old mid new : View) (turns turns' : List Move) (x : E) (y : F)
+    → IsFedAll listed before xs old mid turns turns' (Err x) → IsFedAll listed before (xs ++ ys) old new turns turns' (Err y)
+fed_no_more listed before xs ys old mid new turns turns' x y one =
+    let further = go_on old.channel (before ++ xs) (state_at old.channel (before ++ xs)) ys in
+    record {
+      made = one.made;
+      rest = one.rest ++ further;
+      appended = one.appended;
+      front =
+          ap (trace old.channel) (sym (append_assoc before xs ys)) ∙ law_of_fronts old.channel (before ++ xs) ys
+          ∙ ap (λ (l : List Move). l ++ further) one.front
+          ∙ append_assoc (trace old.channel before) (one.made ++ one.rest) further
+          ∙ ap (λ (l : List Move). trace old.channel before ++ l) (append_assoc one.made one.rest further);
+      whole = tt;
+    }
+
+-- ---- events that come out of a list
+
+module _ {A E : Type 0} (listed : List Instrument) (before : List Event) (old : View) (turns : List Move) where
+  -- one more
+  pub fed_further : (done : List (Came A)) (x : Came A) (mid new : View) (so_far full : List Move) → IsFedAll listed before (map event_of done) old mid turns so_far well
+      → IsFed {E = E} listed (before ++ map event_of done) (event_of x) mid new so_far full (Ok tt) → IsFedAll listed before (map event_of (done ++ x ∷ [])) old new turns full well
+  fed_further done x mid new so_far full fed one =
+      subst (λ (es : List Event). IsFedAll listed before es old new turns full well) (sym (map-append event_of done (x ∷ [])))
+      (fed_more listed before (map event_of done) (event_of x ∷ []) old mid new turns so_far full well fed (fed_well listed (before ++ map event_of done) (event_of x ∷ []) mid new so_far full one))
+
+  -- memory ran out at this one, and these are left
+  pub fed_short : (events done left : List (Came A)) (x : Came A) (mid new : View) (so_far full : List Move) (fault : E) → (done ++ x ∷ []) ++ left ≡ events
+      → IsFedAll listed before (map event_of done) old mid turns so_far well → IsFed listed (before ++ map event_of done) (event_of x) mid new so_far full (Err fault)
+      → IsFedAll listed before (map event_of events) old new turns full (Err fault)
+  fed_short events done left x mid new so_far full fault are fed one =
+      let all : (map event_of done ++ event_of x ∷ []) ++ map event_of left ≡ map event_of events =
+      ap (λ (l : List Event). l ++ map event_of left) (sym (map-append event_of done (x ∷ [])))
+      ∙ sym (map-append event_of (done ++ x ∷ []) left) ∙ ap (map event_of) are in
+      subst (λ (es : List Event). IsFedAll listed before es old new turns full (Err fault)) all
+      (fed_no_more listed before (map event_of done ++ event_of x ∷ []) (map event_of left) old new new turns full fault fault
+      (fed_more listed before (map event_of done) (event_of x ∷ []) old mid new turns so_far full (Err fault) fed one))
+
+  -- none is left
+  pub fed_all : (events done : List (Came A)) (new : View) (full : List Move) → done ≡ events
+      → IsFedAll listed before (map event_of done) old new turns full well → IsFedAll {E = E} listed before (map event_of events) old new turns full (Ok tt)
+  fed_all events done new full are fed =
+      subst (λ (cs : List (Came A)). IsFedAll {E = E} listed before (map event_of cs) old new turns full (Ok tt)) are
+      (fed_well listed before (map event_of done) old new turns full fed)
+
+-- ---- batch by batch
+
+-- before any event
+pub sent_none : (listed : List Instrument) (room : ℕ) (v : View) → StandsAt [] v → state v ≡ start v.channel → v.channel ≡ channel_of listed room → HasSentAll listed room [] [] v
+sent_none listed room v stands begins channel = record {
+  settled = record { stands = stands; ids = ap (λ (c : Channel). c.ids) channel; state = begins };
+  channel = channel;
+  all = refl;
+}
+
+-- the moves of the events of one batch more
+all_after : (listed : List Instrument) (room : ℕ) (before events : List Event) (batches : List (List Move)) (old new : View) (turns rest : List Move) → HasSentAll listed room before batches old
+    → trace old.channel (before ++ events) ≡ trace old.channel before ++ (turns ++ rest) → trace (channel_of listed room) (before ++ events) ≡ moves_sent batches ++ (turns ++ rest)
+all_after listed room before events batches old new turns rest so_far front =
+    subst (λ (c : Channel). trace c (before ++ events) ≡ trace c before ++ (turns ++ rest)) so_far.channel front ∙ ap (λ (l : List Move). l ++ (turns ++ rest)) so_far.all
+
+one_more : (batches : List (List Move)) (turns : List Move) → moves_sent (batches ++ turns ∷ []) ≡ moves_sent batches ++ turns
+one_more batches turns = flat_map-append (λ (ms : List Move). ms) batches (turns ∷ []) ∙ ap (λ (l : List Move). moves_sent batches ++ l) (append-nil turns)
+
+-- the turns of further events were sent as one batch more
+pub sent_more : {E : Type 0} (listed : List Instrument) (room : ℕ) (before events : List Event) (batches : List (List Move)) (old new : View) (turns : List Move)
+    → HasSentAll listed room before batches old → IsFedAll {E = E} listed before events old new [] turns (Ok tt) → HasSentAll listed room (before ++ events) (batches ++ turns ∷ []) new
+sent_more listed room before events batches old new turns so_far fed =
+    let made : fed.made ++ fed.rest ≡ turns = ap (λ (l : List Move). fed.made ++ l) fed.whole.0 ∙ append-nil fed.made ∙ sym fed.appended in
+    record {
+      settled = fed.whole.1;
+      channel = fed.whole.2 ∙ so_far.channel;
+      all = all_after listed room before events batches old new fed.made fed.rest so_far fed.front ∙ ap (λ (l : List Move). moves_sent batches ++ l) made ∙ sym (one_more batches turns);
+    }
+
+-- further events added no move, and no batch was sent
+pub sent_as_before : {E : Type 0} (listed : List Instrument) (room : ℕ) (before events : List Event) (batches : List (List Move)) (old new : View) (turns : List Move)
+    → HasSentAll listed room before batches old → IsFedAll {E = E} listed before events old new [] turns (Ok tt) → turns ≡ [] → HasSentAll listed room (before ++ events) batches new
+sent_as_before listed room before events batches old new turns so_far fed none =
+    let more = sent_more listed room before events batches old new turns so_far fed in
+    record {
+      settled = more.settled;
+      channel = more.channel;
+      all = more.all ∙ one_more batches turns ∙ ap (λ (l : List Move). moves_sent batches ++ l) none ∙ append-nil (moves_sent batches);
+    }
+
+-- at the end, where all went well
+pub all_sent : {X E : Type 0} (listed : List Instrument) (room : ℕ) (events : List Event) (batches : List (List Move)) (v : View) (x : X) → HasSentAll listed room events batches v → AreSent {X = X} {E = E} listed room events batches (Ok x)
+all_sent listed room events batches v x sent = record { rest = []; front = sent.all ∙ sym (append-nil (moves_sent batches)); whole = refl }
+
+-- Where all were sent before, what was sent begins the moves of all events, whatever came then: want of memory in the midst
+-- of further events, or before their turns were sent.
+pub some_sent : {X E : Type 0} (listed : List Instrument) (room : ℕ) (before more : List Event) (batches : List (List Move)) (v : View) (x : E) → HasSentAll listed room before batches v → AreSent {X = X} listed room (before ++ more) batches (Err x)
+some_sent listed room before more batches v x sent =
+    let channel = channel_of listed room in
+    let rest = go_on channel before (state_at channel before) more in
+    record { rest = rest; front = law_of_fronts channel before more ∙ ap (λ (l : List Move). l ++ rest) sent.all; whole = tt }
+
+-- further events only add to what is missing
+pub sent_no_more : {X E Y F : Type 0} (listed : List Instrument) (room : ℕ) (events more : List Event) (batches : List (List Move)) (x : E) (y : F) → AreSent {X = X} listed room events batches (Err x)
+    → AreSent {X = Y} listed room (events ++ more) batches (Err y)
+sent_no_more listed room events more batches x y sent =
+    let channel = channel_of listed room in
+    let further = go_on channel events (state_at channel events) more in
+    record {
+      rest = sent.rest ++ further;
+      front = law_of_fronts channel events more ∙ ap (λ (l : List Move). l ++ further) sent.front ∙ append_assoc (moves_sent batches) sent.rest further;
+      whole = tt;
+    }

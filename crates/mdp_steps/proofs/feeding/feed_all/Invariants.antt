@@ -1,0 +1,19 @@
+use Rattle.std.proofs.Common.{◌≡◌, ◌++◌, List, map, length}
+use Rattle.std.specs.Vec.Iter.{into_iter_items, into_iter_len}
+use Rattle.mdp_templates.specs.declared.instrument.Instrument.{Instrument}
+use Rattle.mdp_arbiter.specs.Accepted.{Event}
+use Rattle.mdp_engine.specs.Engine.{IsSettled}
+use Rattle.mdp_engine.specs.Steps.{event_of}
+use Rattle.mdp_steps.specs.Fed.{IsFedAll}
+use Rattle.mdp_steps.specs.Moves.{move_of}
+use Rattle.mdp_steps.proofs.Adding.{well}
+use Rattle.mdp_steps.proofs.feeding.feed_all.Given as goal
+
+-- the events so far were taken in, and with those that are left they are all
+abbrev pub invariant-loop-event : goal.invariant-loop-event
+invariant-loop-event g l = record {
+  fed : (listed : List Instrument) (before : List Event) → IsSettled listed before l.initial.arbiter
+      → IsFedAll listed before (map event_of l.yielded) l.initial.arbiter l.arbiter (map move_of l.initial.turns.items) (map move_of l.turns.items) well;
+  all : l.yielded ++ into_iter_items l.event-iterator ≡ l.fn.events.items;
+  left : into_iter_len l.event-iterator ≡ length (into_iter_items l.event-iterator);
+}

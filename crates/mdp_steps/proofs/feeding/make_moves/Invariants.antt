@@ -1,0 +1,12 @@
+use Rattle.std.proofs.Common.{◌-◌, map}
+use Rattle.mdp_steps.specs.Moves.{move_of}
+use Rattle.mdp_steps.proofs.Making.{MovesTo}
+use Rattle.mdp_steps.proofs.feeding.make_moves.Given as goal
+
+-- the steps so far were the possible moves, and are appended
+abbrev pub invariant-loop-step : goal.invariant-loop-step
+invariant-loop-step g l = MovesTo l.initial.arbiter l.arbiter (map move_of l.initial.turns.items) (map move_of l.turns.items)
+
+-- each step raises the number of the packet that passes next
+abbrev pub decreases-loop-step : goal.decreases-loop-step
+decreases-loop-step g l = 4294967296 - l.arbiter.next

@@ -1,0 +1,7 @@
+use Rattle.std.proofs.Common.{◌≡◌, ◌++◌, drop}
+use Rattle.mdp_arbiter.specs.Machine.{snapshots_of}
+use Rattle.mdp_steps.proofs.feeding.snapshots_in.Given as goal
+
+-- the snapshots so far, and those that are left, are all
+abbrev pub invariant-loop-base : goal.invariant-loop-base
+invariant-loop-base g l = l.snapshots.items ++ snapshots_of (drop l.base-index l.bases) ≡ snapshots_of l.bases

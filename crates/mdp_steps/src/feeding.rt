@@ -1,0 +1,134 @@
+//! An arbiter takes in events, and hands on as turns the moves that they make possible.
+
+ghost use Rattle.std.specs.Prelude.{◌≡◌, [], ◌∷◌, ◌++◌, List, IfOk, OnOk, map};
+ghost use Rattle.mdp_templates.specs.declared.instrument.Instrument.{Instrument};
+ghost use Rattle.mdp_arbiter.specs.Accepted.{Event as Accepted};
+ghost use Rattle.mdp_arbiter.specs.Arbiter.{state};
+ghost use Rattle.mdp_arbiter.specs.Machine.{snapshots_of};
+ghost use Rattle.mdp_arbiter.specs.Standing.{StandsAt};
+ghost use Rattle.mdp_engine.specs.Engine.{IsSettled};
+ghost use Rattle.mdp_engine.specs.Steps.{event_of};
+ghost use Rattle.mdp_steps.specs.Fed.{IsFed, IsFedAll, MakesMoves};
+ghost use Rattle.mdp_steps.specs.Moves.{move_of, stepped_move};
+
+use crate::turn::Turn;
+use mdp_arbiter::{Arbiter, Step};
+use mdp_engine::Event;
+use mdp_templates::{Memory, Packet, Snapshot};
+use mdp_window::{Put, Window};
+use std::alloc::Allocator;
+
+// Copies the snapshots that are there.
+fn snapshots_in<A: Allocator>(
+    alloc: A,
+    bases: &[Option<Snapshot>],
+) -> Result<Vec<Snapshot, A>, Memory>
+    ensures { IfOk result (λ snapshots. snapshots.items ≡ snapshots_of bases.now) }
+{
+    let mut snapshots = Vec::with_capacity(alloc, bases.len())?;
+    for base in bases {
+        match base {
+            Some(snapshot) => snapshots.push(snapshot.copy())?,
+            None => {}
+        }
+    }
+    Ok(snapshots)
+}
+
+// Makes a step a turn, where a jump took these snapshots.
+fn turn_of<A: Allocator>(
+    alloc: A,
+    step: Step<A>,
+    bases: &[Option<Snapshot>],
+) -> Result<Turn<A>, Memory>
+    ensures { IfOk result (λ turn. move_of turn ≡ stepped_move step bases.now) }
+{
+    match step {
+        Step::Pass(packet) => Ok(Turn::Passed(packet)),
+        Step::Jump { old, new } => Ok(Turn::Jumped {
+            old,
+            new,
+            snapshots: snapshots_in(alloc, bases)?,
+        }),
+    }
+}
+
+// Makes moves until none is possible, and appends each as a turn.
+fn make_moves<A: Allocator + Copy, W: Window<Packet<A>> + Drop>(
+    alloc: A,
+    arbiter: &mut Arbiter<A, W>,
+    turns: &mut Vec<Turn<A>, A>,
+) -> Result<(), Memory>
+    ensures { (events : List Accepted) → StandsAt events arbiter.old
+        → MakesMoves events arbiter.old arbiter.new (map move_of turns.old.items) (map move_of turns.new.items) result }
+{
+    while let Some(step) = arbiter.step() {
+        let turn = turn_of(alloc, step, arbiter.bases())?;
+        turns.push(turn)?;
+    }
+    Ok(())
+}
+
+// Takes in an event, and makes no move.
+fn take_in<A: Allocator + Copy, W: Window<Packet<A>> + Drop>(
+    arbiter: &mut Arbiter<A, W>,
+    event: Event<A>,
+) -> Result<(), Memory>
+    ensures stands { OnOk result ((before : List Accepted) → StandsAt before arbiter.old → StandsAt (before ++ event_of event ∷ []) arbiter.new) }
+    ensures keeps { OnOk result (state arbiter.new ≡ state arbiter.old) }
+    ensures channel { OnOk result (arbiter.new.channel ≡ arbiter.old.channel) }
+{
+    match event {
+        Event::Packet(packet) => match arbiter.packet(packet) {
+            Put::Kept => Ok(()),
+            Put::Back(_) => Ok(()),
+            Put::Memory(_) => Err(Memory),
+        },
+        Event::Snapshot(snapshot) => {
+            arbiter.snapshot(snapshot);
+            Ok(())
+        }
+        Event::Close => {
+            arbiter.close();
+            Ok(())
+        }
+    }
+}
+
+/// Takes in an event, and appends the moves that are then possible as turns.
+///
+/// # Errors
+///
+/// Memory ran out. The turns that were appended are a beginning of those moves, and the arbiter is of no further use.
+pub fn feed<A: Allocator + Copy, W: Window<Packet<A>> + Drop>(
+    alloc: A,
+    arbiter: &mut Arbiter<A, W>,
+    event: Event<A>,
+    turns: &mut Vec<Turn<A>, A>,
+) -> Result<(), Memory>
+    ensures { (listed : List Instrument) (before : List Accepted) → IsSettled listed before arbiter.old
+        → IsFed listed before (event_of event) arbiter.old arbiter.new (map move_of turns.old.items) (map move_of turns.new.items) result }
+{
+    take_in(arbiter, event)?;
+    make_moves(alloc, arbiter, turns)
+}
+
+/// Takes in events, in their order, and appends the moves that each makes possible as turns.
+///
+/// # Errors
+///
+/// Memory ran out. The turns that were appended are a beginning of those moves, and the arbiter is of no further use.
+pub fn feed_all<A: Allocator + Copy, W: Window<Packet<A>> + Drop>(
+    alloc: A,
+    arbiter: &mut Arbiter<A, W>,
+    events: Vec<Event<A>, A>,
+    turns: &mut Vec<Turn<A>, A>,
+) -> Result<(), Memory>
+    ensures { (listed : List Instrument) (before : List Accepted) → IsSettled listed before arbiter.old
+        → IsFedAll listed before (map event_of events.items) arbiter.old arbiter.new (map move_of turns.old.items) (map move_of turns.new.items) result }
+{
+    for event in events {
+        feed(alloc, arbiter, event, turns)?;
+    }
+    Ok(())
+}
