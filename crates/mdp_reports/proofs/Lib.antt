@@ -3,3 +3,6 @@ pub mod Reading
 pub mod Least
 pub mod Rounds
 pub mod Marking
+pub mod Telling
+pub mod Moves
+pub mod Owning

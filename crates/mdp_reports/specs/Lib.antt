@@ -4,3 +4,6 @@ pub mod Contents
 pub mod Next
 pub mod FromAnswers
 pub mod Taking
+pub mod Reporting
+pub mod ReportLaw
+pub mod Worker

@@ -5,14 +5,21 @@
 mod answer;
 mod audits;
 mod collector;
+mod event_end;
 mod kept;
+mod laws;
 mod merge;
+mod reporting;
 mod reports;
 mod rest;
 mod row;
+mod worker;
 
 pub use answer::Answer;
 pub use collector::Collector;
+pub use laws::law_of_reports;
+pub use reporting::report;
 pub use reports::Reports;
 pub use rest::Rest;
 pub use row::{Heading, Line};
+pub use worker::Worker;
