@@ -13,6 +13,8 @@ mod reporting;
 mod reports;
 mod rest;
 mod row;
+#[cfg(test)]
+mod tests;
 mod worker;
 
 pub use answer::Answer;
