@@ -6,3 +6,4 @@ pub mod Marking
 pub mod Telling
 pub mod Moves
 pub mod Owning
+pub mod Full

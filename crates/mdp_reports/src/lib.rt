@@ -19,7 +19,7 @@ mod worker;
 
 pub use answer::Answer;
 pub use collector::Collector;
-pub use laws::law_of_reports;
+pub use laws::{law_of_first_desks, law_of_full_jumps, law_of_reports};
 pub use reporting::report;
 pub use reports::Reports;
 pub use rest::Rest;
