@@ -51,28 +51,50 @@ fn answers_of<A: Allocator + Copy>(
     Ok(answers)
 }
 
-/// The text that so many workers and a collector make of what came, where the turns are cut into two batches.
-fn text_of<A: Allocator + Copy>(
+/// The turns of what came.
+fn turns_of<A: Allocator + Copy>(
     alloc: A,
     listed: &[Instrument],
     came: &[Came],
+) -> Result<Vec<Turn<A>, A>, Memory>
+    requires { AreFit listed.now }
+{
+    let mut arbiter = Arbiter::new(alloc, listed, MapWindow::new(alloc, 4))?;
+    let mut turns = Vec::new(alloc);
+    feed_all(alloc, &mut arbiter, events_of(alloc, came)?, &mut turns)?;
+    Ok(turns)
+}
+
+/// Appends what the collector makes of the workers' answers to a batch of turns.
+fn collect<A: Allocator + Copy>(
+    alloc: A,
+    workers: &mut [Worker<A>],
+    turns: &[Turn<A>],
+    collector: &mut Collector<A>,
+    text: &mut Vec<u8, A>,
+) -> Result<(), Memory> {
+    let answers = answers_of(alloc, workers, turns)?;
+    collector.take(alloc, &answers, text)?;
+    Ok(())
+}
+
+/// The text that so many workers and a collector make of turns, which are cut into two batches.
+fn text_of<A: Allocator + Copy>(
+    alloc: A,
+    listed: &[Instrument],
+    turns: &[Turn<A>],
     count: u16,
     cut: usize,
 ) -> Result<Vec<u8, A>, Memory>
     requires fit { AreFit listed.now }
     requires some { 0 < count }
 {
-    let mut arbiter = Arbiter::new(alloc, listed, MapWindow::new(alloc, 4))?;
-    let mut turns = Vec::new(alloc);
-    feed_all(alloc, &mut arbiter, events_of(alloc, came)?, &mut turns)?;
     let mut workers = workers_of(alloc, listed, count)?;
     let mut collector = Collector::new(alloc, listed)?;
     let mut text = Vec::new(alloc);
     let (first, second) = turns.split_at(turns.len().min(cut));
-    let answers = answers_of(alloc, &mut workers, first)?;
-    collector.take(alloc, &answers, &mut text)?;
-    let answers = answers_of(alloc, &mut workers, second)?;
-    collector.take(alloc, &answers, &mut text)?;
+    collect(alloc, &mut workers, first, &mut collector, &mut text)?;
+    collect(alloc, &mut workers, second, &mut collector, &mut text)?;
     Ok(text)
 }
 
@@ -88,8 +110,9 @@ fn workers_print(
     requires fit { AreFit listed.now }
     requires some { 0 < count }
 {
+    let turns = turns_of(alloc, listed, came)?;
     for cut in 0..6usize {
-        let made = text_of(alloc, listed, came, count, cut)?;
+        let made = text_of(alloc, listed, &turns, count, cut)?;
         assert_eq!(rt; made.as_slice(), text);
     }
     Ok(())
@@ -122,7 +145,8 @@ fn any_number_of_workers_prints_what_the_engine_prints(rt: HostRuntime) -> Resul
 fn two_print(rt: &impl Abort, heap: &Refusing<Global>, listed: &[Instrument]) -> Result<(), Memory>
     requires { AreFit listed.now }
 {
-    let text = text_of(heap, listed, &RECOVERED, 2, 2)?;
+    let turns = turns_of(heap, listed, &RECOVERED)?;
+    let text = text_of(heap, listed, &turns, 2, 2)?;
     assert_eq!(rt; text.as_slice(), RECOVERED_TEXT);
     Ok(())
 }
