@@ -1,12 +1,11 @@
 -- Jumps that have a snapshot of each listed security, and desks before any move.
-use Rattle.std.proofs.Common.{◌≡◌, List, [], ◌∷◌, ◌++◌, map, refl}
+use Rattle.std.proofs.Common.{List, [], ◌∷◌, ◌++◌, map, refl}
 use Rattle.mdp_templates.specs.declared.instrument.Instrument.{Instrument}
 use Rattle.mdp_arbiter.specs.Machine.{Move}
 use Rattle.mdp_arbiter.specs.Machine.Move.{passed, jumped}
 use Rattle.mdp_desks.proofs.Showing.{shows_nothing}
 use Rattle.mdp_desks.specs.Desks.{desk_at_start}
-use Rattle.mdp_engine.specs.RoundLaws.{Ascend}
-use Rattle.mdp_reports.specs.ReportLaw.{AreFull, LawOfFirstDesks, LawOfFullJumps, StandBehind}
+use Rattle.mdp_reports.specs.ReportLaw.{AreFull, LawOfFirstDesks, LawOfFullJumps}
 
 pub law_of_full_jumps : LawOfFullJumps
 law_of_full_jumps listed next [] ascend = tt
