@@ -139,10 +139,10 @@ beside_start listed ds ids marks differ desks same are =
 -- ---- a message
 
 -- a desk with a message's entries, the first of which has this number, where it hears them
-abbrev told : ℕ → ℕ → ℕ → List Entry → Desk → Bool → Desk
+abbrev pub told : ℕ → ℕ → ℕ → List Entry → Desk → Bool → Desk
 told packet message n entries d marked = record { instrument = d.instrument; base = d.base; book = after_entries_from d.instrument packet message n entries d.book; marked = marked }
 
-abbrev through : ℕ → ℕ → ℕ → List Entry → Desk → Desk
+abbrev pub through : ℕ → ℕ → ℕ → List Entry → Desk → Desk
 through packet message n entries d = cond (nat_lt d.base packet) (told packet message n entries d (d.marked || list_any (names d.instrument.id) entries)) d
 
 or_assoc : (a b c : Bool) → ((a || b) || c) ≡ (a || (b || c))
@@ -174,7 +174,7 @@ through_none : (packet message n : ℕ) (d : Desk) (over : Bool) → cond over (
 through_none packet message n d true = ap (λ (b : Bool). told packet message n [] d b) (or_false d.marked)
 through_none packet message n d false = refl
 
-all_through : (packet message n : ℕ) (entries : List Entry) (ds : List Desk) → desks_through packet message n entries ds ≡ map (through packet message n entries) ds
+pub all_through : (packet message n : ℕ) (entries : List Entry) (ds : List Desk) → desks_through packet message n entries ds ≡ map (through packet message n entries) ds
 all_through packet message n [] ds = sym (none ds)
   where
     none : (xs : List Desk) → map (through packet message n []) xs ≡ xs
@@ -186,7 +186,7 @@ all_through packet message n (entry ∷ entries) ds = all_through packet message
     both [] = refl
     both (x ∷ xs) = let first = through_more packet message n entry entries x in let others = both xs in cc (first, others)
 
-abbrev sent_with : ℕ → ℕ → List Entry → Bool → Sent
+abbrev pub sent_with : ℕ → ℕ → List Entry → Bool → Sent
 sent_with packet message entries end = record { packet = packet; message = message; entries = entries; end = end }
 
 -- ---- where the message ends an event
@@ -208,7 +208,7 @@ standing_case : (packet message : ℕ) (entries : List Entry) (d : Desk) (over :
 standing_case packet message entries d true over = rw over refl
 standing_case packet message entries d false over = rw over refl
 
-all_standing : (packet message : ℕ) (entries : List Entry) (ds : List Desk) → map (desk_standing packet) (map (through packet message 1 entries) ds) ≡ map (desk_seen (sent_with packet message entries true)) ds
+pub all_standing : (packet message : ℕ) (entries : List Entry) (ds : List Desk) → map (desk_standing packet) (map (through packet message 1 entries) ds) ≡ map (desk_seen (sent_with packet message entries true)) ds
 all_standing packet message entries [] = refl
 all_standing packet message entries (d ∷ ds) =
     let first = standing_case packet message entries d (nat_lt d.base packet) refl in

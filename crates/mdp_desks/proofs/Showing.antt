@@ -80,13 +80,13 @@ seen_same since i m d so_far =
 
 -- ---- all desks, message by message
 
-all_show : (since : List Sent) (m : Sent) (starts : List Start) (ds : List Desk) → AllZip (DeskShows since) starts ds → AllZip (DeskShows (since ++ m ∷ [])) starts (desks_after m ds)
+pub all_show : (since : List Sent) (m : Sent) (starts : List Start) (ds : List Desk) → AllZip (DeskShows since) starts ds → AllZip (DeskShows (since ++ m ∷ [])) starts (desks_after m ds)
 all_show since m [] [] is = tt
 all_show since m [] (d ∷ ds) is = elim is [ ]
 all_show since m (i ∷ starts) [] is = elim is [ ]
 all_show since m (i ∷ starts) (d ∷ ds) is = (after_shows since i m d is.0, all_show since m starts ds is.1)
 
-all_seen : (since : List Sent) (m : Sent) (starts : List Start) (ds : List Desk) → AllZip (DeskShows since) starts ds → map (desk_seen m) ds ≡ map (start_seen since m) starts
+pub all_seen : (since : List Sent) (m : Sent) (starts : List Start) (ds : List Desk) → AllZip (DeskShows since) starts ds → map (desk_seen m) ds ≡ map (start_seen since m) starts
 all_seen since m [] [] is = refl
 all_seen since m [] (d ∷ ds) is = elim is [ ]
 all_seen since m (i ∷ starts) [] is = elim is [ ]

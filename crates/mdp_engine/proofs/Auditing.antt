@@ -257,7 +257,7 @@ all_under ds (d ∷ rest) n are = one_more (spread_in n (ids_in ds) d.instrument
         subst (λ (o : Option Spread). AllByRecursion (IsUnder (length ds)) (with_spread o (spreads_from (n + 1) (ids_in ds) (listed_in rest)))) (sym is)
         (spread_under ds n d d.instrument.kind spread (here_of n d rest ds are) is, others)
 
-one_under : (count : ℕ) (spreads : List Spread) (m : ℕ) (d : Spread) → AllByRecursion (IsUnder count) spreads → m < length spreads → IsUnder count (get_or spreads m d)
+pub one_under : (count : ℕ) (spreads : List Spread) (m : ℕ) (d : Spread) → AllByRecursion (IsUnder count) spreads → m < length spreads → IsUnder count (get_or spreads m d)
 one_under count [] m d all less = absurd (omega (arith, less))
 one_under count (s ∷ spreads) zero d all less = all.0
 one_under count (s ∷ spreads) (suc m) d all less = one_under count spreads m d all.1 (omega (arith, less))

@@ -45,8 +45,12 @@ fn spread_of<A: Allocator + Copy>(
     }
 }
 
-/// The calendar spreads among these instruments, in listed order.
-pub(crate) fn spreads_of<A: Allocator + Copy>(
+/// Finds the calendar spreads among these instruments, in listed order.
+///
+/// # Errors
+///
+/// Memory ran out.
+pub fn spreads_of<A: Allocator + Copy>(
     alloc: A,
     slots: &Slots<A>,
     instruments: &[Instrument],

@@ -1,0 +1,97 @@
+-- What desks tell at an event end: the marked alone.
+use Rattle.std.proofs.Common.{◌≡◌, ℕ, zero, suc, ◌+◌, ◌<◌, ◌≤◌, append-nil, append_assoc, Bool, true, false, cond, List, [], ◌∷◌, ◌++◌, length, drop, map, get_or, refl, sym, ap, ◌∙◌, arith}
+use Rattle.std.specs.Prelude.{nat_lt}
+use Rattle.std.proofs.lemmas.List.{length-map}
+use Rattle.mdp_templates.specs.declared.entry.Entry.{Entry}
+use Rattle.mdp_desks.specs.declared.desk.Desk.{Desk}
+use Rattle.mdp_desks.specs.Beside.{marks_of}
+use Rattle.mdp_desks.specs.Desks.{desks_through, desk_standing, desk_seen}
+use Rattle.mdp_desks.specs.Reports.{Told, Report, tells, told_there, told_by}
+use Rattle.mdp_desks.proofs.Hearing.{sent_with, through, all_through, all_standing}
+use Rattle.mdp_reports.specs.Flat.{reports_with}
+use Rattle.mdp_reports.specs.Reporting.{reports_with_all, reports_at}
+use Rattle.mdp_reports.proofs.Flatting.{reports_with-push}
+
+-- ---- where a message ends an event
+
+pub ended_seen : (packet message : ℕ) (entries : List Entry) (ds : List Desk) (end : Bool) → end ≡ true → map (desk_standing packet) (desks_through packet message 1 entries ds) ≡ map (desk_seen (sent_with packet message entries end)) ds
+ended_seen packet message entries ds end is =
+    ap (map (desk_standing packet)) (all_through packet message 1 entries ds)
+    ∙ all_standing packet message entries ds
+    ∙ ap (λ (b : Bool). map (desk_seen (sent_with packet message entries b)) ds) (sym is)
+
+pub through_long : (packet message : ℕ) (entries : List Entry) (ds : List Desk) → length (desks_through packet message 1 entries ds) ≡ length ds
+through_long packet message entries ds = ap length (all_through packet message 1 entries ds) ∙ length-map ds (through packet message 1 entries)
+
+pub told_ended : (slots : List ℕ) (packet message : ℕ) (entries : List Entry) (ds : List Desk) (end : Bool) → end ≡ true
+    → tells packet message (told_by packet message slots (map (desk_standing packet) (desks_through packet message 1 entries ds))) ∷ [] ≡ reports_at slots (sent_with packet message entries end) ds
+told_ended slots packet message entries ds end is =
+    ap (λ seen. tells packet message (told_by packet message slots seen) ∷ []) (ended_seen packet message entries ds end is)
+    ∙ ap (λ (b : Bool). cond b (tells packet message (told_by packet message slots (map (desk_seen (sent_with packet message entries end)) ds)) ∷ []) []) (sym is)
+
+pub told_open : (slots : List ℕ) (packet message : ℕ) (entries : List Entry) (ds : List Desk) (end : Bool) → end ≡ false → reports_at slots (sent_with packet message entries end) ds ≡ []
+told_open slots packet message entries ds end is = ap (λ (b : Bool). cond b (tells packet message (told_by packet message slots (map (desk_seen (sent_with packet message entries end)) ds)) ∷ []) []) is
+
+-- ---- the marked alone
+
+none_there : (k j slot : ℕ) (d : Desk) → d.marked ≡ false → told_there k j slot (desk_standing k d) ≡ []
+none_there k j slot d is = by_base (nat_lt d.base k) refl
+  where
+    by_base : (b : Bool) → nat_lt d.base k ≡ b → told_there k j slot (desk_standing k d) ≡ []
+    by_base true over = rw (over, is) refl
+    by_base false under = rw under refl
+
+abbrev pub told_of : ℕ → ℕ → List ℕ → List Desk → List Told
+told_of k j slots ds = told_by k j slots (map (desk_standing k) ds)
+
+no_slots : (k j : ℕ) (slots : List ℕ) → told_by k j slots [] ≡ []
+no_slots k j [] = refl
+no_slots k j (slot ∷ slots) = refl
+
+pub told_below : (k j : ℕ) (slots : List ℕ) (ds : List Desk) (n : ℕ) → length slots ≡ length ds → ((i : ℕ) → i < n → get_or (marks_of ds) i false ≡ false) → told_of k j (drop n slots) (drop n ds) ≡ told_of k j slots ds
+told_below k j slots ds zero many none = refl
+told_below k j [] [] (suc n) many none = refl
+told_below k j [] (d ∷ ds) (suc n) many none = absurd (omega (arith, many))
+told_below k j (slot ∷ slots) [] (suc n) many none = absurd (omega (arith, many))
+told_below k j (slot ∷ slots) (d ∷ ds) (suc n) many none =
+    told_below k j slots ds n (omega (arith, many)) (λ i less. none (suc i) (omega (arith, less)))
+    ∙ ap (λ (t : List Told). t ++ told_of k j slots ds) (sym (none_there k j slot d (none 0 (omega arith))))
+
+pub told_none : (k j : ℕ) (slots : List ℕ) (ds : List Desk) (n : ℕ) → length slots ≡ length ds → ((i : ℕ) → n ≤ i → get_or (marks_of ds) i false ≡ false) → told_of k j (drop n slots) (drop n ds) ≡ []
+told_none k j [] [] zero many none = refl
+told_none k j [] [] (suc n) many none = refl
+told_none k j [] (d ∷ ds) n many none = absurd (omega (arith, many))
+told_none k j (slot ∷ slots) [] n many none = absurd (omega (arith, many))
+told_none k j (slot ∷ slots) (d ∷ ds) zero many none =
+    ap (λ (t : List Told). t ++ told_of k j slots ds) (none_there k j slot d (none 0 (omega arith)))
+    ∙ told_none k j slots ds zero (omega (arith, many)) (λ i from. none (suc i) (omega arith))
+told_none k j (slot ∷ slots) (d ∷ ds) (suc n) many none = told_none k j slots ds n (omega (arith, many)) (λ i from. none (suc i) (omega (arith, from)))
+
+next_there : (k j : ℕ) (slots : List ℕ) (ds : List Desk) (n x slot : ℕ) (d e : Desk) → n < length slots → n < length ds → slot ≡ get_or slots n x → d ≡ get_or ds n e
+    → told_of k j (drop n slots) (drop n ds) ≡ told_there k j slot (desk_standing k d) ++ told_of k j (drop (suc n) slots) (drop (suc n) ds)
+next_there k j [] ds n x slot d e less under is are = absurd (omega (arith, less))
+next_there k j (s ∷ slots) [] n x slot d e less under is are = absurd (omega (arith, under))
+next_there k j (s ∷ slots) (y ∷ ds) zero x slot d e less under is are =
+    ap (λ (l : ℕ). told_there k j l (desk_standing k y) ++ told_of k j slots ds) (sym is) ∙ ap (λ (z : Desk). told_there k j slot (desk_standing k z) ++ told_of k j slots ds) (sym are)
+next_there k j (s ∷ slots) (y ∷ ds) (suc n) x slot d e less under is are = next_there k j slots ds n x slot d e (omega (arith, less)) (omega (arith, under)) is are
+
+both_behind : (xs ys : List Told) (rs : List Report) → reports_with_all (xs ++ ys) rs ≡ reports_with_all ys (reports_with_all xs rs)
+both_behind [] ys rs = refl
+both_behind (x ∷ xs) ys rs = both_behind xs ys (reports_with x rs)
+
+pub tell_more : (k j : ℕ) (slots : List ℕ) (ds : List Desk) (n x slot : ℕ) (d e : Desk) (old new : List Report) → n < length slots → n < length ds → slot ≡ get_or slots n x → d ≡ get_or ds n e
+    → new ≡ reports_with_all (told_there k j slot (desk_standing k d)) old
+    → reports_with_all (told_of k j (drop (n + 1) slots) (drop (n + 1) ds)) new ≡ reports_with_all (told_of k j (drop n slots) (drop n ds)) old
+tell_more k j slots ds n x slot d e old new less under is are told =
+    let one : suc n ≡ n + 1 = omega arith in
+    ap (reports_with_all (told_of k j (drop (n + 1) slots) (drop (n + 1) ds))) told
+    ∙ sym (both_behind (told_there k j slot (desk_standing k d)) (told_of k j (drop (n + 1) slots) (drop (n + 1) ds)) old)
+    ∙ ap (λ (m : ℕ). reports_with_all (told_there k j slot (desk_standing k d) ++ told_of k j (drop m slots) (drop m ds)) old) (sym one)
+    ∙ ap (λ (l : List Told). reports_with_all l old) (sym (next_there k j slots ds n x slot d e less under is are))
+
+pub all_behind : (k j : ℕ) (ts us : List Told) (old : List Report) → reports_with_all ts (old ++ tells k j us ∷ []) ≡ old ++ tells k j (us ++ ts) ∷ []
+all_behind k j [] us old = ap (λ (l : List Told). old ++ tells k j l ∷ []) (sym (append-nil us))
+all_behind k j (t ∷ ts) us old =
+    ap (reports_with_all ts) (reports_with-push t old (tells k j us))
+    ∙ all_behind k j ts (us ++ t ∷ []) old
+    ∙ ap (λ (l : List Told). old ++ tells k j l ∷ []) (append_assoc us (t ∷ []) ts)

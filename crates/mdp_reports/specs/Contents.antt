@@ -1,0 +1,41 @@
+-- What stands at a place of a list of reports, and what goes first of what a report tells.
+use Rattle.std.specs.Prelude.{ℕ, zero, suc, List, [], ◌∷◌, slice_get, Option, Some, None}
+use Rattle.std.specs.Option.{option_map}
+use Rattle.mdp_desks.specs.Reports.{Told, Report, tells, leaps}
+use Rattle.mdp_engine.specs.Rounds.{told_in}
+use Rattle.mdp_reports.specs.declared.row.Mark.{Mark}
+use Rattle.mdp_reports.specs.declared.row.Mark.TheVariants.{Ended, Leapt}
+use Rattle.mdp_reports.specs.declared.row.Line.{Line}
+use Rattle.mdp_reports.specs.declared.row.Heading.{Heading}
+use Rattle.mdp_reports.specs.declared.row.Heading.TheVariants.{Event, Jump}
+
+-- the moment that a report is of
+abbrev pub heading_of : Report → Heading
+heading_of (tells packet message ts) = Event packet message
+heading_of (leaps old new) = Jump old new
+
+-- of the report at a place, from 0
+abbrev pub heading_at : ℕ → List Report → Option Heading
+heading_at n reports = option_map heading_of (slice_get reports n)
+
+-- what the report at a place tells; nothing where there is none
+abbrev pub told_at : ℕ → List Report → List Told
+told_at n [] = []
+told_at zero (r ∷ reports) = told_in r
+told_at (suc n) (r ∷ reports) = told_at n reports
+
+abbrev pub told_line : Line → Told
+told_line l = record { slot = l.slot; lines = l.lines.now; best = l.best }
+
+abbrev pub slot_first : List Told → Option ℕ
+slot_first [] = None
+slot_first (t ∷ ts) = Some t.slot
+
+-- where the rows of a moment stand that is an event end
+abbrev pub place_in : Option Mark → Option (ℕ × ℕ)
+place_in None = None
+place_in (Some (Ended packet message from to)) = Some (from, to)
+place_in (Some (Leapt old new)) = None
+
+abbrev pub place_at : ℕ → List Mark → Option (ℕ × ℕ)
+place_at n marks = place_in (slice_get marks n)

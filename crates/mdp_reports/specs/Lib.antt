@@ -1,0 +1,9 @@
+pub mod Flat
+pub mod ReportCode
+pub mod Contents
+pub mod Next
+pub mod FromAnswers
+pub mod Taking
+pub mod Reporting
+pub mod ReportLaw
+pub mod Worker

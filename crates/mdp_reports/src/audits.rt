@@ -1,0 +1,105 @@
+//! The lines of calendar spreads where an event ends, by the best levels that are kept.
+
+ghost use Rattle.std.specs.Prelude.{◌≡◌, ◌++◌, ◌||◌, length, slice_get, OnOk};
+ghost use Rattle.std.specs.List.{flat_map, AllByRecursion};
+ghost use Rattle.mdp_desks.specs.Lines.{verdicts_text};
+ghost use Rattle.mdp_engine.specs.Rounds.{best_kept, name_of};
+ghost use Rattle.mdp_engine.specs.Spreads.{IsUnder};
+ghost use Rattle.mdp_reports.specs.Taking.{marked_line};
+
+use mdp_engine::Spread;
+use mdp_print::put_audit;
+use mdp_quotes::{Best, audit};
+use mdp_templates::{Instrument, Memory};
+use std::alloc::Allocator;
+
+// Appends the verdicts of a spread against its legs, unless one of the three has no best levels.
+fn put_verdicts<A: Allocator>(
+    out: &mut Vec<u8, A>,
+    packet: u32,
+    message: u64,
+    name: &[u8],
+    spread: Option<Best>,
+    leg1: Option<Best>,
+    leg2: Option<Best>,
+) -> Result<(), Memory>
+    ensures { OnOk result (out.new.items ≡ out.old.items ++ verdicts_text packet message name.now spread leg1 leg2) }
+{
+    match (spread, leg1, leg2) {
+        (Some(spread), Some(leg1), Some(leg2)) => {
+            let [bid, offer] = audit(&spread, &leg1, &leg2);
+            put_audit(out, packet, message, name, bid, offer)
+        }
+        _ => Ok(()),
+    }
+}
+
+fn kept_at(kept: &[Option<Best>], slot: usize) -> Option<Best>
+    ensures { result ≡ best_kept (slice_get kept.now slot) }
+{
+    match kept.get(slot) {
+        Some(best) => *best,
+        None => None,
+    }
+}
+
+fn name_at(listed: &[Instrument], slot: usize) -> &[u8]
+    ensures { result.now ≡ name_of (slice_get listed.now slot) }
+{
+    match listed.get(slot) {
+        Some(instrument) => instrument.name.as_str().as_bytes(),
+        None => &[],
+    }
+}
+
+fn is_one_set(spread: bool, leg1: bool, leg2: bool) -> bool
+    ensures { result ≡ (spread || leg1 || leg2) }
+{
+    spread || leg1 || leg2
+}
+
+// Appends the line of a spread of which one of the three is marked.
+fn put_marked<A: Allocator>(
+    out: &mut Vec<u8, A>,
+    packet: u32,
+    message: u64,
+    listed: &[Instrument],
+    spread: &Spread,
+    kept: &[Option<Best>],
+    marks: &[bool],
+) -> Result<(), Memory>
+    requires { IsUnder (length marks.now) spread.now }
+    ensures { OnOk result (out.new.items ≡ out.old.items ++ marked_line packet message listed.now marks.now kept.now spread.now) }
+{
+    if !is_one_set(marks[spread.slot], marks[spread.leg1], marks[spread.leg2]) {
+        return Ok(());
+    }
+    put_verdicts(
+        out,
+        packet,
+        message,
+        name_at(listed, spread.slot),
+        kept_at(kept, spread.slot),
+        kept_at(kept, spread.leg1),
+        kept_at(kept, spread.leg2),
+    )
+}
+
+/// Appends the lines of the spreads of which one of the three is marked.
+pub(crate) fn put_audits<A: Allocator>(
+    out: &mut Vec<u8, A>,
+    packet: u32,
+    message: u64,
+    listed: &[Instrument],
+    spreads: &[Spread],
+    kept: &[Option<Best>],
+    marks: &[bool],
+) -> Result<(), Memory>
+    requires { AllByRecursion (IsUnder (length marks.now)) spreads.now }
+    ensures { OnOk result (out.new.items ≡ out.old.items ++ flat_map (marked_line packet message listed.now marks.now kept.now) spreads.now) }
+{
+    for spread in spreads {
+        put_marked(out, packet, message, listed, spread, kept, marks)?;
+    }
+    Ok(())
+}

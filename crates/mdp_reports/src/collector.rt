@@ -1,0 +1,213 @@
+//! The collector: what it makes of the answers of all workers.
+
+ghost use Rattle.std.specs.Prelude.{◌≡◌, ◌≢◌, ◌++◌, AllPairs, length, map, IfOk, OnOk};
+ghost use Rattle.mdp_arbiter.specs.Channel.{ids_of};
+ghost use Rattle.mdp_books.specs.Book.{empty_book};
+ghost use Rattle.mdp_engine.specs.Rounds.{all_by_slot, kept_after, kept_at_start, rounds_in, text_from, told_text};
+ghost use Rattle.mdp_engine.specs.Spreads.{spreads_from};
+ghost use Rattle.mdp_quotes.specs.Best.{best_of};
+ghost use Rattle.mdp_reports.specs.Contents.{heading_at, told_at};
+ghost use Rattle.mdp_reports.specs.FromAnswers.{told_in_answer};
+ghost use Rattle.mdp_reports.specs.Taking.{first_list, kept_after_rounds, kept_under, text_under};
+
+use crate::answer::Answer;
+use crate::audits::put_audits;
+use crate::kept::{clear, forget, put_all_told};
+use crate::rest::Rest;
+use crate::row::Heading;
+use mdp_arbiter::Slots;
+use mdp_books::Book;
+use mdp_engine::{Spread, spreads_of};
+use mdp_print::put_jump;
+use mdp_quotes::Best;
+use mdp_templates::{Instrument, Memory};
+use std::alloc::Allocator;
+use std::marker::Model;
+
+/// Joins what all workers report, in slot order, and audits the calendar spreads. It is seen as the listed securities and, for each,
+/// the best levels of where it was last printed, none of a fault or from a jump on.
+#[derive(Drop)]
+pub struct Collector<'a, A: Allocator> {
+    listed: &'a [Instrument],
+    spreads: Vec<Spread, A>,
+    kept: Vec<Option<Best>, A>,
+    marks: Vec<bool, A>,
+}
+
+impl<'a, A: Allocator> Model for Collector<'a, A> {
+    ghost use Rattle.mdp_reports.specs.Taking.{AreBesideKept, View, view_code};
+
+    ghost Value = { View };
+
+    ghost coded = { view_code };
+
+    ghost view = { λ c. record { listed = c.listed.now; kept = c.kept.items } };
+
+    ghost invariant = { λ c. AreBesideKept c.listed.now c.spreads.items c.marks.items };
+}
+
+// The best levels of each security before any packet.
+fn kept_for<A: Allocator + Copy>(
+    alloc: A,
+    listed: &[Instrument],
+) -> Result<Vec<Option<Best>, A>, Memory>
+    ensures { IfOk result (λ kept. kept.items ≡ kept_at_start listed.now) }
+{
+    let empty = Best::of(&Book::empty());
+    let mut kept = Vec::with_capacity(alloc, listed.len())?;
+    for _instrument in listed {
+        kept.push(empty)?;
+    }
+    Ok(kept)
+}
+
+// Appends the lines of an event end.
+fn put_event<A: Allocator>(
+    out: &mut Vec<u8, A>,
+    packet: u32,
+    message: u64,
+    listed: &[Instrument],
+    spreads: &[Spread],
+    kept: &mut [Option<Best>],
+    marks: &mut [bool],
+    left: &mut [Rest],
+) -> Result<(), Memory>
+    requires spreads { spreads.now ≡ spreads_from 0 (ids_of listed.now) listed.now }
+    requires long { length marks.old ≡ length listed.now }
+    ensures text { OnOk result (out.new.items ≡ out.old.items ++ told_text packet message listed.now (all_by_slot left.old) (kept_after (all_by_slot left.old) kept.old)) }
+    ensures kept { OnOk result (kept.new ≡ kept_after (all_by_slot left.old) kept.old) }
+    ensures kept_long { length kept.new ≡ length kept.old }
+    ensures marks_long { length marks.new ≡ length marks.old }
+{
+    clear(marks);
+    put_all_told(left, out, kept, marks)?;
+    put_audits(out, packet, message, listed, spreads, kept, marks)?;
+    Ok(())
+}
+
+// What the report at a place tells.
+fn rest_of<A: Allocator + Copy>(answer: &Answer<A>, n: usize) -> Rest<'_>
+    ensures { result ≡ told_at n (told_in_answer answer.now) }
+{
+    match answer {
+        Answer::Tells(reports) => reports.rest(n),
+        Answer::Failed => Rest::none(),
+        Answer::Finished => Rest::none(),
+    }
+}
+
+// How many reports the first worker has.
+fn count_in<A: Allocator + Copy>(round: &[Answer<A>]) -> usize
+    ensures { result ≡ length (first_list (map told_in_answer round.now)) }
+{
+    match round.first() {
+        Some(Answer::Tells(first)) => first.len(),
+        Some(Answer::Failed) => 0,
+        Some(Answer::Finished) => 0,
+        None => 0,
+    }
+}
+
+// The moment that the first worker's report at a place is of.
+fn heading_in<A: Allocator + Copy>(round: &[Answer<A>], n: usize) -> Option<Heading>
+    ensures { result ≡ heading_at n (first_list (map told_in_answer round.now)) }
+{
+    match round.first() {
+        Some(Answer::Tells(first)) => first.heading(n),
+        Some(Answer::Failed) => None,
+        Some(Answer::Finished) => None,
+        None => None,
+    }
+}
+
+// What all workers' reports at a place tell.
+fn fill<'r, A: Allocator + Copy>(
+    round: &'r [Answer<A>],
+    n: usize,
+    left: &mut Vec<Rest<'r>, A>,
+) -> Result<(), Memory>
+    ensures { OnOk result (left.new.items ≡ map (told_at n) (map told_in_answer round.now)) }
+{
+    left.clear();
+    for answer in round {
+        left.push(rest_of(answer, n))?;
+    }
+    Ok(())
+}
+
+impl<'a, A: Allocator + Copy> Collector<'a, A> {
+    /// Makes a collector that has taken nothing, for these securities, whose ids all differ.
+    ///
+    /// # Errors
+    ///
+    /// Memory ran out.
+    pub fn new(alloc: A, listed: &'a [Instrument]) -> Result<Collector<'a, A>, Memory>
+        requires { AllPairs (λ earlier later. earlier.id ≢ later.id) listed.now }
+        ensures { IfOk result (λ c. c ≡ record { listed = listed.now; kept = kept_at_start listed.now }) }
+    {
+        let slots = Slots::of(alloc, listed)?;
+        let spreads = spreads_of(alloc, &slots, listed)?;
+        let kept = kept_for(alloc, listed)?;
+        let marks = vec![in alloc; false; listed.len()]?;
+        Ok(Collector {
+            listed,
+            spreads,
+            kept,
+            marks,
+        })
+    }
+
+    // Appends the lines of a moment.
+    fn put_moment(
+        &mut self,
+        heading: Heading,
+        left: &mut [Rest],
+        out: &mut Vec<u8, A>,
+    ) -> Result<(), Memory>
+        ensures text { OnOk result (out.new.items ≡ out.old.items ++ text_under heading self.old.listed self.old.kept (all_by_slot left.old)) }
+        ensures kept { OnOk result (self.new ≡ record { listed = self.old.listed; kept = kept_under heading self.old.kept (all_by_slot left.old) }) }
+    {
+        match heading {
+            Heading::Event { packet, message } => put_event(
+                out,
+                packet,
+                message,
+                self.listed,
+                &self.spreads,
+                &mut self.kept,
+                &mut self.marks,
+                left,
+            ),
+            Heading::Jump { old, new } => {
+                put_jump(out, old, new)?;
+                forget(&mut self.kept);
+                Ok(())
+            }
+        }
+    }
+
+    /// Takes one answer of each worker, all to the same batch, and appends the lines of its moments.
+    ///
+    /// # Errors
+    ///
+    /// Memory ran out. Then neither the collector nor what was appended is of more use.
+    pub fn take(
+        &mut self,
+        alloc: A,
+        round: &[Answer<A>],
+        out: &mut Vec<u8, A>,
+    ) -> Result<(), Memory>
+        ensures text { OnOk result (out.new.items ≡ out.old.items ++ text_from self.old.listed self.old.kept (rounds_in (map told_in_answer round.now))) }
+        ensures kept { OnOk result (self.new ≡ record { listed = self.old.listed; kept = kept_after_rounds self.old.kept (rounds_in (map told_in_answer round.now)) }) }
+    {
+        let mut left = Vec::with_capacity(alloc, round.len())?;
+        for n in 0..count_in(round) {
+            let Some(heading) = heading_in(round, n) else {
+                return Ok(());
+            };
+            fill(round, n, &mut left)?;
+            self.put_moment(heading, &mut left, out)?;
+        }
+        Ok(())
+    }
+}

@@ -1,0 +1,91 @@
+//! What a worker reports of an event end: the securities of its own that are printed there.
+
+ghost use Rattle.std.specs.Prelude.{◌≡◌, ◌++◌, ◌∷◌, [], map, length, true, OnOk};
+ghost use Rattle.mdp_desks.specs.Beside.{marks_of};
+ghost use Rattle.mdp_desks.specs.Desks.{desk_standing};
+ghost use Rattle.mdp_desks.specs.Reports.{tells, told_by, told_there};
+ghost use Rattle.mdp_reports.specs.Reporting.{reports_with_all};
+
+use crate::reports::Reports;
+use mdp_desks::{Desk, Desks, Marked};
+use mdp_templates::Memory;
+use std::alloc::Allocator;
+
+// Tells of a security whose desk is marked, unless the packet stands not behind its base.
+fn tell_due<A: Allocator + Copy>(
+    out: &mut Reports<A>,
+    packet: u32,
+    message: u64,
+    slot: u16,
+    desk: &Desk,
+) -> Result<(), Memory>
+    requires { desk.now.marked ≡ true }
+    ensures { OnOk result (out.new ≡ reports_with_all (told_there packet message slot (desk_standing packet desk.now)) out.old) }
+{
+    if packet > desk.base {
+        let name = desk.instrument.name.as_str().as_bytes();
+        out.put_row(packet, message, slot, name, &desk.book)?;
+    }
+    Ok(())
+}
+
+// Tells of a security, whose mark is this one; with none the desk isn't looked at.
+fn tell_desk<A: Allocator + Copy>(
+    out: &mut Reports<A>,
+    packet: u32,
+    message: u64,
+    slot: u16,
+    desk: &Desk,
+    mark: bool,
+) -> Result<(), Memory>
+    requires { mark ≡ desk.now.marked }
+    ensures { OnOk result (out.new ≡ reports_with_all (told_there packet message slot (desk_standing packet desk.now)) out.old) }
+{
+    if mark {
+        tell_due(out, packet, message, slot, desk)?;
+    }
+    Ok(())
+}
+
+// Tells of the securities whose desks are marked.
+fn tell_marked<A: Allocator + Copy>(
+    out: &mut Reports<A>,
+    packet: u32,
+    message: u64,
+    slots: &[u16],
+    desks: &[Desk],
+    marked: &Marked<A>,
+) -> Result<(), Memory>
+    requires marks { marked.now ≡ marks_of desks.now }
+    requires many { length slots.now ≡ length desks.now }
+    ensures { OnOk result (out.new ≡ reports_with_all (told_by packet message slots.now (map (desk_standing packet) desks.now)) out.old) }
+{
+    for n in marked.low()..marked.high() {
+        tell_desk(out, packet, message, slots[n], &desks[n], marked.is_set(n))?;
+    }
+    Ok(())
+}
+
+/// Reports an event end in message `message` of packet `packet`: of the securities of these desks, which stand at these slots, those
+/// that are printed there. A desk that is not marked is not looked at.
+pub(crate) fn report_event_end<A: Allocator + Copy>(
+    desks: &Desks<A>,
+    slots: &[u16],
+    packet: u32,
+    message: u64,
+    out: &mut Reports<A>,
+) -> Result<(), Memory>
+    requires { length slots.now ≡ length desks.now }
+    ensures { OnOk result (out.new ≡ out.old ++ tells packet message (told_by packet message slots.now (map (desk_standing packet) desks.now)) ∷ []) }
+{
+    out.begin(packet, message)?;
+    tell_marked(
+        out,
+        packet,
+        message,
+        slots,
+        desks.as_slice(),
+        desks.marked(),
+    )?;
+    Ok(())
+}

@@ -1,0 +1,70 @@
+//! What is kept of what a moment tells: the best levels of each security, and a mark for each that is told of.
+
+ghost use Rattle.std.specs.Prelude.{◌≡◌, ◌++◌, OnOk, None, set, map, length, true, false};
+ghost use Rattle.mdp_engine.specs.Rounds.{all_by_slot, kept_after};
+ghost use Rattle.mdp_reports.specs.Taking.{lines_told, marks_after};
+
+use crate::merge::take_next;
+use crate::rest::Rest;
+use mdp_quotes::Best;
+use mdp_templates::Memory;
+use std::alloc::Allocator;
+
+// A slot past the end changes nothing.
+fn keep(kept: &mut [Option<Best>], slot: u16, best: Option<Best>)
+    ensures { kept.new ≡ set kept.old slot best }
+{
+    let slot = usize::from(slot);
+    if slot < kept.len() {
+        kept[slot] = best;
+    }
+}
+
+// A slot past the end changes nothing.
+fn mark(marks: &mut [bool], slot: u16)
+    ensures { marks.new ≡ set marks.old slot true }
+{
+    let slot = usize::from(slot);
+    if slot < marks.len() {
+        marks[slot] = true;
+    }
+}
+
+/// Appends the lines of all that is told, in slot order, keeps its best levels, and marks its slots.
+pub(crate) fn put_all_told<A: Allocator>(
+    left: &mut [Rest],
+    out: &mut Vec<u8, A>,
+    kept: &mut [Option<Best>],
+    marks: &mut [bool],
+) -> Result<(), Memory>
+    ensures text { OnOk result (out.new.items ≡ out.old.items ++ lines_told (all_by_slot left.old)) }
+    ensures kept { OnOk result (kept.new ≡ kept_after (all_by_slot left.old) kept.old) }
+    ensures marks { OnOk result (marks.new ≡ marks_after (all_by_slot left.old) marks.old) }
+    ensures kept_long { length kept.new ≡ length kept.old }
+    ensures marks_long { length marks.new ≡ length marks.old }
+{
+    while let Some(line) = take_next(left) {
+        out.extend_from_slice(line.lines)?;
+        keep(kept, line.slot, line.best);
+        mark(marks, line.slot);
+    }
+    Ok(())
+}
+
+/// Forgets all best levels.
+pub(crate) fn forget(kept: &mut [Option<Best>])
+    ensures { kept.new ≡ map (λ _. None) kept.old }
+{
+    for n in 0..kept.len() {
+        kept[n] = None;
+    }
+}
+
+/// Takes all marks away.
+pub(crate) fn clear(marks: &mut [bool])
+    ensures { marks.new ≡ map (λ _. false) marks.old }
+{
+    for n in 0..marks.len() {
+        marks[n] = false;
+    }
+}

@@ -1,0 +1,27 @@
+//! What a worker reports of the moves that it took with the books of its own securities, and what the collector makes of the reports
+//! of all workers: the text of all of them, and nothing of threads or queues.
+#![tactic(auto)]
+
+mod answer;
+mod audits;
+mod collector;
+mod event_end;
+mod kept;
+mod laws;
+mod merge;
+mod reporting;
+mod reports;
+mod rest;
+mod row;
+#[cfg(test)]
+mod tests;
+mod worker;
+
+pub use answer::Answer;
+pub use collector::Collector;
+pub use laws::{law_of_first_desks, law_of_full_jumps, law_of_reports};
+pub use reporting::report;
+pub use reports::Reports;
+pub use rest::Rest;
+pub use row::{Heading, Line};
+pub use worker::Worker;

@@ -1,0 +1,133 @@
+//! What a worker reports of moves, with the books of its own securities alone.
+
+ghost use Rattle.std.specs.Prelude.{◌≡◌, ◌++◌, length, map, slice_get, IfOk, OnOk};
+ghost use Rattle.mdp_books.specs.Feed.{sent_as, sent_in};
+ghost use Rattle.mdp_desks.specs.Desks.{desks_after, passed_desks};
+ghost use Rattle.mdp_reports.specs.Reporting.{desks_after_move, desks_after_moves, reports_at, reports_of_move, reports_of_moves, reports_passed, snapshots_at};
+ghost use Rattle.mdp_steps.specs.Moves.{move_of};
+
+use crate::event_end::report_event_end;
+use crate::reports::Reports;
+use mdp_desks::Desks;
+use mdp_steps::Turn;
+use mdp_templates::{Memory, Message, Packet, Snapshot};
+use std::alloc::Allocator;
+
+// Hears a message, and reports it where it ends an event.
+fn report_message<A: Allocator + Copy>(
+    desks: &mut Desks<A>,
+    slots: &[u16],
+    packet: u32,
+    message: u64,
+    taken: &Message<A>,
+    out: &mut Reports<A>,
+) -> Result<(), Memory>
+    requires { length slots.now ≡ length desks.old }
+    ensures many { length desks.new ≡ length desks.old }
+    ensures desks { OnOk result (desks.new ≡ desks_after (sent_as packet message taken.now) desks.old) }
+    ensures reports { OnOk result (out.new ≡ out.old ++ reports_at slots.now (sent_as packet message taken.now) desks.old) }
+{
+    desks.hear(packet, message, taken.entries());
+    if taken.is_end() {
+        report_event_end(desks, slots, packet, message, out)?;
+        desks.settle(packet);
+    }
+    Ok(())
+}
+
+// Hears a packet message by message, and reports its event ends.
+fn report_packet<A: Allocator + Copy>(
+    desks: &mut Desks<A>,
+    slots: &[u16],
+    packet: &Packet<A>,
+    out: &mut Reports<A>,
+) -> Result<(), Memory>
+    requires { length slots.now ≡ length desks.old }
+    ensures many { length desks.new ≡ length desks.old }
+    ensures desks { OnOk result (desks.new ≡ passed_desks (sent_in packet.now) desks.old) }
+    ensures reports { OnOk result (out.new ≡ out.old ++ reports_passed slots.now (sent_in packet.now) desks.old) }
+{
+    let number = packet.number();
+    let messages = packet.messages();
+    for n in 0..messages.len() {
+        report_message(desks, slots, number, n as u64 + 1, &messages[n], out)?;
+    }
+    Ok(())
+}
+
+// The snapshot at a slot, if there is one.
+fn snapshot_at(snapshots: &[Snapshot], slot: u16) -> Option<Snapshot>
+    ensures { result ≡ slice_get snapshots.now slot }
+{
+    match snapshots.get(usize::from(slot)) {
+        Some(snapshot) => Some(snapshot.copy()),
+        None => None,
+    }
+}
+
+// The snapshots at these slots.
+fn snapshots_at<A: Allocator + Copy>(
+    alloc: A,
+    slots: &[u16],
+    snapshots: &[Snapshot],
+) -> Result<Vec<Option<Snapshot>, A>, Memory>
+    ensures { IfOk result (λ bases. bases.items ≡ snapshots_at slots.now snapshots.now) }
+{
+    let mut bases = Vec::with_capacity(alloc, slots.len())?;
+    for slot in slots {
+        bases.push(snapshot_at(snapshots, *slot))?;
+    }
+    Ok(bases)
+}
+
+// Reports a turn, and makes its move.
+fn report_turn<A: Allocator + Copy>(
+    alloc: A,
+    desks: &mut Desks<A>,
+    slots: &[u16],
+    turn: &Turn<A>,
+    out: &mut Reports<A>,
+) -> Result<(), Memory>
+    requires { length slots.now ≡ length desks.old }
+    ensures many { length desks.new ≡ length desks.old }
+    ensures desks { OnOk result (desks.new ≡ desks_after_move slots.now (move_of turn.now) desks.old) }
+    ensures reports { OnOk result (out.new ≡ out.old ++ reports_of_move slots.now (move_of turn.now) desks.old) }
+{
+    match turn {
+        Turn::Passed(packet) => report_packet(desks, slots, packet, out),
+        Turn::Jumped {
+            old,
+            new,
+            snapshots,
+        } => {
+            let bases = snapshots_at(alloc, slots, snapshots)?;
+            out.put_jump(*old, *new)?;
+            desks.rebase(&bases);
+            Ok(())
+        }
+    }
+}
+
+/// Appends the reports of these turns, one for each event end and each jump, by the desks of a worker's own securities, and makes their
+/// moves. The securities stand at these slots, from 0, among all listed ones, of which a jump has the snapshots.
+///
+/// # Errors
+///
+/// Memory ran out. Then neither the desks nor the reports are of more use.
+pub fn report<A: Allocator + Copy>(
+    alloc: A,
+    desks: &mut Desks<A>,
+    slots: &[u16],
+    turns: &[Turn<A>],
+    out: &mut Reports<A>,
+) -> Result<(), Memory>
+    requires { length slots.now ≡ length desks.old }
+    ensures many { length desks.new ≡ length desks.old }
+    ensures desks { OnOk result (desks.new ≡ desks_after_moves slots.now (map move_of turns.now) desks.old) }
+    ensures reports { OnOk result (out.new ≡ out.old ++ reports_of_moves slots.now (map move_of turns.now) desks.old) }
+{
+    for turn in turns {
+        report_turn(alloc, desks, slots, turn, out)?;
+    }
+    Ok(())
+}

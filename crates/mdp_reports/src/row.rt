@@ -1,0 +1,48 @@
+//! The parts of reports.
+
+use mdp_quotes::Best;
+
+/// A security that is printed at an event end: its slot, where its lines stand among the bytes (from `from` on and before `to`), and
+/// its best levels, none of a faulty book.
+#[derive(Clone, Copy)]
+pub struct Row {
+    pub slot: u16,
+    pub from: usize,
+    pub to: usize,
+    pub best: Option<Best>,
+}
+
+/// A moment: an event end, with the place of its rows among all rows (from `from` on and before `to`), or a jump.
+#[derive(Clone, Copy)]
+pub enum Mark {
+    Ended {
+        packet: u32,
+        message: u64,
+        from: usize,
+        to: usize,
+    },
+    Leapt {
+        old: u64,
+        new: u64,
+    },
+}
+
+/// What is told of a security that is printed at an event end.
+#[derive(Clone, Copy)]
+pub struct Line<'a> {
+    /// Its slot among all listed securities, from 0.
+    pub slot: u16,
+    /// The lines of its book, as they are printed.
+    pub lines: &'a [u8],
+    /// Its best levels; none of a faulty book.
+    pub best: Option<Best>,
+}
+
+/// The moment that a report is of.
+#[derive(Clone, Copy)]
+pub enum Heading {
+    /// Message `message` of packet `packet` ends an event.
+    Event { packet: u32, message: u64 },
+    /// Recovery jumps from packet number `old` to `new`.
+    Jump { old: u64, new: u64 },
+}

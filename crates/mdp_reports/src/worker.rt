@@ -1,0 +1,128 @@
+//! A worker: the books of its own securities, and their slots among all listed ones.
+
+ghost use Rattle.std.specs.Prelude.{◌≡◌, ◌≢◌, ◌++◌, ◌≤◌, ◌<◌, AllPairs, length, map, IfOk, OnOk};
+ghost use Rattle.mdp_desks.specs.Desks.{desk_at_start};
+ghost use Rattle.mdp_desks.specs.Shares.{is_kept_by, own_part, own_slots};
+ghost use Rattle.mdp_reports.specs.Reporting.{desks_after_moves, reports_of_moves};
+ghost use Rattle.mdp_steps.specs.Moves.{move_of};
+
+use crate::reporting::report;
+use crate::reports::Reports;
+use mdp_desks::Desks;
+use mdp_steps::Turn;
+use mdp_templates::{Instrument, Memory};
+use std::alloc::Allocator;
+use std::marker::Model;
+
+/// A worker with the books of its own securities alone, seen as the slots of these among all listed ones, from 0, and their desks.
+#[derive(Drop)]
+pub struct Worker<A: Allocator> {
+    slots: Vec<u16, A>,
+    desks: Desks<A>,
+}
+
+impl<A: Allocator> Model for Worker<A> {
+    ghost use Rattle.std.specs.Prelude.{◌≡◌, length};
+    ghost use Rattle.mdp_reports.specs.Worker.{View, view_code};
+
+    ghost Value = { View };
+
+    ghost coded = { view_code };
+
+    ghost view = { λ w. record { slots = w.slots.items; desks = w.desks } };
+
+    ghost invariant = { λ w. length w.slots.items ≡ length w.desks };
+}
+
+fn is_own(count: u16, number: u16, slot: u16) -> bool
+    requires { 0 < count }
+    ensures { result ≡ is_kept_by count number slot }
+{
+    slot % count == number
+}
+
+// The slots of this worker's own securities.
+fn own_slots<A: Allocator + Copy>(
+    alloc: A,
+    listed: &[Instrument],
+    count: u16,
+    number: u16,
+) -> Result<Vec<u16, A>, Memory>
+    requires some { 0 < count }
+    requires few { length listed.now ≤ 65536 }
+    ensures { IfOk result (λ slots. slots.items ≡ own_slots (is_kept_by count number) 0 listed.now) }
+{
+    let mut slots = Vec::new(alloc);
+    for slot in 0..listed.len() {
+        if is_own(count, number, slot as u16) {
+            slots.push(slot as u16)?;
+        }
+    }
+    Ok(slots)
+}
+
+// This worker's own securities.
+fn own_securities<A: Allocator + Copy>(
+    alloc: A,
+    listed: &[Instrument],
+    count: u16,
+    number: u16,
+) -> Result<Vec<Instrument, A>, Memory>
+    requires some { 0 < count }
+    requires few { length listed.now ≤ 65536 }
+    ensures { IfOk result (λ own. own.items ≡ own_part (is_kept_by count number) 0 listed.now) }
+{
+    let mut own = Vec::new(alloc);
+    for slot in 0..listed.len() {
+        if is_own(count, number, slot as u16) {
+            own.push(listed[slot].copy())?;
+        }
+    }
+    Ok(own)
+}
+
+impl<A: Allocator + Copy> Worker<A> {
+    /// Makes worker `number` of `count` before any packet: its own are the listed securities whose slots are `number` modulo `count`.
+    /// The ids of all differ.
+    ///
+    /// # Errors
+    ///
+    /// Memory ran out.
+    pub fn new(
+        alloc: A,
+        listed: &[Instrument],
+        count: u16,
+        number: u16,
+    ) -> Result<Worker<A>, Memory>
+        requires differ { AllPairs (λ earlier later. earlier.id ≢ later.id) listed.now }
+        requires few { length listed.now ≤ 65536 }
+        requires some { 0 < count }
+        ensures { IfOk result (λ worker. worker ≡ record {
+          slots = own_slots (is_kept_by count number) 0 listed.now;
+          desks = map desk_at_start (own_part (is_kept_by count number) 0 listed.now);
+        }) }
+    {
+        let slots = own_slots(alloc, listed, count, number)?;
+        let own = own_securities(alloc, listed, count, number)?;
+        let desks = Desks::new(alloc, &own)?;
+        Ok(Worker { slots, desks })
+    }
+
+    /// Appends its reports of these turns, one for each event end and each jump, and makes their moves.
+    ///
+    /// # Errors
+    ///
+    /// Memory ran out. Then neither the worker nor the reports are of more use.
+    pub fn report(
+        &mut self,
+        alloc: A,
+        turns: &[Turn<A>],
+        out: &mut Reports<A>,
+    ) -> Result<(), Memory>
+        ensures worker { OnOk result (self.new ≡ record self.old { desks = desks_after_moves self.old.slots (map move_of turns.now) self.old.desks }) }
+        ensures reports { OnOk result (out.new ≡ out.old ++ reports_of_moves self.old.slots (map move_of turns.now) self.old.desks) }
+    {
+        report(alloc, &mut self.desks, &self.slots, turns, out)?;
+        Ok(())
+    }
+}
