@@ -81,7 +81,7 @@ fn snapshots_at<A: Allocator + Copy>(
 }
 
 // Reports a turn, and makes its move.
-fn report_turn<A: Allocator + Copy>(
+pub fn report_turn<A: Allocator + Copy>(
     alloc: A,
     desks: &mut Desks<A>,
     slots: &[u16],

@@ -6,14 +6,13 @@
 ghost use Rattle.std.specs.Prelude.{◌≤◌, false};
 ghost use Rattle.std.specs.List.{list_any};
 
-use mdp_lanes::{Ends, Intake, IntakeSender, Lane, LaneSender};
-use std::alloc::Global;
-use std::env;
+use mdp_lanes::{Ends, Intake, IntakeReceiver, IntakeSender, Lane, LaneSender};
+use std::alloc::{AllocError, Global};
 use std::io::Write;
 use std::sync::Wait;
-use std::thread;
 use std::thread::Threads;
 use std::time::{Clock, Instant};
+use std::{env, thread};
 
 const CAPACITIES: [usize; 2] = [64, 256];
 
@@ -57,7 +56,7 @@ fn through_lane<R: Threads + Wait + Clock + Copy + Send + 'static>(
     requires least { 1 ≤ capacity }
     requires most { capacity ≤ 65536 }
 {
-    let (sender, mut receiver) = Lane::new(alloc, capacity)?;
+    let (sender, mut receiver) = Lane::new(alloc, capacity).map_err(|_| AllocError)?;
     let start = Instant::now(&rt)?;
     let handle = thread::spawn(&rt, move || put_all(&rt, sender, count))?;
     let mut sum = 0u64;
@@ -83,6 +82,43 @@ fn put_all_and_end<R: Wait>(
     sender
 }
 
+// Takes messages up to the last of each sender, and adds up their numbers.
+fn take_all<R: Wait>(rt: &R, receiver: &mut IntakeReceiver<Message, Global>) -> u64 {
+    let mut sum = 0u64;
+    for _ in rt.forever() {
+        if receiver.ends() == 3 {
+            break;
+        }
+        let (_, message) = receiver.take(rt);
+        sum = sum.wrapping_add(message.number);
+    }
+    sum
+}
+
+// Takes what three threads put, and joins them.
+fn pass_through<R: Threads + Wait + Copy + Send + 'static>(
+    rt: R,
+    to_a: IntakeSender<Message, Global>,
+    to_b: IntakeSender<Message, Global>,
+    to_s: IntakeSender<Message, Global>,
+    receiver: &mut IntakeReceiver<Message, Global>,
+    count: u64,
+) -> bool {
+    let a = thread::spawn(&rt, move || put_all_and_end(&rt, to_a, count));
+    let b = thread::spawn(&rt, move || put_all_and_end(&rt, to_b, count));
+    let s = thread::spawn(&rt, move || put_all_and_end(&rt, to_s, count));
+    match (a, b, s) {
+        (Ok(a), Ok(b), Ok(s)) => {
+            let _sum = take_all(&rt, receiver);
+            let _ = a.join(&rt);
+            let _ = b.join(&rt);
+            let _ = s.join(&rt);
+            true
+        }
+        _ => false,
+    }
+}
+
 // Times so many messages of each of three senders through an intake.
 fn through_intake<R: Threads + Wait + Clock + Copy + Send + 'static>(
     rt: R,
@@ -93,28 +129,16 @@ fn through_intake<R: Threads + Wait + Clock + Copy + Send + 'static>(
     requires least { 1 ≤ capacity }
     requires most { capacity ≤ 65536 }
 {
-    let (to_a, to_b, to_s, mut receiver) = Intake::new(alloc, capacity)?;
+    let (to_a, to_b, to_s, mut receiver) = Intake::new(alloc, capacity).map_err(|_| AllocError)?;
     let start = Instant::now(&rt)?;
-    let a = thread::spawn(&rt, move || put_all_and_end(&rt, to_a, count))?;
-    let b = thread::spawn(&rt, move || put_all_and_end(&rt, to_b, count))?;
-    let s = thread::spawn(&rt, move || put_all_and_end(&rt, to_s, count))?;
-    let mut sum = 0u64;
-    for _ in rt.forever() {
-        if receiver.ends() == 3 {
-            break;
-        }
-        let (_, message) = receiver.take(&rt);
-        sum = sum.wrapping_add(message.number);
-    }
-    let _ = a.join(&rt);
-    let _ = b.join(&rt);
-    let _ = s.join(&rt);
+    let _done = pass_through(rt, to_a, to_b, to_s, &mut receiver, count);
     Ok(start.elapsed(&rt)?.as_nanos())
 }
 
 // The number of messages that the words ask for, 1 at least.
-fn count_asked(alloc: Global, words: env::Args) -> u64 {
-    let _ = alloc;
+fn count_asked(words: env::Args) -> u64
+    ensures { 1 ≤ result }
+{
     match words.skip(1).next() {
         Some(word) => word.parse::<u64>().unwrap_or(1000).max(1),
         None => 1000,
@@ -123,7 +147,7 @@ fn count_asked(alloc: Global, words: env::Args) -> u64 {
 
 fn main(rt: HostRuntime) -> anyhow::Result<()> {
     let alloc = rt.alloc();
-    let count = count_asked(alloc, env::args(&rt)?);
+    let count = count_asked(env::args(&rt)?);
     for capacity in CAPACITIES {
         let mut lane = u128::MAX;
         let mut intake = u128::MAX;
@@ -133,7 +157,9 @@ fn main(rt: HostRuntime) -> anyhow::Result<()> {
         }
         let each = lane / u128::from(count);
         let of_three = intake / u128::from(count) / 3;
-        eprintln!(rt; "capacity {capacity}: lane {each} ns a message, intake of three senders {of_three} ns")?;
+        eprintln!(rt;
+            "capacity {capacity}: lane {each} ns a message, intake of three senders {of_three} ns"
+        )?;
     }
     Ok(())
 }
