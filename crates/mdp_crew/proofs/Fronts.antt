@@ -1,0 +1,27 @@
+-- What the moves of the first events show begins what the moves of all show.
+use Rattle.std.proofs.Common.{◌≡◌, ℕ, List, [], ◌∷◌, ◌++◌, sym, ap, ◌∙◌, append_assoc}
+use Rattle.std.proofs.lemmas.List.{append-nil}
+use Rattle.mdp_templates.specs.declared.instrument.Instrument.{Instrument}
+use Rattle.mdp_arbiter.specs.Accepted.{Event}
+use Rattle.mdp_arbiter.specs.Channel.{channel_of}
+use Rattle.mdp_arbiter.specs.Machine.{Move, go_on, state_at, trace}
+use Rattle.mdp_arbiter.proofs.Runs.{law_of_fronts}
+use Rattle.mdp_desks.specs.Shown.{shown_lines, shown_lines_after, shown_lines_of_move}
+
+pub shown_lines_after-append : (listed : List Instrument) (before moves more : List Move) → shown_lines_after listed before (moves ++ more) ≡ shown_lines_after listed before moves ++ shown_lines_after listed (before ++ moves) more
+shown_lines_after-append listed before [] more = ap (λ (b : List Move). shown_lines_after listed b more) (sym (append-nil before))
+shown_lines_after-append listed before (m ∷ moves) more =
+    let now = before ++ m ∷ [] in
+    ap (λ (t : List ℕ). shown_lines_of_move listed before m ++ t) (shown_lines_after-append listed now moves more)
+    ∙ ap (λ (b : List Move). shown_lines_of_move listed before m ++ (shown_lines_after listed now moves ++ shown_lines_after listed b more)) (append_assoc before (m ∷ []) moves)
+    ∙ sym (append_assoc (shown_lines_of_move listed before m) (shown_lines_after listed now moves) (shown_lines_after listed (before ++ m ∷ moves) more))
+
+-- where the moves of these events begin with those
+pub shown_first : (listed : List Instrument) (room : ℕ) (events more : List Event) (first rest : List Move) → trace (channel_of listed room) events ≡ first ++ rest
+    → (later : List ℕ) × (shown_lines listed (trace (channel_of listed room) (events ++ more)) ≡ shown_lines listed first ++ later)
+shown_first listed room events more first rest front =
+    let channel = channel_of listed room in
+    let behind = go_on channel events (state_at channel events) more in
+    let all : trace channel (events ++ more) ≡ first ++ (rest ++ behind) =
+    law_of_fronts channel events more ∙ ap (λ (l : List Move). l ++ behind) front ∙ append_assoc first rest behind in
+    (shown_lines_after listed first (rest ++ behind), ap (shown_lines listed) all ∙ shown_lines_after-append listed [] first (rest ++ behind))

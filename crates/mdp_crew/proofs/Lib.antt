@@ -1,0 +1,11 @@
+pub mod Taking
+pub mod Settling
+pub mod Hiring
+pub mod Gone
+pub mod Mapped
+pub mod Working
+pub mod Meeting
+pub mod Sending
+pub mod Sharing
+pub mod Fronts
+pub mod Together

@@ -1,0 +1,288 @@
+-- What is taken, round by round, and what is written of it.
+use Rattle.std.proofs.Common.{◌≡◌, ◌<◌, ℕ, zero, suc, Bool, true, false, List, [], ◌∷◌, ◌++◌, length, take, drop, map, set, get_or, replicate, refl, sym, ap, ◌∙◌, subst, append_assoc, arith}
+use Rattle.std.specs.Prelude.{Result, Ok, Err, ◌&&◌}
+use Rattle.std.proofs.lemmas.List.{append-nil, take-append-drop}
+use Rattle.mdp_lanes.specs.Queues.{LaneReceiverView}
+use Rattle.mdp_crew.specs.Rounds.{took, all_took, put, laid, one_each, Wide, all_tell, all_finish}
+use Rattle.mdp_crew.specs.Collecting.{text_of_batch, kept_after_batch, text_of_batches, TakesOne, HasAll, HasSome, EndsCollecting, IsCollecting}
+use Rattle.mdp_desks.specs.Reports.{Report}
+use Rattle.mdp_reports.specs.FromAnswers.{told_in_answer}
+use Rattle.mdp_reports.specs.Taking.{View}
+use Rattle.mdp_crew.specs.declared.stop.Stop.{Stop}
+use Rattle.mdp_crew.specs.declared.crew.Post.{Post}
+use Rattle.mdp_reports.specs.declared.answer.Answer.{Answer}
+use Rattle.mdp_reports.specs.declared.answer.Answer.TheVariants.{Tells, Failed, Finished}
+
+-- ---- any rounds
+
+all_two : (a b : Bool) → (a && b) ≡ true → (a ≡ true) × (b ≡ true)
+all_two true b is = (refl, is)
+all_two false b is = absurd cc
+
+wide-append : (n : ℕ) (xs ys : List (List (List Report))) → Wide n xs → Wide n ys → Wide n (xs ++ ys)
+wide-append n [] ys first later = later
+wide-append n (x ∷ xs) ys first later = (first.0, wide-append n xs ys first.1 later)
+
+module _ {A : Type 0} where
+  -- ---- one post after another
+
+  pub took_none : (ps : List (Post A)) → ps ≡ all_took ps []
+  took_none [] = refl
+  took_none (p ∷ ps) = refl
+
+  took_next : (ps : List (Post A)) (rows : List (List (Answer A))) (p : Post A) (row : List (Answer A)) → length rows < length ps → p ≡ get_or (all_took ps rows) (length rows) p
+      → set (all_took ps rows) (length rows) (took p row) ≡ all_took ps (rows ++ row ∷ [])
+  took_next [] rows p row h e = absurd (omega (arith, h))
+  took_next (q ∷ []) [] p row h e = λ i. took (e i) row ∷ []
+  took_next (q ∷ r ∷ ps) [] p row h e = λ i. took (e i) row ∷ r ∷ ps
+  took_next (q ∷ ps) (b ∷ rows) p row h e = ap (λ (l : List (Post A)). took q b ∷ l) (took_next ps rows p row (omega (arith, h)) e)
+
+  pub took_step : (ps : List (Post A)) (rows : List (List (Answer A))) (now : List (Post A)) (i : ℕ) (p : Post A) (row : List (Answer A)) (left : LaneReceiverView (Answer A))
+      → length rows ≡ i → now ≡ all_took ps rows → i < length ps → p ≡ get_or now i p
+      → left ≡ record (get_or now i p).answers { taken = (get_or now i p).answers.taken ++ row }
+      → set now i (record { answers = left; handle = (get_or now i p).handle }) ≡ all_took ps (rows ++ row ∷ [])
+  took_step ps rows now i p row left n is h at e =
+      let here : p ≡ get_or (all_took ps rows) (length rows) p = at ∙ λ k. get_or (is k) (sym n k) p in
+      let new : record { answers = left; handle = (get_or now i p).handle } ≡ took p row = (λ k. record { answers = e k; handle = (get_or now i p).handle }) ∙ ap (λ (q : Post A). took q row) (sym at) in
+      (λ k. set (is k) (sym n k) (new k)) ∙ took_next ps rows p row (omega (arith, h, n)) here
+
+  pub length-took : (ps : List (Post A)) (rows : List (List (Answer A))) → length (all_took ps rows) ≡ length ps
+  length-took [] rows = refl
+  length-took (p ∷ ps) [] = refl
+  length-took (p ∷ ps) (row ∷ rows) = ap suc (length-took ps rows)
+
+  -- ---- rows put together
+
+  abbrev pub joined : List (List (Answer A)) → List (List (Answer A)) → List (List (Answer A))
+  joined [] ys = []
+  joined (x ∷ xs) [] = x ∷ xs
+  joined (x ∷ xs) (y ∷ ys) = (x ++ y) ∷ joined xs ys
+
+  pub length-joined : (xs ys : List (List (Answer A))) → length (joined xs ys) ≡ length xs
+  length-joined [] ys = refl
+  length-joined (x ∷ xs) [] = refl
+  length-joined (x ∷ xs) (y ∷ ys) = ap suc (length-joined xs ys)
+
+  pub took_took : (ps : List (Post A)) (xs ys : List (List (Answer A))) → length xs ≡ length ps → all_took (all_took ps xs) ys ≡ all_took ps (joined xs ys)
+  took_took [] xs ys long = refl
+  took_took (p ∷ ps) [] ys long = absurd (omega (arith, long))
+  took_took (p ∷ ps) (x ∷ xs) [] long = refl
+  took_took (p ∷ ps) (x ∷ xs) (y ∷ ys) long =
+      let here : took (took p x) y ≡ took p (x ++ y) = λ k. record p { answers = record p.answers { taken = append_assoc p.answers.taken x y k } } in
+      ap (λ (q : Post A). q ∷ all_took (all_took ps xs) ys) here
+      ∙ ap (λ (l : List (Post A)). took p (x ++ y) ∷ l) (took_took ps xs ys (omega (arith, long)))
+
+  abbrev nothing : ℕ → List (List (Answer A))
+  nothing n = replicate n []
+
+  joined-nothing : (ys : List (List (Answer A))) → joined (nothing (length ys)) ys ≡ ys
+  joined-nothing [] = refl
+  joined-nothing (y ∷ ys) = ap (λ (l : List (List (Answer A))). y ∷ l) (joined-nothing ys)
+
+  put_joined : (round : List (List Report)) (xs ys : List (List (Answer A))) → joined (put round xs) ys ≡ put round (joined xs ys)
+  put_joined [] xs ys = refl
+  put_joined (t ∷ ts) [] ys = refl
+  put_joined (t ∷ ts) (x ∷ xs) [] = refl
+  put_joined (t ∷ ts) (x ∷ xs) (y ∷ ys) = ap (λ (l : List (List (Answer A))). (Tells t ∷ (x ++ y)) ∷ l) (put_joined ts xs ys)
+
+  laid_joined : (rounds : List (List (List Report))) (xs ys : List (List (Answer A))) → joined (laid rounds xs) ys ≡ laid rounds (joined xs ys)
+  laid_joined [] xs ys = refl
+  laid_joined (round ∷ rounds) xs ys = put_joined round (laid rounds xs) ys ∙ ap (put round) (laid_joined rounds xs ys)
+
+  laid-append : (xs ys : List (List (List Report))) (more : List (List (Answer A))) → laid (xs ++ ys) more ≡ laid xs (laid ys more)
+  laid-append [] ys more = refl
+  laid-append (x ∷ xs) ys more = ap (put x) (laid-append xs ys more)
+
+  length-put : (round : List (List Report)) (rows : List (List (Answer A))) → length round ≡ length rows → length (put round rows) ≡ length rows
+  length-put [] [] long = refl
+  length-put [] (row ∷ rows) long = absurd (omega (arith, long))
+  length-put (t ∷ ts) [] long = refl
+  length-put (t ∷ ts) (row ∷ rows) long = ap suc (length-put ts rows (omega (arith, long)))
+
+  pub length-laid : (n : ℕ) (rounds : List (List (List Report))) (more : List (List (Answer A))) → length more ≡ n → Wide n rounds → length (laid rounds more) ≡ n
+  length-laid n [] more long wide = long
+  length-laid n (round ∷ rounds) more long wide =
+      let rest = length-laid n rounds more long wide.1 in
+      length-put round (laid rounds more) (wide.0 ∙ sym rest) ∙ rest
+
+  pub length-nothing : (n : ℕ) (x : List (Answer A)) → length (replicate n x) ≡ n
+  length-nothing zero x = refl
+  length-nothing (suc n) x = ap suc (length-nothing n x)
+
+  -- rounds, and then more rounds and these answers
+  then_took : (ps now new : List (Post A)) (xs ys : List (List (List Report))) (more : List (List (Answer A))) → Wide (length ps) xs → Wide (length ps) ys → length more ≡ length ps
+      → now ≡ all_took ps (laid xs (nothing (length ps))) → new ≡ all_took now (laid ys more) → new ≡ all_took ps (laid (xs ++ ys) more)
+  then_took ps now new xs ys more wide later long is next =
+      let first : length (laid xs (nothing (length ps))) ≡ length ps = length-laid (length ps) xs (nothing (length ps)) (length-nothing (length ps) []) wide in
+      let second : length (laid ys more) ≡ length ps = length-laid (length ps) ys more long later in
+      next
+      ∙ ap (λ (l : List (Post A)). all_took l (laid ys more)) is
+      ∙ took_took ps (laid xs (nothing (length ps))) (laid ys more) first
+      ∙ ap (all_took ps) (laid_joined xs (nothing (length ps)) (laid ys more)
+      ∙ ap (λ (n : ℕ). laid xs (joined (nothing n) (laid ys more))) (sym second)
+      ∙ ap (laid xs) (joined-nothing (laid ys more))
+      ∙ sym (laid-append xs ys more))
+
+  -- ---- one round
+
+  pub told_laid : (answers : List (Answer A)) (n : ℕ) → length answers ≡ n → all_tell answers ≡ true → one_each answers ≡ laid (map told_in_answer answers ∷ []) (nothing n)
+  told_laid [] zero long is = refl
+  told_laid [] (suc n) long is = absurd (omega (arith, long))
+  told_laid (a ∷ answers) zero long is = absurd (omega (arith, long))
+  told_laid (Tells t ∷ answers) (suc n) long is = ap (λ (l : List (List (Answer A))). (Tells t ∷ []) ∷ l) (told_laid answers n (omega (arith, long)) is)
+  told_laid (Failed ∷ answers) (suc n) long is = absurd cc
+  told_laid (Finished ∷ answers) (suc n) long is = absurd cc
+
+  pub told_wide : (answers : List (Answer A)) → all_tell answers ≡ true → length (map told_in_answer answers) ≡ length answers
+  told_wide [] is = refl
+  told_wide (Tells t ∷ answers) is = ap suc (told_wide answers is)
+  told_wide (Failed ∷ answers) is = absurd cc
+  told_wide (Finished ∷ answers) is = absurd cc
+
+  finished_laid : (answers : List (Answer A)) (n : ℕ) → length answers ≡ n → all_finish answers ≡ true → one_each answers ≡ replicate n (Finished ∷ [])
+  finished_laid [] zero long is = refl
+  finished_laid [] (suc n) long is = absurd (omega (arith, long))
+  finished_laid (a ∷ answers) zero long is = absurd (omega (arith, long))
+  finished_laid (Tells t ∷ answers) (suc n) long is = absurd cc
+  finished_laid (Failed ∷ answers) (suc n) long is = absurd cc
+  finished_laid (Finished ∷ answers) (suc n) long is = ap (λ (l : List (List (Answer A))). (Finished ∷ []) ∷ l) (finished_laid answers n (omega (arith, long)) is)
+
+  -- ---- a turn
+
+  pub length-each : (answers : List (Answer A)) → length (one_each answers) ≡ length answers
+  length-each [] = refl
+  length-each (a ∷ answers) = ap suc (length-each answers)
+
+  pub turned_all : (old new : List (Post A)) (answers : List (Answer A)) (state : View) (taken : List ℕ) → length answers ≡ length old → all_finish answers ≡ true → new ≡ all_took old (one_each answers) → HasAll old new state taken taken
+  turned_all old new answers state taken long is took_is =
+      record { rounds = []; wide = tt; took_is = took_is ∙ ap (all_took old) (finished_laid answers (length old) long is); text = sym (append-nil taken) }
+
+  pub turned_on : (old new : List (Post A)) (answers : List (Answer A)) (state state' : View) (taken taken' : List ℕ) → length answers ≡ length old → all_tell answers ≡ true → new ≡ all_took old (one_each answers)
+      → taken' ≡ taken ++ text_of_batch state (map told_in_answer answers) → state' ≡ kept_after_batch state (map told_in_answer answers) → TakesOne old new state state' taken taken'
+  turned_on old new answers state state' taken taken' long is took_is text kept_is =
+      record { round = map told_in_answer answers; wide = told_wide answers is ∙ long; took_is = took_is ∙ ap (all_took old) (told_laid answers (length old) long is); text = text; kept_is = kept_is }
+
+  pub turned_broken : (old now new : List (Post A)) (answers : List (Answer A)) (more : List (List (Answer A))) (state : View) (taken : List ℕ) → length answers ≡ length old → now ≡ all_took old (one_each answers) → new ≡ all_took now more → HasSome old new state taken taken
+  turned_broken old now new answers more state taken long took_is drained =
+      let first : length (one_each answers) ≡ length old = length-each answers ∙ long in
+      record {
+        rounds = [];
+        wide = tt;
+        more = joined (one_each answers) more;
+        long = length-joined (one_each answers) more ∙ first;
+        took_is = drained ∙ ap (λ (l : List (Post A)). all_took l more) took_is ∙ took_took old (one_each answers) more first;
+        sent = [];
+        rest = [];
+        text = sym (append-nil taken);
+        whole = refl;
+      }
+
+  pub turned_unwritten : (old now new : List (Post A)) (answers : List (Answer A)) (more : List (List (Answer A))) (state : View) (n : ℕ) (taken taken' : List ℕ) → length answers ≡ length old → all_tell answers ≡ true → now ≡ all_took old (one_each answers)
+      → length more ≡ length now → new ≡ all_took now more → taken' ≡ taken ++ take n (text_of_batch state (map told_in_answer answers)) → HasSome old new state taken taken'
+  turned_unwritten old now new answers more state n taken taken' long is took_is many drained text =
+      let same : length more ≡ length old = many ∙ ap length took_is ∙ length-took old (one_each answers) in
+      let wide : Wide (length old) (map told_in_answer answers ∷ []) = (told_wide answers is ∙ long, tt) in
+      record {
+        rounds = map told_in_answer answers ∷ [];
+        wide = wide;
+        more = more;
+        long = same;
+        took_is = then_took old now new (map told_in_answer answers ∷ []) [] more wide tt same (took_is ∙ ap (all_took old) (told_laid answers (length old) long is)) drained;
+        sent = take n (text_of_batch state (map told_in_answer answers));
+        rest = drop n (text_of_batch state (map told_in_answer answers));
+        text = text;
+        whole = append-nil (text_of_batch state (map told_in_answer answers)) ∙ sym (take-append-drop n (text_of_batch state (map told_in_answer answers)));
+      }
+
+  -- ---- all turns
+
+  took_nothing : (ps : List (Post A)) → ps ≡ all_took ps (nothing (length ps))
+  took_nothing [] = refl
+  took_nothing (p ∷ ps) =
+      let here : p ≡ took p [] = λ k. record p { answers = record p.answers { taken = sym (append-nil p.answers.taken) k } } in
+      ap (λ (q : Post A). q ∷ ps) here ∙ ap (λ (l : List (Post A)). took p [] ∷ l) (took_nothing ps)
+
+  pub under_way_first : (ps : List (Post A)) (state : View) (taken : List ℕ) → IsCollecting ps ps state state taken taken
+  under_way_first ps state taken = record { rounds = []; wide = tt; took_is = took_nothing ps; text = sym (append-nil taken); rest = λ more. refl }
+
+  same_long : (old now : List (Post A)) (rounds : List (List (List Report))) → now ≡ all_took old (laid rounds (nothing (length old))) → length now ≡ length old
+  same_long old now rounds is = ap length is ∙ length-took old (laid rounds (nothing (length old)))
+
+  pub under_way_on : (old now new : List (Post A)) (state state' state'' : View) (taken taken' taken'' : List ℕ) → TakesOne now new state' state'' taken' taken'' → IsCollecting old now state state' taken taken' → IsCollecting old new state state'' taken taken''
+  under_way_on old now new state state' state'' taken taken' taken'' on so_far =
+      let long : length now ≡ length old = same_long old now so_far.rounds so_far.took_is in
+      let wide : Wide (length old) (on.round ∷ []) = (on.wide ∙ long, tt) in
+      record {
+        rounds = so_far.rounds ++ on.round ∷ [];
+        wide = wide-append (length old) so_far.rounds (on.round ∷ []) so_far.wide wide;
+        took_is = then_took old now new so_far.rounds (on.round ∷ []) (nothing (length old)) so_far.wide wide (length-nothing (length old) []) so_far.took_is
+            (on.took_is ∙ ap (λ (n : ℕ). all_took now (laid (on.round ∷ []) (nothing n))) long);
+        text =
+            on.text
+            ∙ ap (λ (t : List ℕ). t ++ text_of_batch state' on.round) so_far.text
+            ∙ append_assoc taken (text_of_batches state so_far.rounds) (text_of_batch state' on.round)
+            ∙ ap (λ (t : List ℕ). taken ++ (text_of_batches state so_far.rounds ++ t)) (sym (append-nil (text_of_batch state' on.round)))
+            ∙ ap (λ (t : List ℕ). taken ++ t) (sym (so_far.rest (on.round ∷ [])));
+        rest = λ more.
+            ap (text_of_batches state) (append_assoc so_far.rounds (on.round ∷ []) more)
+            ∙ so_far.rest (on.round ∷ more)
+            ∙ ap (λ (z : View). text_of_batches state so_far.rounds ++ (text_of_batch state' on.round ++ text_of_batches z more)) (sym on.kept_is)
+            ∙ sym (append_assoc (text_of_batches state so_far.rounds) (text_of_batch state' on.round) (text_of_batches state'' more))
+            ∙ ap (λ (t : List ℕ). (text_of_batches state so_far.rounds ++ t) ++ text_of_batches state'' more) (sym (append-nil (text_of_batch state' on.round)))
+            ∙ ap (λ (t : List ℕ). t ++ text_of_batches state'' more) (sym (so_far.rest (on.round ∷ [])));
+      }
+
+  ended_all : (old now new : List (Post A)) (state state' : View) (taken taken' taken'' : List ℕ) → HasAll now new state' taken' taken'' → IsCollecting old now state state' taken taken' → HasAll old new state taken taken''
+  ended_all old now new state state' taken taken' taken'' last so_far =
+      let long : length now ≡ length old = same_long old now so_far.rounds so_far.took_is in
+      let wide : Wide (length old) last.rounds = subst (λ (n : ℕ). Wide n last.rounds) long last.wide in
+      record {
+        rounds = so_far.rounds ++ last.rounds;
+        wide = wide-append (length old) so_far.rounds last.rounds so_far.wide wide;
+        took_is = then_took old now new so_far.rounds last.rounds (replicate (length old) (Finished ∷ [])) so_far.wide wide (length-nothing (length old) (Finished ∷ [])) so_far.took_is
+            (last.took_is ∙ ap (λ (n : ℕ). all_took now (laid last.rounds (replicate n (Finished ∷ [])))) long);
+        text =
+            last.text
+            ∙ ap (λ (t : List ℕ). t ++ text_of_batches state' last.rounds) so_far.text
+            ∙ append_assoc taken (text_of_batches state so_far.rounds) (text_of_batches state' last.rounds)
+            ∙ ap (λ (t : List ℕ). taken ++ t) (sym (so_far.rest last.rounds));
+      }
+
+  ended_some : (old now new : List (Post A)) (state state' : View) (taken taken' taken'' : List ℕ) → HasSome now new state' taken' taken'' → IsCollecting old now state state' taken taken' → HasSome old new state taken taken''
+  ended_some old now new state state' taken taken' taken'' last so_far =
+      let long : length now ≡ length old = same_long old now so_far.rounds so_far.took_is in
+      let wide : Wide (length old) last.rounds = subst (λ (n : ℕ). Wide n last.rounds) long last.wide in
+      record {
+        rounds = so_far.rounds ++ last.rounds;
+        wide = wide-append (length old) so_far.rounds last.rounds so_far.wide wide;
+        more = last.more;
+        long = last.long ∙ long;
+        took_is = then_took old now new so_far.rounds last.rounds last.more so_far.wide wide (last.long ∙ long) so_far.took_is last.took_is;
+        sent = text_of_batches state so_far.rounds ++ last.sent;
+        rest = last.rest;
+        text = last.text ∙ ap (λ (t : List ℕ). t ++ last.sent) so_far.text ∙ append_assoc taken (text_of_batches state so_far.rounds) last.sent;
+        whole = so_far.rest last.rounds ∙ ap (λ (t : List ℕ). text_of_batches state so_far.rounds ++ t) last.whole ∙ sym (append_assoc (text_of_batches state so_far.rounds) last.sent last.rest);
+      }
+
+  pub ended : (old now new : List (Post A)) (state state' : View) (taken taken' taken'' : List ℕ) (outcome : Result (Unit {0}) Stop) → EndsCollecting now new state' taken' taken'' outcome → IsCollecting old now state state' taken taken' → EndsCollecting old new state taken taken'' outcome
+  ended old now new state state' taken taken' taken'' (Ok done) last so_far = ended_all old now new state state' taken taken' taken'' last so_far
+  ended old now new state state' taken taken' taken'' (Err stop) last so_far = ended_some old now new state state' taken taken' taken'' last so_far
+
+  -- stopped between two rounds
+  pub ended_here : (old now : List (Post A)) (state state' : View) (taken taken' : List ℕ) → IsCollecting old now state state' taken taken' → HasSome old now state taken taken'
+  ended_here old now state state' taken taken' so_far =
+      record {
+        rounds = so_far.rounds;
+        wide = so_far.wide;
+        more = nothing (length old);
+        long = length-nothing (length old) [];
+        took_is = so_far.took_is;
+        sent = text_of_batches state so_far.rounds;
+        rest = [];
+        text = so_far.text;
+        whole = sym (append-nil (text_of_batches state so_far.rounds));
+      }
+
+  pub each-push : (answers : List (Answer A)) (a : Answer A) → one_each (answers ++ a ∷ []) ≡ one_each answers ++ (a ∷ []) ∷ []
+  each-push [] a = refl
+  each-push (x ∷ answers) a = ap (λ (l : List (List (Answer A))). (x ∷ []) ∷ l) (each-push answers a)

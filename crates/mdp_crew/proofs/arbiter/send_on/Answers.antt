@@ -1,0 +1,15 @@
+use Rattle.std.proofs.Common.{map, ap}
+use Rattle.mdp_engine.specs.Steps.{event_of}
+use Rattle.mdp_steps.specs.Moves.{move_of}
+use Rattle.mdp_crew.proofs.Sending.{some_sends, some_stops}
+use Rattle.mdp_crew.proofs.arbiter.send_on.Goals as goal
+
+pub returns-clause-sends : goal.returns-clause-sends
+returns-clause-sends g c =
+    some_sends (map event_of c.args.events.items) c.args.senders.now c.send_steps.new.senders c.args.arbiter.now c.feed_all.new.arbiter
+    (map move_of c.new-turns.result.items) (map move_of c.feed_all.new.turns.items) c.send_steps.result (ap (map move_of) c.new-turns.ensures.items)
+    (λ listed before settled. c.in_ok-feed_all.ensures listed before settled) c.send_steps.ensures.sends
+
+pub returns-clause-stops : goal.returns-clause-stops
+returns-clause-stops g c =
+    some_stops (map event_of c.args.events.items) c.args.senders.now c.send_steps.new.senders c.args.arbiter.now c.send_steps.result c.send_steps.ensures.stays

@@ -1,0 +1,14 @@
+use Rattle.mdp_crew.proofs.Sending.{takes_more}
+use Rattle.mdp_crew.proofs.arbiter.take_all.Goals as goal
+
+pub loop-preserved : goal.loop-preserved
+loop-preserved g c =
+    let so_far = c.loop.invariant in
+    let one = c.in_ok-take_batch.ensures in
+    record {
+      takes = takes_more c.args.receiver.now c.loop.receiver c.take_batch.new.receiver so_far.takes one.takes;
+      sends = λ listed room first start. one.sends listed room first (so_far.sends listed room first start);
+    }
+
+pub returns-in_err-take_batch-clause-takes : goal.returns-in_err-take_batch-clause-takes
+returns-in_err-take_batch-clause-takes g c = takes_more c.args.receiver.now c.loop.receiver c.take_batch.new.receiver c.loop.invariant.takes c.in_err-take_batch.ensures.takes

@@ -1,0 +1,67 @@
+-- What the collector has written of the rounds that it took.
+use Rattle.std.specs.Prelude.{◌≡◌, ℕ, List, [], ◌∷◌, ◌++◌, length, replicate, Option, Some, None, Result, Ok, Err}
+use Rattle.mdp_desks.specs.Reports.{Report}
+use Rattle.mdp_engine.specs.Rounds.{rounds_in, text_from}
+use Rattle.mdp_reports.specs.Taking.{View, kept_after_rounds}
+use Rattle.mdp_reports.specs.declared.answer.Answer.{Answer}
+use Rattle.mdp_reports.specs.declared.answer.Answer.TheVariants.{Finished}
+use Rattle.mdp_crew.specs.declared.crew.Post.{Post}
+use Rattle.mdp_crew.specs.declared.stop.Stop.{Stop}
+use Rattle.mdp_crew.specs.Rounds.{Wide, all_took, laid}
+
+-- what a collector makes of the reports of all workers on one batch, and what it has kept then
+abbrev pub text_of_batch : View → List (List Report) → List ℕ
+text_of_batch collector reports = text_from collector.listed collector.kept (rounds_in reports)
+
+abbrev pub kept_after_batch : View → List (List Report) → View
+kept_after_batch collector reports = record { listed = collector.listed; kept = kept_after_rounds collector.kept (rounds_in reports) }
+
+-- batch by batch
+abbrev pub text_of_batches : View → List (List (List Report)) → List ℕ
+text_of_batches collector [] = []
+text_of_batches collector (reports ∷ batches) = text_of_batch collector reports ++ text_of_batches (kept_after_batch collector reports) batches
+
+-- one round was taken, and its text written
+pub record TakesOne {A : Type 0} (old new : List (Post A)) (collector collector' : View) (taken taken' : List ℕ) : Type 0 where
+  pub round : List (List Report)
+  pub wide : length round ≡ length old
+  pub took_is : new ≡ all_took old (laid (round ∷ []) (replicate (length old) []))
+  pub text : taken' ≡ taken ++ text_of_batch collector round
+  pub kept_is : collector' ≡ kept_after_batch collector round
+
+-- whole rounds were taken and their text written, and each worker has finished
+pub record HasAll {A : Type 0} (old new : List (Post A)) (collector : View) (taken taken' : List ℕ) : Type 0 where
+  pub rounds : List (List (List Report))
+  pub wide : Wide (length old) rounds
+  pub took_is : new ≡ all_took old (laid rounds (replicate (length old) (Finished ∷ [])))
+  pub text : taken' ≡ taken ++ text_of_batches collector rounds
+
+-- rounds were taken, and then this and that; a beginning of the rounds' text was written
+pub record HasSome {A : Type 0} (old new : List (Post A)) (collector : View) (taken taken' : List ℕ) : Type 0 where
+  pub rounds : List (List (List Report))
+  pub wide : Wide (length old) rounds
+  pub more : List (List (Answer A))
+  pub long : length more ≡ length old
+  pub took_is : new ≡ all_took old (laid rounds more)
+  pub sent : List ℕ
+  pub rest : List ℕ
+  pub text : taken' ≡ taken ++ sent
+  pub whole : text_of_batches collector rounds ≡ sent ++ rest
+
+-- the collector has come to its end
+abbrev pub EndsCollecting : {A : Type 0} → List (Post A) → List (Post A) → View → List ℕ → List ℕ → Result (Unit {0}) Stop → Type 0
+EndsCollecting old new collector taken taken' (Ok done) = HasAll old new collector taken taken'
+EndsCollecting old new collector taken taken' (Err stop) = HasSome old new collector taken taken'
+
+-- it goes on, or has come to its end
+abbrev pub TurnsTo : {A : Type 0} → List (Post A) → List (Post A) → View → View → List ℕ → List ℕ → Option (Result (Unit {0}) Stop) → Type 0
+TurnsTo old new collector collector' taken taken' None = TakesOne old new collector collector' taken taken'
+TurnsTo old new collector collector' taken taken' (Some outcome) = EndsCollecting old new collector taken taken' outcome
+
+-- rounds were taken and their text written, and there may be more
+pub record IsCollecting {A : Type 0} (old new : List (Post A)) (collector collector' : View) (taken taken' : List ℕ) : Type 0 where
+  pub rounds : List (List (List Report))
+  pub wide : Wide (length old) rounds
+  pub took_is : new ≡ all_took old (laid rounds (replicate (length old) []))
+  pub text : taken' ≡ taken ++ text_of_batches collector rounds
+  pub rest : (more : List (List (List Report))) → text_of_batches collector (rounds ++ more) ≡ text_of_batches collector rounds ++ text_of_batches collector' more

@@ -1,0 +1,12 @@
+pub mod Counted
+pub mod Stops
+pub mod Orders
+pub mod Batches
+pub mod Work
+pub mod Answering
+pub mod Rounds
+pub mod Collecting
+pub mod Crew
+pub mod Arbitrating
+pub mod Running
+pub mod Ready

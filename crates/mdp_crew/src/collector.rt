@@ -1,0 +1,192 @@
+//! The collector's loop: it takes an answer of each worker, writes the text of that round, and goes on until all have finished.
+
+ghost use Rattle.std.specs.Prelude.{◌≡◌, ◌<◌, ◌≤◌, ◌+◌, ◌-◌, ◌^◌, ℕ, [], ◌++◌, List, OnOk, IfErr, IfNone, Result, Some, length, map, take, vec_len, vec_capacity};
+ghost use Rattle.mdp_crew.specs.Collecting.{EndsCollecting, TurnsTo, kept_after_batch, text_of_batch};
+ghost use Rattle.mdp_crew.specs.Counted.{HasCounted};
+ghost use Rattle.mdp_crew.specs.Rounds.{all_finish, all_tell, all_took, is_finished, is_told, one_each};
+ghost use Rattle.mdp_crew.specs.Stops.{FailsByStop, failed_writes};
+ghost use Rattle.mdp_reports.specs.FromAnswers.{told_in_answer};
+
+use crate::crew::Post;
+use crate::stop::Stop;
+use mdp_lanes::LaneReceiver;
+use mdp_print::{CountedWrite, write_all_counted};
+use mdp_reports::{Answer, Collector};
+use std::alloc::Allocator;
+use std::sync::Wait;
+
+// Takes an answer of each worker.
+fn take_round<R: Wait, A: Allocator + Copy>(
+    rt: &R,
+    posts: &mut [Post<A>],
+    round: &mut Vec<Answer<A>, A>,
+)
+    requires room { vec_len round.old + length posts.old ≤ vec_capacity round.old }
+    requires empty { round.old.items ≡ [] }
+    ensures took { (length round.new.items ≡ length posts.old) × (posts.new ≡ all_took posts.old (one_each round.new.items)) }
+    ensures room { vec_capacity round.new ≡ vec_capacity round.old }
+{
+    for post in posts.iter_mut() {
+        round.push_reserved(post.answers.take(rt));
+    }
+}
+
+fn tells<A: Allocator>(answer: &Answer<A>) -> bool
+    ensures { result ≡ is_told answer.now }
+{
+    matches!(answer, Answer::Tells(_))
+}
+
+fn finishes<A: Allocator>(answer: &Answer<A>) -> bool
+    ensures { result ≡ is_finished answer.now }
+{
+    matches!(answer, Answer::Finished)
+}
+
+fn all_are_told<A: Allocator>(round: &[Answer<A>]) -> bool
+    ensures { result ≡ all_tell round.now }
+{
+    round.iter().all(tells)
+}
+
+fn all_are_finished<A: Allocator>(round: &[Answer<A>]) -> bool
+    ensures { result ≡ all_finish round.now }
+{
+    round.iter().all(finishes)
+}
+
+// Takes a worker's answers up to its last.
+fn drain<R: Wait, A: Allocator + Copy>(
+    rt: &R,
+    answers: &mut LaneReceiver<Answer<A>, A>,
+    has_ended: bool,
+)
+    ensures { (more : List (Answer A)) × (answers.new ≡ record answers.old { taken = answers.old.taken ++ more }) }
+{
+    if has_ended {
+        return;
+    }
+    for _ in rt.forever() {
+        let answer = answers.take(rt);
+        if !tells(&answer) {
+            break;
+        }
+    }
+}
+
+// Whether the answer at this place was a worker's last.
+fn has_ended<A: Allocator>(round: &[Answer<A>], place: usize) -> bool {
+    match round.get(place) {
+        Some(answer) => !tells(answer),
+        None => true,
+    }
+}
+
+// Takes all workers' answers up to their last ones, after this round.
+fn drain_all<R: Wait, A: Allocator + Copy>(rt: &R, posts: &mut [Post<A>], round: &[Answer<A>])
+    ensures { (more : List (List (Answer A))) × (length more ≡ length posts.old) × (posts.new ≡ all_took posts.old more) }
+{
+    for n in 0..posts.len() {
+        drain(rt, &mut posts[n].answers, has_ended(round, n));
+    }
+}
+
+// Writes the text of a round.
+fn write_round<W: CountedWrite, A: Allocator + Copy>(
+    alloc: A,
+    collector: &mut Collector<A>,
+    round: &[Answer<A>],
+    text: &mut Vec<u8, A>,
+    written: &mut u64,
+    writer: &mut W,
+) -> Result<(), Stop>
+    requires { W.failed writer.old < 2 ^ 64 - 1 }
+    ensures text { OnOk result (W.taken writer.new ≡ W.taken writer.old ++ text_of_batch collector.old (map told_in_answer round.now)) }
+    ensures begins { IfErr result (λ _. (n : ℕ) × (W.taken writer.new ≡ W.taken writer.old ++ take n (text_of_batch collector.old (map told_in_answer round.now)))) }
+    ensures kept { OnOk result (collector.new ≡ kept_after_batch collector.old (map told_in_answer round.now)) }
+    ensures counts { (start : List ℕ) → HasCounted start (W.taken writer.old) written.old → HasCounted start (W.taken writer.new) written.new }
+    ensures failed { FailsByStop result (W.failed writer.old) (W.failed writer.new) }
+{
+    text.clear();
+    let Ok(()) = collector.take(alloc, round, text) else {
+        return Err(Stop::Memory);
+    };
+    match write_all_counted(writer, text) {
+        Ok(()) => {
+            *written = written.saturating_add(text.len() as u64);
+            Ok(())
+        }
+        Err((count, _)) => {
+            *written = written.saturating_add(count as u64);
+            Err(Stop::Output)
+        }
+    }
+}
+
+// One round: none where the loop goes on, else what became of it.
+fn turn<R: Wait, W: CountedWrite, A: Allocator + Copy>(
+    rt: &R,
+    alloc: A,
+    posts: &mut [Post<A>],
+    collector: &mut Collector<A>,
+    round: &mut Vec<Answer<A>, A>,
+    text: &mut Vec<u8, A>,
+    written: &mut u64,
+    writer: &mut W,
+) -> Option<Result<(), Stop>>
+    requires sound { W.failed writer.old < 2 ^ 64 - 1 }
+    requires room { length posts.old ≤ vec_capacity round.old }
+    ensures turned { TurnsTo posts.old posts.new collector.old collector.new (W.taken writer.old) (W.taken writer.new) result }
+    ensures room { vec_capacity round.new ≡ vec_capacity round.old }
+    ensures counts { (start : List ℕ) → HasCounted start (W.taken writer.old) written.old → HasCounted start (W.taken writer.new) written.new }
+    ensures still { IfNone result (W.failed writer.new ≡ W.failed writer.old) }
+    ensures failed { (outcome : Result (Unit {0}) Stop) → result ≡ Some outcome → FailsByStop outcome (W.failed writer.old) (W.failed writer.new) }
+{
+    round.clear();
+    take_round(rt, posts, round);
+    if all_are_finished(round) {
+        return Some(Ok(()));
+    }
+    if !all_are_told(round) {
+        drain_all(rt, posts, round);
+        return Some(Err(Stop::Memory));
+    }
+    match write_round(alloc, collector, round, text, written, writer) {
+        Ok(()) => None,
+        Err(stop) => {
+            drain_all(rt, posts, round);
+            Some(Err(stop))
+        }
+    }
+}
+
+/// Takes an answer of each worker, round by round, and writes the text of each round, until all workers have finished. From the first
+/// want of memory on, a worker's or its own, or from a failed write on, it writes nothing more, and takes what each worker still
+/// answers, to the last.
+///
+/// # Errors
+///
+/// `Output` exactly where a write failed, else `Memory`. The text that went out is a beginning of that of the rounds taken.
+pub fn collect<R: Wait, W: CountedWrite, A: Allocator + Copy>(
+    rt: &R,
+    alloc: A,
+    posts: &mut [Post<A>],
+    collector: &mut Collector<A>,
+    round: &mut Vec<Answer<A>, A>,
+    text: &mut Vec<u8, A>,
+    written: &mut u64,
+    writer: &mut W,
+) -> Result<(), Stop>
+    requires sound { W.failed writer.old < 2 ^ 64 - 1 }
+    requires room { length posts.old ≤ vec_capacity round.old }
+    ensures ends { EndsCollecting posts.old posts.new collector.old (W.taken writer.old) (W.taken writer.new) result }
+    ensures counts { (start : List ℕ) → HasCounted start (W.taken writer.old) written.old → HasCounted start (W.taken writer.new) written.new }
+    ensures failed { FailsByStop result (W.failed writer.old) (W.failed writer.new) }
+{
+    for _ in rt.forever() {
+        if let Some(outcome) = turn(rt, alloc, posts, collector, round, text, written, writer) {
+            return outcome;
+        }
+    }
+    Err(Stop::Memory)
+}

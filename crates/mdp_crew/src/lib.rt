@@ -1,0 +1,22 @@
+//! The threads behind the readers: the arbiter's, which sends what events cause to all workers; the workers', each of which keeps the
+//! books of its own securities and answers what is printed of them; and what the caller's thread makes of their answers.
+#![tactic(auto)]
+
+mod arbiter;
+mod batch;
+mod collector;
+mod crew;
+mod gate;
+mod order;
+mod running;
+mod starts;
+mod stop;
+mod worker;
+
+pub use arbiter::Standing;
+pub use batch::Batch;
+pub use gate::{Gate, Open};
+pub use order::Order;
+pub use running::{CrewOutcome, run_crew};
+pub use starts::{Always, Starts};
+pub use stop::Stop;

@@ -1,0 +1,314 @@
+//! The crew of a run: the arbiter and the workers in threads of a scope, and the collector on the caller's thread.
+
+ghost use Rattle.std.specs.Prelude.{◌≡◌, ◌≤◌, ◌<◌, ◌^◌, ◌-◌, [], ℕ, List, IfOk, MatchResult};
+ghost use Rattle.mdp_lanes.specs.Items.{ends_taken};
+ghost use Rattle.mdp_templates.specs.Instrument.{AreFit};
+ghost use Rattle.mdp_crew.specs.Arbitrating.{HasBegun, HasSent};
+ghost use Rattle.mdp_crew.specs.declared.batch.Batch.{Batch};
+ghost use Rattle.mdp_crew.specs.declared.order.Order.{Order};
+ghost use Rattle.mdp_lanes.specs.Queues.{IntakeReceiverView, LaneSenderView};
+ghost use Rattle.mdp_templates.specs.declared.instrument.Instrument.{Instrument};
+ghost use Rattle.mdp_crew.specs.Batches.{HasTakenMore, events_taken};
+ghost use Rattle.mdp_crew.specs.Counted.{HasCounted};
+ghost use Rattle.mdp_crew.specs.Running.{HasShown, outcome_of};
+ghost use Rattle.mdp_crew.specs.Ready.{IsReady};
+ghost use Rattle.mdp_crew.specs.Stops.{FailsByStop};
+
+use crate::arbiter::{ArbiterOutcome, Ring, Standing, arbitrate, drain};
+use crate::batch::Batch;
+use crate::collector::collect;
+use crate::crew::{Post, hire_all, let_all_go};
+use crate::gate::Gate;
+use crate::order::Order;
+use crate::starts::Starts;
+use crate::stop::Stop;
+use mdp_arbiter::Arbiter;
+use mdp_lanes::{IntakeReceiver, LaneSender};
+use mdp_print::CountedWrite;
+use mdp_reports::{Answer, Collector};
+use mdp_templates::{Instrument, Memory};
+use mdp_window::RingWindow;
+use std::alloc::Allocator;
+use std::snapshot::Snapshot;
+use std::sync::{OnceLock, Wait};
+use std::thread::{Promise, PromisedHandle, Scope, Threads};
+
+/// The number of the arbiter's thread, behind the readers.
+const ARBITER: usize = 3;
+
+/// The arbiter's promise: it has taken all batches of the readers, and sent what they make possible.
+#[derive(Drop)]
+pub struct SendsOrders<'s, A: Allocator + Copy> {
+    pub listed: Snapshot<&'s [Instrument]>,
+    pub room: u32,
+    pub receiver: Snapshot<IntakeReceiver<Batch<A>, A>>,
+    pub senders: Snapshot<Vec<LaneSender<Order<A>, A>, A>>,
+}
+
+impl<'s, A: Allocator + Copy> Promise<ArbiterOutcome<A>> for SendsOrders<'s, A> {
+    ghost use Rattle.mdp_crew.specs.Arbitrating.{HasSent};
+
+    ghost kept_by = { λ p outcome. HasSent p.listed.value.now p.room p.receiver.value p.senders.value.items outcome };
+}
+
+/// What is left to know of the arbiter: its thread, or what it left where its thread couldn't be started.
+type Arbitrating<'s, A> = Result<
+    PromisedHandle<ArbiterOutcome<A>, SendsOrders<'s, A>>,
+    ArbiterOutcome<A>,
+>;
+
+/// What the crew leaves: the receiver, where the channel stands, and how many bytes went out.
+#[derive(Drop)]
+pub struct CrewOutcome<A: Allocator + Copy> {
+    pub receiver: IntakeReceiver<Batch<A>, A>,
+    pub standing: Result<Standing, Stop>,
+    pub written: u64,
+}
+
+/// What the threads of a crew begin with.
+#[derive(Drop)]
+pub struct Ready<'s, A: Allocator + Copy> {
+    pub arbiter: Arbiter<A, Ring<A>>,
+    pub collector: Collector<'s, A>,
+    pub round: Vec<Answer<A>, A>,
+    pub senders: Vec<LaneSender<Order<A>, A>, A>,
+    pub posts: Vec<Post<'s, A>, A>,
+}
+
+// Makes what the crew begins with, and starts the workers.
+fn prepare<'s, E, R, S, G, A>(
+    rt: &'s R,
+    scope: &'s Scope<'s, E>,
+    starts: &S,
+    alloc: A,
+    gate: &'s G,
+    listed: &'s [Instrument],
+    workers: u16,
+    window: u32,
+) -> Result<Ready<'s, A>, Memory>
+where
+    R: Threads + Wait + Sync,
+    S: Starts,
+    G: Gate + Sync,
+    A: Allocator + Copy + Send + Sync,
+    A: 's,
+    requires fit { AreFit listed.now }
+    requires some { 1 ≤ workers }
+    requires least { 1 ≤ window }
+    requires most { window ≤ 65536 }
+    ensures { IfOk result (λ ready. IsReady listed.now workers window ready) }
+{
+    let window = RingWindow::new(alloc, u64::from(window))?;
+    let arbiter = Arbiter::new(alloc, listed, window)?;
+    let collector = Collector::new(alloc, listed)?;
+    let round = Vec::with_capacity(alloc, usize::from(workers))?;
+    let (senders, posts) = hire_all(rt, scope, starts, alloc, gate, listed, workers)?;
+    Ok(Ready {
+        arbiter,
+        collector,
+        round,
+        senders,
+        posts,
+    })
+}
+
+// Starts the arbiter's thread. Where it can't be started all readers are told to stop, and it is called here.
+fn begin_arbiter<'s, E, R, S, A>(
+    rt: &'s R,
+    scope: &'s Scope<'s, E>,
+    go: &OnceLock<bool>,
+    starts: &S,
+    alloc: A,
+    listed: &'s [Instrument],
+    room: u32,
+    arbiter: Arbiter<A, Ring<A>>,
+    receiver: IntakeReceiver<Batch<A>, A>,
+    senders: Vec<LaneSender<Order<A>, A>, A>,
+) -> Arbitrating<'s, A>
+where
+    R: Threads + Wait + Sync,
+    S: Starts,
+    A: Allocator + Copy + Send + Sync,
+    A: 's,
+    requires begun { HasBegun listed.now room arbiter }
+    requires fresh { receiver.taken ≡ [] }
+    ensures { MatchResult result
+        (λ h. (h.promise.listed.value.now ≡ listed.now) × (h.promise.room ≡ room) × (h.promise.receiver.value ≡ receiver) × (h.promise.senders.value.items ≡ senders.items))
+        (λ outcome. HasSent listed.now room receiver senders.items outcome) }
+{
+    if !starts.may_start(ARBITER) {
+        let _ = go.set(rt, false);
+        return Err(arbitrate(rt, alloc, arbiter, receiver, senders));
+    }
+    let promise = SendsOrders {
+        listed: Snapshot::of(&listed),
+        room,
+        receiver: Snapshot::of(&receiver),
+        senders: Snapshot::of(&senders),
+    };
+    match scope.spawn_with(
+        promise,
+        move || arbitrate(rt, alloc, arbiter, receiver, senders),
+    ) {
+        Ok(handle) => Ok(handle),
+        Err(refused) => {
+            let _ = go.set(rt, false);
+            Err((refused.value)())
+        }
+    }
+}
+
+// Waits for the arbiter to end.
+fn join_arbiter<'s, R: Threads + Wait, A: Allocator + Copy>(
+    rt: &R,
+    arbitrating: Arbitrating<'s, A>,
+) -> ArbiterOutcome<A>
+    ensures { (listed : List Instrument) (room : ℕ) (receiver : IntakeReceiverView (Batch A)) (senders : List (LaneSenderView (Order A))) →
+        MatchResult arbitrating.entry
+        (λ h. (h.promise.listed.value.now ≡ listed) × (h.promise.room ≡ room) × (h.promise.receiver.value ≡ receiver) × (h.promise.senders.value.items ≡ senders))
+        (λ outcome. HasSent listed room receiver senders outcome) → HasSent listed room receiver senders result }
+{
+    match arbitrating {
+        Ok(handle) => handle.join(rt),
+        Err(outcome) => outcome,
+    }
+}
+
+// What the run comes to: what the collector met goes before what the arbiter met.
+fn outcome(
+    collected: Result<(), Stop>,
+    standing: Result<Standing, Memory>,
+) -> Result<Standing, Stop>
+    ensures { result ≡ outcome_of collected standing }
+{
+    match (collected, standing) {
+        (Err(stop), _) => Err(stop),
+        (Ok(()), Ok(standing)) => Ok(standing),
+        (Ok(()), Err(Memory)) => Err(Stop::Memory),
+    }
+}
+
+// Lets the threads work, writes what they come to, and joins them.
+fn run_ready<'s, E, R, S, W, A>(
+    rt: &'s R,
+    scope: &'s Scope<'s, E>,
+    go: &OnceLock<bool>,
+    starts: &S,
+    alloc: A,
+    listed: &'s [Instrument],
+    workers: u16,
+    window: u32,
+    ready: Ready<'s, A>,
+    receiver: IntakeReceiver<Batch<A>, A>,
+    writer: &mut W,
+) -> CrewOutcome<A>
+where
+    R: Threads + Wait + Sync,
+    S: Starts,
+    W: CountedWrite,
+    A: Allocator + Copy + Send + Sync,
+    A: 's,
+    requires sound { W.failed writer.old < 2 ^ 64 - 1 }
+    requires fit { AreFit listed.now }
+    requires some { 1 ≤ workers }
+    requires ready { IsReady listed.now workers window ready }
+    requires fresh { receiver.taken ≡ [] }
+    ensures takes { HasTakenMore receiver result.receiver }
+    ensures ends { ends_taken (λ b. b.is_last) result.receiver.taken ≡ 3 }
+    ensures shows { HasShown listed.now window (events_taken result.receiver.taken) (W.taken writer.old) (W.taken writer.new) result.standing }
+    ensures counts { HasCounted (W.taken writer.old) (W.taken writer.new) result.written }
+    ensures failed { FailsByStop result.standing (W.failed writer.old) (W.failed writer.new) }
+{
+    let Ready {
+        arbiter,
+        mut collector,
+        mut round,
+        senders,
+        mut posts,
+    } = ready;
+    let arbitrating = begin_arbiter(
+        rt, scope, go, starts, alloc, listed, window, arbiter, receiver, senders,
+    );
+    let _ = go.set(rt, true);
+    let mut text = Vec::new(alloc);
+    let mut written = 0;
+    let collected = collect(
+        rt,
+        alloc,
+        posts.as_mut_slice(),
+        &mut collector,
+        &mut round,
+        &mut text,
+        &mut written,
+        writer,
+    );
+    let ArbiterOutcome {
+        receiver,
+        senders,
+        standing,
+    } = join_arbiter(rt, arbitrating);
+    let_all_go(rt, senders, posts);
+    CrewOutcome {
+        receiver,
+        standing: outcome(collected, standing),
+        written,
+    }
+}
+
+/// Runs over what three readers hand over, once they are told to go: an arbiter and so many workers in threads of the scope, and the
+/// collector on the caller's thread, which writes the text. All that the readers hand over is taken, and all threads are joined, on
+/// every path. Where a thread can't be started the readers are told to stop.
+///
+/// The number of workers is 1 to 16, and the window covers 1 to 65536 packet numbers.
+///
+/// # Errors
+///
+/// `Output` exactly where a write failed, else `Memory`, also where a thread can't be started. What went out is a beginning of what
+/// the whole run shows.
+pub fn run_crew<'s, E, R, S, G, W, A>(
+    rt: &'s R,
+    scope: &'s Scope<'s, E>,
+    go: &OnceLock<bool>,
+    starts: &S,
+    alloc: A,
+    gate: &'s G,
+    listed: &'s [Instrument],
+    workers: u16,
+    window: u32,
+    mut receiver: IntakeReceiver<Batch<A>, A>,
+    writer: &mut W,
+) -> CrewOutcome<A>
+where
+    R: Threads + Wait + Sync,
+    S: Starts,
+    G: Gate + Sync,
+    W: CountedWrite,
+    A: Allocator + Copy + Send + Sync,
+    A: 's,
+    requires sound { W.failed writer.old < 2 ^ 64 - 1 }
+    requires fit { AreFit listed.now }
+    requires some { 1 ≤ workers }
+    requires least { 1 ≤ window }
+    requires most { window ≤ 65536 }
+    requires fresh { receiver.taken ≡ [] }
+    ensures takes { HasTakenMore receiver result.receiver }
+    ensures ends { ends_taken (λ b. b.is_last) result.receiver.taken ≡ 3 }
+    ensures shows { HasShown listed.now window (events_taken result.receiver.taken) (W.taken writer.old) (W.taken writer.new) result.standing }
+    ensures counts { HasCounted (W.taken writer.old) (W.taken writer.new) result.written }
+    ensures failed { FailsByStop result.standing (W.failed writer.old) (W.failed writer.new) }
+{
+    match prepare(rt, scope, starts, alloc, gate, listed, workers, window) {
+        Ok(ready) => run_ready(
+            rt, scope, go, starts, alloc, listed, workers, window, ready, receiver, writer,
+        ),
+        Err(Memory) => {
+            let _ = go.set(rt, false);
+            drain(rt, &mut receiver);
+            CrewOutcome {
+                receiver,
+                standing: Err(Stop::Memory),
+                written: 0,
+            }
+        }
+    }
+}
