@@ -1,4 +1,4 @@
-//! Workers and a collector in one thread: the text of worked rows, whatever the number of workers and wherever the turns are cut into
+//! Workers and a collector in one thread: the text of known captures, whatever the number of workers and wherever the turns are cut into
 //! batches, and each allocation refused in turn.
 
 mod channel;
