@@ -8,7 +8,7 @@ program := crates/mdp_handler/out/mdp_handler
 .PHONY: run test wrong-bodies build
 
 run: build
-	@$(program) --in-order < examples/plain.capture
+	@$(program) < examples/plain.capture
 
 test:
 	@tests/run_all.sh
