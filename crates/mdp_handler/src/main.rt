@@ -1,6 +1,10 @@
 //! `mdp_handler`: reads a capture of one CME MDP 3.0 channel from standard input, and prints its books.
 #![tactic(auto)]
 
+#[cfg(test)]
+mod captures;
+#[cfg(test)]
+mod failed_writes;
 mod faults;
 mod program;
 #[cfg(test)]

@@ -6,7 +6,8 @@ ghost use Rattle.mdp_handler.specs.CommandLine.{AreLawful, AsksToRun, shown_kind
 ghost use Rattle.mdp_handler.specs.Faults.{Tells, skipped_lines};
 ghost use Rattle.mdp_handler.specs.Outcome.{Fails, HasDone, HasFailed, HasFailedRun, HasFailedWrite, HasNoMemory, HasRefused, HasRefusedCapture, HasRun, HasStopped};
 ghost use Rattle.mdp_handler.specs.Printed.{HasBegun, HasPrinted};
-ghost use Rattle.mdp_pipeline.specs.Counted.{HasCounted, written_before};
+ghost use Rattle.mdp_crew.specs.Counted.{HasCounted};
+ghost use Rattle.mdp_pipeline.specs.Counted.{written_before};
 ghost use Rattle.mdp_pipeline.specs.Faults.{FailsBy};
 ghost use Rattle.mdp_templates.specs.Instrument.{AreFit};
 
@@ -15,7 +16,8 @@ use crate::settings::{Settings, read_settings};
 use clap::Error;
 use clap::error::ErrorKind;
 use mdp_capture::{Capture, CaptureFault, CountedRead, read_capture};
-use mdp_pipeline::{Open, RunFault, Summary, run, run_in_order};
+use mdp_crew::Open;
+use mdp_pipeline::{RunFault, Summary, run, run_in_order};
 use mdp_print::{CountedWrite, write_all_counted};
 use std::alloc::{Allocator, Global};
 use std::sync::Wait;
@@ -236,7 +238,7 @@ where
     if settings.in_order {
         return run_in_order(alloc, instruments, a, b, s, window, output);
     }
-    let workers = u32::from(settings.workers);
+    let workers = u16::from(settings.workers);
     run(
         rt,
         alloc,

@@ -32,7 +32,7 @@ The capture is text, one record a line:
 Instruments come first. A datagram has at most 2,048 bytes. Each feed is read in a
 thread of its own, and of the two copies of a packet the one that comes first is
 used; with --in-order one thread takes all records in the order of their lines.
-Books are kept in one thread so far, whatever --workers says.
+The books are kept in --workers threads; how many changes no line.
 
 At each event end these lines are printed for each security that it names, and after
 a jump for each security at the first event end past its snapshot. K.J is the

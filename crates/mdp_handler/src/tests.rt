@@ -26,14 +26,22 @@ const WORDS: &[&str] = &["mdp_handler", "--in-order"];
 // A run on one thread, and one over threads.
 const RUNS: [&[&str]; 2] = [WORDS, &["mdp_handler"]];
 
+// How a write fails: by an error of this kind, or by taking no byte.
+#[derive(Clone, Copy)]
+pub(crate) enum Failure {
+    Error(ErrorKind),
+    NoByte,
+}
+
 // Keeps what it takes, at most so many bytes a call, and fails at one call.
 #[derive(Drop)]
 pub(crate) struct Kept {
     pub(crate) bytes: Vec<u8>,
     most: usize,
-    calls: u64,
+    pub(crate) calls: u64,
     fail_at: u64,
-    failures: u64,
+    failure: Failure,
+    pub(crate) failures: u64,
     error: Option<ErrorKind>,
 }
 
@@ -42,10 +50,11 @@ impl Kept {
     pub(crate) fn new(alloc: Global) -> Kept
         ensures { result.failures ≡ 0 }
     {
-        Kept::slow(alloc, usize::MAX, 0)
+        Kept::slow(alloc, usize::MAX, 0, Failure::NoByte)
     }
 
-    fn slow(alloc: Global, most: usize, fail_at: u64) -> Kept
+    // Takes at most so many bytes of a call, and fails at the call of this number, from 1; at 0 it never does.
+    pub(crate) fn slow(alloc: Global, most: usize, fail_at: u64, failure: Failure) -> Kept
         ensures { result.failures ≡ 0 }
     {
         Kept {
@@ -53,6 +62,7 @@ impl Kept {
             most,
             calls: 0,
             fail_at,
+            failure,
             failures: 0,
             error: None,
         }
@@ -68,8 +78,18 @@ impl CountedWrite for Kept {
 
     fn write(&mut self, bytes: &[u8]) -> io::Result<usize> {
         self.calls = self.calls.saturating_add(1);
-        let count = bytes.len().min(self.most);
-        if self.calls == self.fail_at || self.bytes.extend_from_slice(&bytes[..count]).is_err() {
+        let mut count = bytes.len().min(self.most);
+        if self.calls == self.fail_at {
+            match self.failure {
+                Failure::Error(kind) => {
+                    self.failures += 1;
+                    self.error = Some(kind);
+                    return Err(io::Error::from(kind));
+                }
+                Failure::NoByte => count = 0,
+            }
+        }
+        if self.bytes.extend_from_slice(&bytes[..count]).is_err() {
             self.failures += 1;
             self.error = Some(ErrorKind::Other);
             return Err(io::Error::from(ErrorKind::Other));
@@ -151,7 +171,7 @@ fn a_failed_write_tells_what_went_out(rt: HostRuntime) -> Result<(), Fail> {
     let alloc = rt.alloc();
     for words in RUNS {
         let mut input = CountingReader::new(CAPTURE);
-        let mut output = Kept::slow(alloc, 1, 30);
+        let mut output = Kept::slow(alloc, 1, 30, Failure::Error(ErrorKind::Other));
         let mut faults = Kept::new(alloc);
         let status = program(
             &rt,
@@ -264,7 +284,7 @@ fn help_reads_no_capture(rt: HostRuntime) -> Result<(), Fail> {
             .any(|text| text == usage.as_slice())
     );
     assert_eq!(rt; faults.bytes.as_slice(), b"".as_slice());
-    let mut output = Kept::slow(alloc, 1, 8);
+    let mut output = Kept::slow(alloc, 1, 8, Failure::Error(ErrorKind::Other));
     assert_eq!(rt; ask_for_help(&rt, alloc, &mut output, &mut faults), 1);
     assert_eq!(rt;
         faults.bytes.as_slice(),

@@ -29,7 +29,7 @@ use Rattle.mdp_pipeline.specs.Reading.{Reading, Said, Says, brings, refused, IsR
 use Rattle.mdp_pipeline.specs.Output.{end_lines, is_lost_after, moves_of, next_after, shown_output}
 use Rattle.mdp_pipeline.specs.RefusalTexts.{RefusalTexts}
 use Rattle.mdp_pipeline.specs.Running.{BeginsAll, PrintsAll, TakesAs, Writes}
-use Rattle.mdp_pipeline.proofs.Ending.{shown_lines_after-append}
+use Rattle.mdp_crew.proofs.Fronts.{shown_lines_after-append}
 use Rattle.mdp_pipeline.proofs.Written.{HasTaken, taken_more}
 
 -- ---- what records say that were not reached

@@ -1,15 +1,22 @@
 -- What a run has written when it ends, at the events that it took.
-use Rattle.std.proofs.Common.{◌≡◌, ℕ, Bool, List, [], ◌∷◌, ◌++◌, take, drop, refl, sym, ap, subst, ◌∙◌, append_assoc}
+use Rattle.std.proofs.Common.{◌≡◌, ℕ, Bool, List, [], ◌++◌, take, drop, refl, sym, ap, subst, ◌∙◌, append_assoc}
+use Rattle.std.specs.Prelude.{Result, Ok, Err, IfOk, IfErr, OnOk}
 use Rattle.std.proofs.lemmas.List.{append-nil, take-append-drop}
 use Rattle.mdp_templates.specs.declared.instrument.Instrument.{Instrument}
 use Rattle.mdp_print.specs.Texts.{last_line}
 use Rattle.mdp_arbiter.specs.Accepted.{Event}
 use Rattle.mdp_arbiter.specs.Channel.{Channel, channel_of}
-use Rattle.mdp_arbiter.specs.Machine.{Move, go_on, is_lost, state_at, trace}
+use Rattle.mdp_arbiter.specs.Machine.{go_on, is_lost, state_at, trace}
 use Rattle.mdp_arbiter.proofs.Runs.{law_of_fronts}
-use Rattle.mdp_desks.specs.Shown.{shown_lines_of_move, shown_lines_after, shown_lines}
+use Rattle.mdp_desks.specs.Shown.{shown_lines_after, shown_lines}
 use Rattle.mdp_engine.specs.Engine.{View, Stands}
+use Rattle.mdp_crew.specs.declared.arbiter.Standing.{Standing}
+use Rattle.mdp_crew.specs.declared.stop.Stop.{Stop}
+use Rattle.mdp_crew.specs.Running.{HasShown as HasShownOf, HasShownAll, HasShownSome}
+use Rattle.mdp_crew.proofs.Fronts.{shown_lines_after-append}
 use Rattle.mdp_pipeline.specs.declared.progress.Run.{Run}
+use Rattle.mdp_pipeline.specs.declared.summary.RunFault.{RunFault}
+use Rattle.mdp_pipeline.specs.declared.summary.Summary.{Summary}
 use Rattle.mdp_pipeline.specs.Merge.{Arrival}
 use Rattle.mdp_pipeline.specs.Output.{end_lines, is_lost_after, moves_of, next_after, shown_output}
 use Rattle.mdp_pipeline.specs.Reading.{by_feed, events_of, refusals_text}
@@ -24,15 +31,6 @@ shown_so_far listed room events start taken engine held so_far =
     let front = so_far.sent ++ held in
     sym (append-nil front) ∙ ap (λ (t : List ℕ). front ++ t) (sym so_far.drained) ∙ so_far.stands.shows.text_is
     ∙ ap (λ (c : Channel). shown_lines listed (trace c events)) so_far.channel
-
--- what the moves show begins with what the first ones show
-pub shown_lines_after-append : (listed : List Instrument) (before moves more : List Move) → shown_lines_after listed before (moves ++ more) ≡ shown_lines_after listed before moves ++ shown_lines_after listed (before ++ moves) more
-shown_lines_after-append listed before [] more = ap (λ (b : List Move). shown_lines_after listed b more) (sym (append-nil before))
-shown_lines_after-append listed before (m ∷ moves) more =
-    let now = before ++ m ∷ [] in
-    ap (λ (t : List ℕ). shown_lines_of_move listed before m ++ t) (shown_lines_after-append listed now moves more)
-    ∙ ap (λ (b : List Move). shown_lines_of_move listed before m ++ (shown_lines_after listed now moves ++ shown_lines_after listed b more)) (append_assoc before (m ∷ []) moves)
-    ∙ sym (append_assoc (shown_lines_of_move listed before m) (shown_lines_after listed now moves) (shown_lines_after listed (before ++ m ∷ moves) more))
 
 -- what more events show
 abbrev shown_later : List Instrument → ℕ → List Event → List Event → List ℕ
@@ -116,6 +114,95 @@ early_in_end listed room events start taken taken' engine held end refusals next
       rest = drop n end;
       taken_is = went ∙ ap (λ (t : List ℕ). (t ++ held) ++ take n end) so_far.taken_is ∙ ap (λ (t : List ℕ). t ++ take n end) (append_assoc start so_far.sent held) ∙ append_assoc start front (take n end);
       whole = sym all.shown ∙ ap (λ (t : List ℕ). front ++ t) (sym (take-append-drop n end)) ∙ sym (append_assoc front (take n end) (drop n end));
+    }
+
+-- ends told by equal numbers
+pub told_as : (listed : List Instrument) (room : ℕ) (events : List Event) (refusals start taken : List ℕ) (next next' : ℕ) (lost lost' : Bool) → next' ≡ next → lost' ≡ lost
+    → EndsAs listed room events refusals start taken next lost → EndsAs listed room events refusals start taken next' lost'
+told_as listed room events refusals start taken next next' lost lost' next_is lost_is ends =
+    subst (λ (n : ℕ). EndsAs listed room events refusals start taken n lost') (sym next_is) (subst (λ (l : Bool). EndsAs listed room events refusals start taken next l) (sym lost_is) ends)
+
+-- what the end comes to, where all of the text went out
+pub ends_of : (taken mid after : List ℕ) (engine : View) (held : List ℕ) (refusals : RefusalTexts) (next : ℕ) (lost : Bool) (result : Result Summary RunFault)
+    → TellsNext engine next → TellsLost engine lost → mid ≡ taken ++ held
+    → IfOk result (λ (summary : Summary). (summary.next ≡ next) × (summary.lost ≡ lost)) → OnOk result (after ≡ mid ++ (joined_texts refusals ++ last_line next lost))
+    → IfOk result (λ (summary : Summary). (listed : List Instrument) (room : ℕ) (events : List Event) (start : List ℕ) → HasShown listed room events start taken engine held
+    → EndsAs listed room events (joined_texts refusals) start after summary.next summary.lost)
+ends_of taken mid after engine held refusals next lost (Ok summary) next_is lost_is text tells went = λ listed room events start so_far.
+    let end = joined_texts refusals ++ last_line next lost in
+    let ends = ends_as listed room events start taken after engine held end refusals next lost (went ∙ ap (λ (t : List ℕ). t ++ end) text) refl next_is lost_is so_far in
+    told_as listed room events (joined_texts refusals) start after next summary.next lost summary.lost tells.0 tells.1 ends
+ends_of taken mid after engine held refusals next lost (Err fault) next_is lost_is text tells went = tt
+
+pub early_of : (taken mid after : List ℕ) (engine : View) (held : List ℕ) (refusals : RefusalTexts) (next : ℕ) (lost : Bool) (result : Result Summary RunFault)
+    → TellsNext engine next → TellsLost engine lost → mid ≡ taken ++ held
+    → IfErr result (λ (fault : RunFault). (n : ℕ) × (after ≡ mid ++ take n (joined_texts refusals ++ last_line next lost)))
+    → IfErr result (λ (fault : RunFault). (listed : List Instrument) (room : ℕ) (events : List Event) (start : List ℕ) → HasShown listed room events start taken engine held
+    → EndsEarly listed room events (joined_texts refusals) start after)
+early_of taken mid after engine held refusals next lost (Ok summary) next_is lost_is text begins = tt
+early_of taken mid after engine held refusals next lost (Err fault) next_is lost_is text begins = λ listed room events start so_far.
+    let end = joined_texts refusals ++ last_line next lost in
+    early_in_end listed room events start taken after engine held end refusals next lost begins.0 (begins.1 ∙ ap (λ (t : List ℕ). t ++ take begins.0 end) text) refl next_is lost_is so_far
+
+-- ---- the end of a run over threads
+
+-- the refusals and the last line went out behind what the moves show
+pub ends_behind : (listed : List Instrument) (room : ℕ) (events : List Event) (start taken after : List ℕ) (standing : Standing) (refusals : RefusalTexts)
+    → after ≡ taken ++ (joined_texts refusals ++ last_line standing.next standing.lost) → HasShownAll listed room events start taken standing
+    → EndsAs listed room events (joined_texts refusals) start after standing.next standing.lost
+ends_behind listed room events start taken after standing refusals went shown =
+    let lines = shown_lines listed (moves_of listed room events) in
+    let end = joined_texts refusals ++ last_line standing.next standing.lost in
+    record {
+      text = lines ++ end;
+      taken_is = went ∙ ap (λ (t : List ℕ). t ++ end) shown.shown ∙ append_assoc start lines end;
+      next_is = shown.next_is;
+      lost_is = shown.lost_is;
+      shown =
+          ap (λ (n : ℕ). lines ++ (joined_texts refusals ++ last_line n standing.lost)) shown.next_is
+          ∙ ap (λ (l : Bool). lines ++ (joined_texts refusals ++ last_line (next_after listed room events) l)) shown.lost_is;
+    }
+
+-- so many bytes of them went out
+pub early_behind : (listed : List Instrument) (room : ℕ) (events : List Event) (start taken after : List ℕ) (standing : Standing) (refusals : RefusalTexts) (n : ℕ)
+    → after ≡ taken ++ take n (joined_texts refusals ++ last_line standing.next standing.lost) → HasShownAll listed room events start taken standing
+    → EndsEarly listed room events (joined_texts refusals) start after
+unfolding ends_behind
+early_behind listed room events start taken after standing refusals n went shown =
+    let lines = shown_lines listed (moves_of listed room events) in
+    let end = joined_texts refusals ++ last_line standing.next standing.lost in
+    let all = ends_behind listed room events start taken (taken ++ end) standing refusals refl shown in
+    record {
+      sent = lines ++ take n end;
+      rest = drop n end;
+      taken_is = went ∙ ap (λ (t : List ℕ). t ++ take n end) shown.shown ∙ append_assoc start lines (take n end);
+      whole = sym all.shown ∙ ap (λ (t : List ℕ). lines ++ t) (sym (take-append-drop n end)) ∙ sym (append_assoc lines (take n end) (drop n end));
+    }
+
+-- all that the moves show is a beginning of what they show with more events
+some_of_all : (listed : List Instrument) (room : ℕ) (events : List Event) (start taken : List ℕ) (standing : Standing) → HasShownAll listed room events start taken standing → HasShownSome listed room events start taken
+some_of_all listed room events start taken standing shown = record {
+  sent = shown_lines listed (moves_of listed room events);
+  taken_is = shown.shown;
+  begins = λ more. (shown_later listed room events more, shown_front listed room events more);
+}
+
+some_shown : (listed : List Instrument) (room : ℕ) (events : List Event) (start taken : List ℕ) (outcome : Result Standing Stop) → HasShownOf listed room events start taken outcome → HasShownSome listed room events start taken
+some_shown listed room events start taken (Ok standing) shown = some_of_all listed room events start taken standing shown.all
+some_shown listed room events start taken (Err stop) shown = shown.some
+
+-- whatever a run comes to, what went out is a beginning of the whole text, whatever comes behind these events
+pub early_shown : (listed : List Instrument) (room : ℕ) (events more : List Event) (refusals start taken : List ℕ) (outcome : Result Standing Stop) → HasShownOf listed room events start taken outcome
+    → EndsEarly listed room (events ++ more) refusals start taken
+early_shown listed room events more refusals start taken outcome shown =
+    let some = some_shown listed room events start taken outcome shown in
+    let front = some.begins more in
+    let end = end_lines listed room refusals (events ++ more) in
+    record {
+      sent = some.sent;
+      rest = front.0 ++ end;
+      taken_is = some.taken_is;
+      whole = ap (λ (t : List ℕ). t ++ end) front.1 ∙ append_assoc some.sent front.0 end;
     }
 
 -- ---- runs over records of all feeds in one list

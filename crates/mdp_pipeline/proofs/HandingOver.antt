@@ -10,11 +10,12 @@ use Rattle.mdp_capture.specs.Record.{RecordContent}
 use Rattle.mdp_arbiter.specs.Accepted.{Event}
 use Rattle.mdp_engine.specs.Steps.{event_of}
 use Rattle.mdp_lanes.specs.Queues.{IntakeSenderView}
-use Rattle.mdp_pipeline.specs.declared.batch.Batch.{Batch}
+use Rattle.mdp_crew.specs.declared.batch.Batch.{Batch}
+use Rattle.mdp_crew.specs.Batches.{all_events, batch_events}
 use Rattle.mdp_pipeline.specs.declared.reader.Reader.{Reader}
 use Rattle.mdp_pipeline.specs.Merge.{Arrival, arrivals}
 use Rattle.mdp_pipeline.specs.Reading.{Reading, AreReadings, IsReading, Said, brought_by, events_of, refusal_lines, refusal_text}
-use Rattle.mdp_pipeline.specs.Readers.{HasHandedOver, HasPut, HasReadOne, HasReadSoFar, all_events, batch_events, events_held, has_ended}
+use Rattle.mdp_pipeline.specs.Readers.{HasHandedOver, HasPut, HasReadOne, HasReadSoFar, events_held, has_ended}
 use Rattle.mdp_pipeline.proofs.Beginnings.{readings_exist, readings-append}
 
 module _ {A : Type 0} where

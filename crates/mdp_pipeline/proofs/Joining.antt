@@ -1,6 +1,6 @@
 -- What was taken of three readers, with what they did not hand over, is a merge of what their records bring.
-use Rattle.std.proofs.Common.{◌≡◌, ℕ, Bool, true, false, cond, List, [], ◌∷◌, ◌++◌, map, refl, sym, ap, subst, ◌∙◌, append_assoc}
-use Rattle.std.specs.Prelude.{Result, Ok, Err, IfOk, IfErr, ◌==◌}
+use Rattle.std.proofs.Common.{◌≡◌, ℕ, Bool, true, false, cond, List, [], ◌∷◌, ◌++◌, map, take, refl, sym, ap, subst, ◌∙◌, append_assoc}
+use Rattle.std.specs.Prelude.{Result, Ok, Err, IfOk, IfErr, OnOk, ◌==◌, ◌<◌}
 use Rattle.std.specs.List.{filter, flat_map}
 use Rattle.std.proofs.lemmas.List.{append-nil, map-append}
 use Rattle.std.proofs.lemmas.List.Elements.{filter-append}
@@ -11,24 +11,30 @@ use Rattle.mdp_templates.specs.declared.instrument.Instrument.{Instrument}
 use Rattle.mdp_capture.specs.Record.{RecordContent}
 use Rattle.mdp_arbiter.specs.Accepted.{Event}
 use Rattle.mdp_arbiter.specs.Channel.{channel_of}
-use Rattle.mdp_engine.specs.Engine.{View}
 use Rattle.mdp_engine.proofs.Agreeing.{shows_what_is_owed}
 use Rattle.mdp_engine.proofs.Honesty.{honest_moves_agree}
 use Rattle.mdp_lanes.specs.Items.{is_same, items_of}
 use Rattle.mdp_lanes.specs.Queues.{IntakeReceiverView, IntakeSenderView, IsFreshSenderOf}
-use Rattle.mdp_pipeline.specs.declared.batch.Batch.{Batch}
+use Rattle.mdp_print.specs.Texts.{last_line}
+use Rattle.mdp_crew.specs.declared.arbiter.Standing.{Standing}
+use Rattle.mdp_crew.specs.declared.batch.Batch.{Batch}
+use Rattle.mdp_crew.specs.declared.stop.Stop.{Stop}
+use Rattle.mdp_crew.specs.Batches.{HasTakenMore, all_events, batch_events, events_taken}
+use Rattle.mdp_crew.specs.Running.{HasShown, HasShownAll}
+use Rattle.mdp_crew.specs.Stops.{FailsByStop}
 use Rattle.mdp_pipeline.specs.declared.reader.ReaderOutcome.{ReaderOutcome}
 use Rattle.mdp_pipeline.specs.declared.summary.RunFault.{RunFault}
 use Rattle.mdp_pipeline.specs.declared.summary.Summary.{Summary}
-use Rattle.mdp_pipeline.specs.Collecting.{HasReadFor, HasTakenMore, events_taken, tagged_as, tagged_taken}
+use Rattle.mdp_pipeline.specs.Taken.{HasReadFor, tagged_as, tagged_taken}
 use Rattle.mdp_pipeline.specs.Merge.{arrivals}
 use Rattle.mdp_pipeline.specs.Merging.{Tagged, IsMerge, events_from, events_in, is_from}
 use Rattle.mdp_pipeline.specs.Output.{Begins, BeginsMerge, Prints, PrintsMerge, end_lines, is_lost_after, moves_of, next_after, shown_output}
 use Rattle.mdp_pipeline.specs.Reading.{Reading, Readings, AreReadingsOf, events_of, refusals_text}
-use Rattle.mdp_pipeline.specs.Readers.{HasRead, all_events, batch_events}
-use Rattle.mdp_pipeline.specs.Running.{EndsAs, EndsEarly, HasShown}
+use Rattle.mdp_pipeline.specs.Readers.{HasRead}
+use Rattle.mdp_pipeline.specs.RefusalTexts.{RefusalTexts}
+use Rattle.mdp_pipeline.specs.Running.{EndsAs, EndsEarly, joined_texts}
 use Rattle.mdp_pipeline.proofs.Beginnings.{readings_exist}
-use Rattle.mdp_pipeline.proofs.Ending.{early}
+use Rattle.mdp_pipeline.proofs.Ending.{early_behind, early_shown, ends_behind, told_as}
 
 -- ---- one feed's events among those with feeds
 
@@ -303,28 +309,40 @@ module _ {A : Type 0} where
       ∙ rs
 
   pub ends_well : (receiver : IntakeReceiverView (Batch A)) (a b s : List RecordContent) (left_a left_b left_s : ReaderOutcome A) (joined : Joined receiver a b s left_a left_b left_s)
-      (taken after : List ℕ) (engine : View) (held : List ℕ) (refusals : List ℕ) (result : Result Summary RunFault) → rest_in joined ≡ [] → refusals ≡ refusals_text (readings_in joined)
-      → IfOk result (λ (summary : Summary). (listed : List Instrument) (room : ℕ) (events : List Event) (start : List ℕ) → HasShown listed room events start taken engine held → EndsAs listed room events refusals start after summary.next summary.lost)
-      → IfOk result (λ (summary : Summary). (listed : List Instrument) (room : ℕ) (start : List ℕ) → HasShown listed room (events_taken receiver.taken) start taken engine held
+      (taken after : List ℕ) (outcome : Result Standing Stop) (standing : Standing) (refusals : RefusalTexts) (result : Result Summary RunFault)
+      → outcome ≡ Ok standing → rest_in joined ≡ [] → joined_texts refusals ≡ refusals_text (readings_in joined)
+      → IfOk result (λ (summary : Summary). (summary.next ≡ standing.next) × (summary.lost ≡ standing.lost)) → OnOk result (after ≡ taken ++ (joined_texts refusals ++ last_line standing.next standing.lost))
+      → IfOk result (λ (summary : Summary). (listed : List Instrument) (room : ℕ) (start : List ℕ) → HasShown listed room (events_taken receiver.taken) start taken outcome
       → (text : List ℕ) × (after ≡ start ++ text) × PrintsMerge listed room a b s text summary.next summary.lost)
-  ends_well receiver a b s left_a left_b left_s joined taken after engine held refusals (Ok summary) none told ends = λ listed room start shown.
-      prints_merge receiver a b s left_a left_b left_s joined listed room refusals start after summary.next summary.lost none told (ends listed room (events_taken receiver.taken) start shown)
-  ends_well receiver a b s left_a left_b left_s joined taken after engine held refusals (Err fault) none told ends = tt
+  ends_well receiver a b s left_a left_b left_s joined taken after outcome standing refusals (Ok summary) is none told tells went = λ listed room start shown.
+      let events = events_taken receiver.taken in
+      let all = subst (λ (o : Result Standing Stop). IfOk o (λ (st : Standing). HasShownAll listed room events start taken st)) is shown.all in
+      prints_merge receiver a b s left_a left_b left_s joined listed room (joined_texts refusals) start after summary.next summary.lost none told
+      (told_as listed room events (joined_texts refusals) start after standing.next summary.next standing.lost summary.lost tells.0 tells.1 (ends_behind listed room events start taken after standing refusals went all))
+  ends_well receiver a b s left_a left_b left_s joined taken after outcome standing refusals (Err fault) is none told tells went = tt
 
   pub ends_early : (receiver : IntakeReceiverView (Batch A)) (a b s : List RecordContent) (left_a left_b left_s : ReaderOutcome A) (joined : Joined receiver a b s left_a left_b left_s)
-      (taken after : List ℕ) (engine : View) (held : List ℕ) (refusals : List ℕ) (result : Result Summary RunFault) → rest_in joined ≡ [] → refusals ≡ refusals_text (readings_in joined)
-      → IfErr result (λ (fault : RunFault). (listed : List Instrument) (room : ℕ) (events : List Event) (start : List ℕ) → HasShown listed room events start taken engine held → EndsEarly listed room events refusals start after)
-      → IfErr result (λ (fault : RunFault). (listed : List Instrument) (room : ℕ) (start : List ℕ) → HasShown listed room (events_taken receiver.taken) start taken engine held → BeginsMerge listed room a b s start after)
-  ends_early receiver a b s left_a left_b left_s joined taken after engine held refusals (Ok summary) none told ends = tt
-  ends_early receiver a b s left_a left_b left_s joined taken after engine held refusals (Err fault) none told ends = λ listed room start shown.
+      (taken after : List ℕ) (outcome : Result Standing Stop) (standing : Standing) (refusals : RefusalTexts) (result : Result Summary RunFault)
+      → outcome ≡ Ok standing → rest_in joined ≡ [] → joined_texts refusals ≡ refusals_text (readings_in joined)
+      → IfErr result (λ (fault : RunFault). (n : ℕ) × (after ≡ taken ++ take n (joined_texts refusals ++ last_line standing.next standing.lost)))
+      → IfErr result (λ (fault : RunFault). (listed : List Instrument) (room : ℕ) (start : List ℕ) → HasShown listed room (events_taken receiver.taken) start taken outcome → BeginsMerge listed room a b s start after)
+  ends_early receiver a b s left_a left_b left_s joined taken after outcome standing refusals (Ok summary) is none told begins = tt
+  ends_early receiver a b s left_a left_b left_s joined taken after outcome standing refusals (Err fault) is none told begins = λ listed room start shown.
+      let events = events_taken receiver.taken in
+      let all = subst (λ (o : Result Standing Stop). IfOk o (λ (st : Standing). HasShownAll listed room events start taken st)) is shown.all in
       begins_merge receiver a b s left_a left_b left_s joined listed room start after
-      (subst (λ (r : List ℕ). EndsEarly listed room (events_taken receiver.taken ++ rest_in joined) r start after) told
-      (subst (λ (es : List Event). EndsEarly listed room es refusals start after) (sym (append-nil (events_taken receiver.taken)) ∙ ap (λ (t : List Event). events_taken receiver.taken ++ t) (sym none))
-      (ends listed room (events_taken receiver.taken) start shown)))
+      (subst (λ (r : List ℕ). EndsEarly listed room (events ++ rest_in joined) r start after) told
+      (subst (λ (es : List Event). EndsEarly listed room es (joined_texts refusals) start after) (sym (append-nil events) ∙ ap (λ (t : List Event). events ++ t) (sym none))
+      (early_behind listed room events start taken after standing refusals begins.0 begins.1 all)))
 
-  -- a reader met want of memory
-  pub ends_unread : (receiver : IntakeReceiverView (Batch A)) (a b s : List RecordContent) (left_a left_b left_s : ReaderOutcome A) → Joined receiver a b s left_a left_b left_s
-      → (taken : List ℕ) (engine : View) (held : List ℕ) (listed : List Instrument) (room : ℕ) (start : List ℕ) → HasShown listed room (events_taken receiver.taken) start taken engine held → BeginsMerge listed room a b s start taken
-  ends_unread receiver a b s left_a left_b left_s joined taken engine held listed room start shown =
+  -- the crew stopped early, or a reader met want of memory
+  pub ends_short : (receiver : IntakeReceiverView (Batch A)) (a b s : List RecordContent) (left_a left_b left_s : ReaderOutcome A) → Joined receiver a b s left_a left_b left_s
+      → (taken : List ℕ) (outcome : Result Standing Stop) (listed : List Instrument) (room : ℕ) (start : List ℕ) → HasShown listed room (events_taken receiver.taken) start taken outcome → BeginsMerge listed room a b s start taken
+  ends_short receiver a b s left_a left_b left_s joined taken outcome listed room start shown =
       begins_merge receiver a b s left_a left_b left_s joined listed room start taken
-      (early listed room (events_taken receiver.taken) (rest_in joined) (refusals_text (readings_in joined)) start taken taken engine held 0 (sym (append-nil taken)) shown)
+      (early_shown listed room (events_taken receiver.taken) (rest_in joined) (refusals_text (readings_in joined)) start taken outcome shown)
+
+-- a run that has not stopped early met no failed write
+pub none_failed : (outcome : Result Standing Stop) (before after most : ℕ) → before < most → FailsByStop outcome before after → IfOk outcome (λ (standing : Standing). after < most)
+none_failed (Ok standing) before after most below fails = subst (λ (n : ℕ). n < most) (sym fails) below
+none_failed (Err stop) before after most below fails = tt

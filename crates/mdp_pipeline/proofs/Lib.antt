@@ -5,5 +5,4 @@ pub mod Beginnings
 pub mod Merges
 pub mod HandingOver
 pub mod Ending
-pub mod Collecting
 pub mod Joining

@@ -20,7 +20,8 @@ use Rattle.mdp_desks.specs.Shown.{shown_lines}
 use Rattle.mdp_pipeline.specs.declared.progress.Run.{Run}
 use Rattle.mdp_pipeline.specs.declared.summary.Summary.{Summary}
 use Rattle.mdp_pipeline.specs.declared.summary.RunFault.{RunFault}
-use Rattle.mdp_pipeline.specs.Counted.{HasCounted, saturating_count, written_before}
+use Rattle.mdp_crew.specs.Counted.{HasCounted, saturating_count}
+use Rattle.mdp_pipeline.specs.Counted.{written_before}
 use Rattle.mdp_pipeline.specs.Merge.{Arrival, in_order}
 use Rattle.mdp_pipeline.specs.Reading.{Reading, Said, brings, refused, IsReading, AreReadings, brought_by, by_feed, events_of, is_on, kind_of, readings_on, refusal_lines, refusal_text, refusals_text}
 use Rattle.mdp_pipeline.specs.Output.{is_lost_after, moves_of, next_after}

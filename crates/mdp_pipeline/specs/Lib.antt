@@ -8,4 +8,4 @@ pub mod Running
 pub mod Faults
 pub mod Counted
 pub mod Readers
-pub mod Collecting
+pub mod Taken

@@ -6,18 +6,12 @@ use Rattle.mdp_capture.specs.Record.{RecordContent}
 use Rattle.mdp_arbiter.specs.Accepted.{Event}
 use Rattle.mdp_engine.specs.Steps.{event_of}
 use Rattle.mdp_lanes.specs.Queues.{IntakeSenderView}
-use Rattle.mdp_pipeline.specs.declared.batch.Batch.{Batch}
+use Rattle.mdp_crew.specs.declared.batch.Batch.{Batch}
+use Rattle.mdp_crew.specs.Batches.{all_events, batch_events}
 use Rattle.mdp_pipeline.specs.declared.reader.Reader.{Reader}
 use Rattle.mdp_pipeline.specs.declared.reader.ReaderOutcome.{ReaderOutcome}
 use Rattle.mdp_pipeline.specs.Merge.{arrivals}
 use Rattle.mdp_pipeline.specs.Reading.{Reading, AreReadings, Said, Says, brought_by, events_of, kind_of, refusal_lines, refusal_text}
-
--- the events of a batch, and of batches one after another
-abbrev pub batch_events : {A : Type 0} → Batch A → List Event
-batch_events b = map event_of b.events.items
-
-abbrev pub all_events : {A : Type 0} → List (Batch A) → List Event
-all_events batches = flat_map batch_events batches
 
 -- its last batch was put
 abbrev pub has_ended : {A : Type 0} → IntakeSenderView (Batch A) → Bool

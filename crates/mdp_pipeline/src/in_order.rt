@@ -2,15 +2,18 @@
 
 ghost use Rattle.std.specs.Prelude.{◌≡◌, ◌≤◌, ◌<◌, ◌^◌, ◌-◌, ◌++◌, [], ℕ, List, take, IfOk, IfErr, OnOk};
 ghost use Rattle.mdp_templates.specs.Instrument.{AreFit};
-ghost use Rattle.mdp_pipeline.specs.Counted.{HasCounted, written_before};
+ghost use Rattle.mdp_crew.specs.Counted.{HasCounted};
+ghost use Rattle.mdp_pipeline.specs.Counted.{written_before};
 ghost use Rattle.mdp_pipeline.specs.Faults.{FailsBy};
 ghost use Rattle.mdp_pipeline.specs.Output.{BeginsByLine, PrintsByLine};
 ghost use Rattle.mdp_pipeline.specs.Running.{EndsAs, EndsEarly, HandsOn, HasShown, joined_texts};
 ghost use Rattle.mdp_templates.specs.declared.instrument.Instrument.{Instrument};
 ghost use Rattle.mdp_arbiter.specs.Accepted.{Event};
+ghost use Rattle.mdp_print.specs.Texts.{last_line};
 
 use crate::merge::InOrder;
 use crate::progress::Run;
+use crate::refusals::Refusals;
 use crate::summary::{RunFault, Summary};
 use mdp_capture::Record;
 use mdp_print::{CountedWrite, write_all_counted};
@@ -47,7 +50,7 @@ fn hand_on<W: CountedWrite, A: Allocator>(
 }
 
 // Writes the text so far where it is large enough.
-pub(crate) fn hand_on_pieces<W: CountedWrite, A: Allocator + Copy>(
+fn hand_on_pieces<W: CountedWrite, A: Allocator + Copy>(
     writer: &mut W,
     run: &mut Run<A>,
     written: &mut u64,
@@ -107,7 +110,7 @@ pub fn run_in_order<W: CountedWrite, A: Allocator + Copy>(
 }
 
 // Writes what is left of the text, the refusals and the last line.
-pub(crate) fn finish<W: CountedWrite, A: Allocator + Copy>(
+fn finish<W: CountedWrite, A: Allocator + Copy>(
     writer: &mut W,
     run: Run<A>,
     mut written: u64,
@@ -130,10 +133,29 @@ pub(crate) fn finish<W: CountedWrite, A: Allocator + Copy>(
     } = run;
     let next = engine.next();
     let lost = engine.lost();
+    hand_on(writer, &mut text, &mut written)?;
+    write_end(writer, refusals, next, lost, written)
+}
+
+/// Writes the lines of the refused datagrams and the last line, behind all others.
+pub fn write_end<W: CountedWrite, A: Allocator + Copy>(
+    writer: &mut W,
+    refusals: Refusals<A>,
+    next: u64,
+    lost: bool,
+    mut written: u64,
+) -> Result<Summary, RunFault>
+    requires { W.failed writer.old < 2 ^ 64 - 1 }
+    ensures stands { IfOk result (λ summary. (summary.next ≡ next) × (summary.lost ≡ lost)) }
+    ensures text { OnOk result (W.taken writer.new ≡ W.taken writer.old ++ (joined_texts refusals ++ last_line next lost)) }
+    ensures begins { IfErr result (λ _. (n : ℕ) × (W.taken writer.new ≡ W.taken writer.old ++ take n (joined_texts refusals ++ last_line next lost))) }
+    ensures counts { IfOk result (λ summary. (start : List ℕ) → HasCounted start (W.taken writer.old) written → HasCounted start (W.taken writer.new) summary.written) }
+    ensures told { IfErr result (λ fault. (start : List ℕ) → HasCounted start (W.taken writer.old) written → HasCounted start (W.taken writer.new) (written_before fault)) }
+    ensures failed { FailsBy result (W.failed writer.old) (W.failed writer.new) }
+{
     let Ok(mut end) = refusals.into_end(next, lost) else {
         return Err(RunFault::Memory { written });
     };
-    hand_on(writer, &mut text, &mut written)?;
     hand_on(writer, &mut end, &mut written)?;
     Ok(Summary {
         next,

@@ -2,9 +2,7 @@
 //! complete feed defines that agrees with the records.
 #![tactic(auto)]
 
-mod batch;
 mod decoding;
-mod gate;
 mod in_order;
 mod merge;
 mod progress;
@@ -12,13 +10,11 @@ mod reader;
 mod refusals;
 mod settling;
 mod summary;
-mod taking;
 #[cfg(test)]
 mod tests;
 mod threads;
 
 pub use decoding::{Decoded, read_record};
-pub use gate::{Gate, Open};
 pub use in_order::run_in_order;
 pub use summary::{RunFault, Summary};
 pub use threads::run;

@@ -1,18 +1,19 @@
-//! Runs over threads: the text of a capture that any merge gives, readers that run at once, and each start refused.
+//! Runs over threads: the text of a capture that any merge gives, readers and workers that run at once, and each start refused.
 
-ghost use Rattle.std.specs.Prelude.{◌≡◌, IfOk};
-ghost use Rattle.mdp_templates.specs.Instrument.{AreFit};
+ghost use Rattle.std.specs.Prelude.{◌≡◌, ◌≤◌};
 
-use crate::gate::{Gate, Open};
 use crate::summary::{RunFault, Summary};
-use crate::threads::{Starts, run, run_where};
-use mdp_capture::{Capture, CaptureFault, CountingReader, read_capture};
+use crate::threads::run_where;
+use mdp_capture::{CountingReader, read_capture};
+use mdp_crew::{Always, Gate, Open, Starts};
 use mdp_print::CountedWrite;
 use std::alloc::Global;
 use std::io::ErrorKind;
 use std::process::Abort;
+use std::sync::Wait;
 use std::sync::atomic::{AtomicU64, Ordering};
 use std::test::Fail;
+use std::thread::Threads;
 use std::{io, thread};
 
 /// Packets 1 and 3 on feed A and packet 2 on feed B: whatever comes first, they pass in number order.
@@ -79,28 +80,80 @@ impl CountedWrite for Kept {
     }
 }
 
-// Holds each reader at its first place until all three have come, and counts those that waited for nothing.
+// Keeps a reader or a worker waiting until so many have come, and counts those that waited in vain.
 #[derive(Drop)]
-struct AllAtOnce {
+struct Meeting {
     here: AtomicU64,
     late: AtomicU64,
 }
 
-impl Gate for AllAtOnce {
-    fn arrive(&self, _worker: usize, _step: u64) {}
-
-    fn reads(&self, _feed: usize, place: u64) {
-        if place != 1 {
-            return;
+impl Meeting {
+    fn new() -> Meeting {
+        Meeting {
+            here: AtomicU64::new(0),
+            late: AtomicU64::new(0),
         }
+    }
+
+    fn come(&self) {
         self.here.fetch_add(1, Ordering::SeqCst);
-        for _ in 0..1_000_000_000u64 {
-            if self.here.load(Ordering::SeqCst) >= 3 {
+    }
+
+    fn await_all(&self, count: u64) {
+        for _ in 0..20_000_000u64 {
+            if self.here.load(Ordering::SeqCst) >= count {
                 return;
             }
             thread::yield_now();
         }
         self.late.fetch_add(1, Ordering::SeqCst);
+    }
+
+    fn has_late(&self) -> bool {
+        self.late.load(Ordering::SeqCst) != 0
+    }
+}
+
+// Holds each reader at its first place until all three have come, and each of two workers at its first step until both have.
+#[derive(Drop)]
+struct AllAtOnce {
+    readers: Meeting,
+    workers: Meeting,
+}
+
+impl Gate for AllAtOnce {
+    fn arrive(&self, _worker: usize, step: u64) {
+        if step == 1 {
+            self.workers.come();
+            self.workers.await_all(2);
+        }
+    }
+
+    fn reads(&self, _feed: usize, place: u64) {
+        if place == 1 {
+            self.readers.come();
+            self.readers.await_all(3);
+        }
+    }
+}
+
+// Holds the reader of feed A at its second place until a worker works on its first step.
+#[derive(Drop)]
+struct WorkBesideReading {
+    workers: Meeting,
+}
+
+impl Gate for WorkBesideReading {
+    fn arrive(&self, _worker: usize, step: u64) {
+        if step == 1 {
+            self.workers.come();
+        }
+    }
+
+    fn reads(&self, feed: usize, place: u64) {
+        if feed == 0 && place == 2 {
+            self.workers.await_all(1);
+        }
     }
 }
 
@@ -114,95 +167,90 @@ impl Starts for Except {
     }
 }
 
-fn capture_of(alloc: Global) -> Result<Capture<Global>, CaptureFault>
-    ensures { IfOk result (λ capture. AreFit capture.instruments) }
+// Runs over the capture, and gives what that comes to with the bytes that were written.
+fn run_over<R, S, G>(
+    rt: &R,
+    alloc: Global,
+    starts: &S,
+    workers: u16,
+    gate: &G,
+) -> Result<(Result<Summary, RunFault>, Vec<u8>), Fail>
+where
+    R: Threads + Wait + Sync,
+    S: Starts + Sync,
+    G: Gate + Sync,
+    requires { 1 ≤ workers }
 {
     let mut text = CountingReader::new(CAPTURE);
-    read_capture(alloc, &mut text)
-}
-
-#[test]
-fn prints_what_any_merge_gives(rt: HostRuntime) -> Result<(), Fail> {
-    let Ok(capture) = capture_of(rt.alloc()) else {
-        panic!(rt; "the capture can't be read");
+    let Ok(capture) = read_capture(alloc, &mut text) else {
+        return Err("the capture can't be read".into());
     };
-    let mut kept = Kept::new(rt.alloc());
-    let outcome = run(
-        &rt,
-        rt.alloc(),
+    let mut kept = Kept::new(alloc);
+    let outcome = run_where(
+        rt,
+        starts,
+        alloc,
         capture.instruments(),
         capture.a(),
         capture.b(),
         capture.s(),
-        2,
+        workers,
         4,
-        &Open,
+        gate,
         &mut kept,
     );
+    Ok((outcome, kept.bytes))
+}
+
+#[test]
+fn prints_what_any_merge_gives(rt: HostRuntime) -> Result<(), Fail> {
     let summary = Summary {
         next: 4,
         lost: false,
         written: TEXT.len() as u64,
     };
-    assert_eq!(rt; outcome, Ok(summary));
-    assert_eq!(rt; kept.bytes.as_slice(), TEXT);
+    for workers in [1, 2, 3, 16] {
+        let (outcome, bytes) = run_over(&rt, rt.alloc(), &Always, workers, &Open)?;
+        assert_eq!(rt; outcome, Ok(summary));
+        assert_eq!(rt; bytes.as_slice(), TEXT);
+    }
     Ok(())
 }
 
 #[test]
-fn readers_run_at_once(rt: HostRuntime) -> Result<(), Fail> {
-    let Ok(capture) = capture_of(rt.alloc()) else {
-        panic!(rt; "the capture can't be read");
-    };
-    let mut kept = Kept::new(rt.alloc());
+fn readers_run_at_once_and_so_do_workers(rt: HostRuntime) -> Result<(), Fail> {
     let gate = AllAtOnce {
-        here: AtomicU64::new(0),
-        late: AtomicU64::new(0),
+        readers: Meeting::new(),
+        workers: Meeting::new(),
     };
-    let outcome = run(
-        &rt,
-        rt.alloc(),
-        capture.instruments(),
-        capture.a(),
-        capture.b(),
-        capture.s(),
-        1,
-        4,
-        &gate,
-        &mut kept,
-    );
+    let (outcome, bytes) = run_over(&rt, rt.alloc(), &Always, 2, &gate)?;
     assert!(rt; outcome.is_ok());
-    assert_eq!(rt; gate.late.load(Ordering::SeqCst), 0);
-    assert_eq!(rt; kept.bytes.as_slice(), TEXT);
+    assert!(rt; !gate.readers.has_late());
+    assert!(rt; !gate.workers.has_late());
+    assert_eq!(rt; bytes.as_slice(), TEXT);
     Ok(())
 }
 
+#[test]
+fn workers_work_beside_readers(rt: HostRuntime) -> Result<(), Fail> {
+    let gate = WorkBesideReading {
+        workers: Meeting::new(),
+    };
+    let (outcome, bytes) = run_over(&rt, rt.alloc(), &Always, 2, &gate)?;
+    assert!(rt; outcome.is_ok());
+    assert!(rt; !gate.workers.has_late());
+    assert_eq!(rt; bytes.as_slice(), TEXT);
+    Ok(())
+}
+
+// The readers, the arbiter and two workers are threads 0 to 5.
 #[test]
 fn each_start_refused(rt: HostRuntime) -> Result<(), Fail> {
-    let Ok(capture) = capture_of(rt.alloc()) else {
-        panic!(rt; "the capture can't be read");
-    };
-    for thread in 0..3usize {
-        let mut kept = Kept::new(rt.alloc());
-        let outcome = run_where(
-            &rt,
-            &Except(thread),
-            rt.alloc(),
-            capture.instruments(),
-            capture.a(),
-            capture.b(),
-            capture.s(),
-            4,
-            &Open,
-            &mut kept,
-        );
-        assert_eq!(rt;
-            outcome,
-            Err(RunFault::Memory {
-                written: kept.bytes.len() as u64
-            })
-        );
-        assert!(rt; TEXT.starts_with(&kept.bytes));
+    for thread in 0..6usize {
+        let (outcome, bytes) = run_over(&rt, rt.alloc(), &Except(thread), 2, &Open)?;
+        let written = bytes.len() as u64;
+        assert_eq!(rt; outcome, Err(RunFault::Memory { written }));
+        assert!(rt; TEXT.starts_with(&bytes));
     }
     Ok(())
 }

@@ -1,23 +1,21 @@
-//! A run over threads: three readers, and the caller's thread that takes what they hand over.
+//! A run over threads: three readers, and the crew that takes what they hand over.
 
 ghost use Rattle.std.specs.Prelude.{◌≡◌, ◌≤◌, ◌<◌, ◌^◌, ◌-◌, ◌++◌, ℕ, List, IfErr, IfOk, MatchResult, false};
 ghost use Rattle.mdp_capture.specs.Record.{RecordContent};
 ghost use Rattle.mdp_lanes.specs.Queues.{IntakeSenderView};
 ghost use Rattle.mdp_templates.specs.Instrument.{AreFit};
-ghost use Rattle.mdp_pipeline.specs.declared.batch.Batch.{Batch};
-ghost use Rattle.mdp_pipeline.specs.Counted.{HasCounted, written_before};
+ghost use Rattle.mdp_crew.specs.declared.batch.Batch.{Batch};
+ghost use Rattle.mdp_crew.specs.Counted.{HasCounted};
+ghost use Rattle.mdp_pipeline.specs.Counted.{written_before};
 ghost use Rattle.mdp_pipeline.specs.Faults.{FailsBy};
 ghost use Rattle.mdp_pipeline.specs.Output.{BeginsMerge, PrintsMerge};
 ghost use Rattle.mdp_pipeline.specs.Readers.{HasRead, has_ended};
 
-use crate::batch::Batch;
-use crate::gate::Gate;
-use crate::progress::Run;
 use crate::reader::{ReaderOutcome, read_feed};
-use crate::settling::{Readers, settle_alone, settle_and_finish};
+use crate::settling::{Readers, settle_and_finish};
 use crate::summary::{RunFault, Summary};
-use crate::taking::{Taker, collect};
 use mdp_capture::Record;
+use mdp_crew::{Always, Batch, Gate, Starts, run_crew};
 use mdp_lanes::{Intake, IntakeSender};
 use mdp_print::CountedWrite;
 use mdp_templates::{Feed, Instrument};
@@ -29,22 +27,6 @@ use std::thread::{Promise, PromisedHandle, Scope, Threads};
 
 /// How many batches the readers' queue has room for.
 const INTAKE_ROOM: usize = 256;
-
-/// Which threads may be started.
-pub trait Starts {
-    /// Whether the thread of this number may be started; the readers of A, B and S are 0, 1 and 2.
-    fn may_start(&self, thread: usize) -> bool;
-}
-
-/// Any thread may be started.
-#[derive(Clone, Copy)]
-pub struct Always;
-
-impl Starts for Always {
-    fn may_start(&self, _thread: usize) -> bool {
-        true
-    }
-}
 
 /// A reader's promise: it has read these records of a feed, and put its last batch.
 #[derive(Drop)]
@@ -122,17 +104,18 @@ fn join_reader<'s, R: Threads + Wait, A: Allocator + Copy>(
     }
 }
 
-// Starts the readers, takes what they hand over, joins them and settles.
+// Starts the readers, runs the crew over what they hand over, joins them and settles.
 fn run_in<'s, E, R, S, G, W, A>(
     rt: &'s R,
     scope: &'s Scope<'s, E>,
     go: &'s OnceLock<bool>,
     starts: &S,
     alloc: A,
-    instruments: &[Instrument],
+    instruments: &'s [Instrument],
     a: &'s [Record<A>],
     b: &'s [Record<A>],
     s: &'s [Record<A>],
+    workers: u16,
     window: u32,
     gate: &'s G,
     writer: &mut W,
@@ -146,43 +129,41 @@ where
     A: 's,
     requires sound { W.failed writer.old < 2 ^ 64 - 1 }
     requires fit { AreFit instruments.now }
+    requires some { 1 ≤ workers }
     requires least { 1 ≤ window }
     requires most { window ≤ 65536 }
     ensures text { IfOk result (λ summary. (text : List ℕ) × (W.taken writer.new ≡ W.taken writer.old ++ text)
-        × PrintsMerge instruments.now window a.entry.now b.entry.now s.entry.now text summary.next summary.lost) }
-    ensures begins { IfErr result (λ _. BeginsMerge instruments.now window a.entry.now b.entry.now s.entry.now (W.taken writer.old) (W.taken writer.new)) }
+        × PrintsMerge instruments.entry.now window a.entry.now b.entry.now s.entry.now text summary.next summary.lost) }
+    ensures begins { IfErr result (λ _. BeginsMerge instruments.entry.now window a.entry.now b.entry.now s.entry.now (W.taken writer.old) (W.taken writer.new)) }
     ensures written { IfOk result (λ summary. HasCounted (W.taken writer.old) (W.taken writer.new) summary.written) }
     ensures told { IfErr result (λ fault. HasCounted (W.taken writer.old) (W.taken writer.new) (written_before fault)) }
     ensures failed { FailsBy result (W.failed writer.old) (W.failed writer.new) }
 {
-    let Ok(run) = Run::new(alloc, instruments, window) else {
-        return Err(RunFault::Memory { written: 0 });
-    };
-    let Ok((to_a, to_b, to_s, mut receiver)) = Intake::new(alloc, INTAKE_ROOM) else {
+    let Ok((to_a, to_b, to_s, receiver)) = Intake::new(alloc, INTAKE_ROOM) else {
         return Err(RunFault::Memory { written: 0 });
     };
     let reads_a = begin_reader(rt, scope, go, starts, 0, alloc, gate, Feed::A, a, to_a);
     let reads_b = begin_reader(rt, scope, go, starts, 1, alloc, gate, Feed::B, b, to_b);
     let reads_s = begin_reader(rt, scope, go, starts, 2, alloc, gate, Feed::S, s, to_s);
-    let _ = go.set(rt, true);
-    let taker = Taker {
-        run,
-        written: 0,
-        step: 0,
-    };
-    let collected = collect(rt, &mut receiver, taker, gate, writer);
+    let crew = run_crew(
+        rt,
+        scope,
+        go,
+        starts,
+        alloc,
+        gate,
+        instruments,
+        workers,
+        window,
+        receiver,
+        writer,
+    );
     let readers = Readers {
         a: join_reader(rt, reads_a),
         b: join_reader(rt, reads_b),
         s: join_reader(rt, reads_s),
     };
-    match collected {
-        Ok(taker) => settle_and_finish(writer, receiver, taker, readers, a, b, s),
-        Err(fault) => {
-            settle_alone(receiver, readers, a, b, s);
-            Err(fault)
-        }
-    }
+    settle_and_finish(writer, crew, readers, a, b, s)
 }
 
 /// Runs as [`run`] does; a thread that may not start is one that can't be started.
@@ -194,6 +175,7 @@ pub(crate) fn run_where<R, S, G, W, A>(
     a: &[Record<A>],
     b: &[Record<A>],
     s: &[Record<A>],
+    workers: u16,
     window: u32,
     gate: &G,
     writer: &mut W,
@@ -206,6 +188,7 @@ where
     A: Allocator + Copy + Send + Sync,
     requires sound { W.failed writer.old < 2 ^ 64 - 1 }
     requires fit { AreFit instruments.now }
+    requires some { 1 ≤ workers }
     requires least { 1 ≤ window }
     requires most { window ≤ 65536 }
     ensures text { IfOk result (λ summary. (text : List ℕ) × (W.taken writer.new ≡ W.taken writer.old ++ text)
@@ -221,7 +204,7 @@ where
         thread::scope_env(),
         rt,
         move |scope| -> (&mut W, Result<Summary, RunFault>)
-            requires { (W.failed writer.now < 2 ^ 64 - 1) × AreFit instruments.now × (1 ≤ window) × (window ≤ 65536) }
+            requires { (W.failed writer.now < 2 ^ 64 - 1) × AreFit instruments.now × (1 ≤ workers) × (1 ≤ window) × (window ≤ 65536) }
             ensures same { result.0.ghost_name ≡ writer.entry.ghost_name }
             ensures text { IfOk result.1 (λ summary. (text : List ℕ) × (W.taken result.0.now ≡ W.taken writer.entry.now ++ text)
                 × PrintsMerge instruments.entry.now window a.entry.now b.entry.now s.entry.now text summary.next summary.lost) }
@@ -240,6 +223,7 @@ where
                 a,
                 b,
                 s,
+                workers,
                 window,
                 gate,
                 writer,
@@ -251,11 +235,11 @@ where
     outcome
 }
 
-/// Runs over the records of the feeds with a thread of its own for each, which decodes them; the caller's thread takes what they
-/// hand over, in the order in which it comes, and writes what is owed. The number of workers is 1 to 16 and changes nothing so
-/// far; the window covers 1 to 65536 packet numbers. Which merge of the feeds' events comes about, the threads decide.
+/// Runs over the records of the feeds in threads: one for each feed, which decodes its records, the arbiter's, so many workers,
+/// each with the books of its own securities, and the caller's, which writes what is owed. There are 1 to 16 workers; how many
+/// changes no byte. The window covers 1 to 65536 packet numbers. Which merge of the feeds' events comes about, the threads decide.
 ///
-/// The gate is told of each event before worker 0, the caller's thread, takes it, and of each record before its reader reads it.
+/// The gate is told of each record before its reader reads it, and of each batch of steps before a worker works on it.
 ///
 /// # Errors
 ///
@@ -268,7 +252,7 @@ pub fn run<R, G, W, A>(
     a: &[Record<A>],
     b: &[Record<A>],
     s: &[Record<A>],
-    workers: u32,
+    workers: u16,
     window: u32,
     gate: &G,
     writer: &mut W,
@@ -291,8 +275,6 @@ where
     ensures told { IfErr result (λ fault. HasCounted (W.taken writer.old) (W.taken writer.new) (written_before fault)) }
     ensures failed { FailsBy result (W.failed writer.old) (W.failed writer.new) }
 {
-    // One thread keeps all books so far.
-    let _ = workers;
     run_where(
         rt,
         &Always,
@@ -301,6 +283,7 @@ where
         a,
         b,
         s,
+        workers,
         window,
         gate,
         writer,

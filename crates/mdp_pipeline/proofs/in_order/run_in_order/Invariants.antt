@@ -1,5 +1,5 @@
 use Rattle.std.proofs.Common.{◌≡◌, length}
-use Rattle.mdp_pipeline.specs.Counted.{HasCounted}
+use Rattle.mdp_crew.specs.Counted.{HasCounted}
 use Rattle.mdp_pipeline.specs.Merge.{in_order}
 use Rattle.mdp_pipeline.proofs.Written.{HasTaken}
 use Rattle.mdp_pipeline.proofs.in_order.run_in_order.Given as goal

@@ -1,8 +1,8 @@
 use Rattle.std.proofs.Common.{true, [], ◌∷◌, ◌++◌, List, refl, sym, ap, ◌∙◌}
 use Rattle.std.proofs.lemmas.List.{append-nil}
 use Rattle.mdp_arbiter.specs.Accepted.{Event}
-use Rattle.mdp_pipeline.specs.declared.batch.Batch.{Batch}
-use Rattle.mdp_pipeline.specs.Readers.{all_events}
+use Rattle.mdp_crew.specs.declared.batch.Batch.{Batch}
+use Rattle.mdp_crew.specs.Batches.{all_events}
 use Rattle.mdp_pipeline.proofs.HandingOver.{all_events-append, ended_after, one_batch, puts_more}
 use Rattle.mdp_pipeline.proofs.reader.Reader.finish.Goals as goal
 

@@ -1,0 +1,121 @@
+//! Each write of a run failing in turn, in each way, alone and where memory runs out too.
+
+use crate::captures::{RECOVERY, RECOVERY_TEXT, SPREAD, SPREAD_TEXT};
+use crate::program::program;
+use crate::tests::{Failure, Kept};
+use mdp_capture::CountingReader;
+use refusing::Refusing;
+use std::alloc::Global;
+use std::io::ErrorKind;
+use std::process::Abort;
+use std::sync::Wait;
+use std::test::Fail;
+use std::thread::Threads;
+
+/// How many bytes the writer takes a call.
+const PIECE: usize = 64;
+
+/// A write is refused, it is interrupted, it takes nothing.
+const FAILURES: [Failure; 3] = [
+    Failure::Error(ErrorKind::Other),
+    Failure::Error(ErrorKind::Interrupted),
+    Failure::NoByte,
+];
+
+// What is told of a write that failed behind so many bytes.
+fn told(alloc: Global, written: usize) -> Result<Vec<u8>, Fail> {
+    let mut text = Vec::new(alloc);
+    text.extend_from_slice(b"42 Output after ")?;
+    text.extend_from_slice(written.to_string(alloc)?.as_bytes())?;
+    text.extend_from_slice(b" bytes\n")?;
+    Ok(text)
+}
+
+// Runs with each call of the writer failing in turn, until none does.
+fn fail_each<R: Threads + Wait + Sync + Abort>(
+    rt: &R,
+    alloc: Global,
+    words: &[&str],
+    failure: Failure,
+    capture: &[u8],
+    wanted: &[u8],
+) -> Result<(), Fail> {
+    for call in 1..1000u64 {
+        let mut input = CountingReader::new(capture);
+        let mut output = Kept::slow(alloc, PIECE, call, failure);
+        let mut faults = Kept::new(alloc);
+        let status = program(
+            rt,
+            alloc,
+            alloc,
+            words,
+            &mut input,
+            &mut output,
+            &mut faults,
+        );
+        if output.failures == 0 {
+            assert_eq!(rt; status, 0);
+            assert_eq!(rt; output.bytes.as_slice(), wanted);
+            assert!(rt; call > 5);
+            return Ok(());
+        }
+        assert_eq!(rt; status, 1);
+        assert_eq!(rt; output.calls, call);
+        assert!(rt; wanted.starts_with(&output.bytes));
+        let text = told(alloc, output.bytes.len())?;
+        assert_eq!(rt; faults.bytes.as_slice(), text.as_slice());
+    }
+    Err("no run without a failed write".into())
+}
+
+#[test]
+fn each_write_fails_in_turn(rt: HostRuntime) -> Result<(), Fail> {
+    let alloc = rt.alloc();
+    for failure in FAILURES {
+        for words in [["--in-order", "--workers=1"], ["--window=1024", "--workers=2"]] {
+            let words = ["mdp_handler", words[0], words[1]];
+            fail_each(&rt, alloc, &words, failure, SPREAD, SPREAD_TEXT)?;
+        }
+        for words in [["--in-order", "--window=4"], ["--workers=3", "--window=4"]] {
+            let words = ["mdp_handler", words[0], words[1]];
+            fail_each(&rt, alloc, &words, failure, RECOVERY, RECOVERY_TEXT)?;
+        }
+    }
+    Ok(())
+}
+
+// Where a write fails it is told, and not that memory ran out too.
+#[test]
+fn a_failed_write_goes_before_want_of_memory(rt: HostRuntime) -> Result<(), Fail> {
+    let alloc = rt.alloc();
+    let mut failed = 0u64;
+    for number in 1..10_000u64 {
+        let heap = Refusing::new(alloc, number);
+        let mut input = CountingReader::new(SPREAD);
+        let mut output = Kept::slow(alloc, PIECE, 2, Failure::NoByte);
+        let mut faults = Kept::new(alloc);
+        let words = ["mdp_handler", "--workers=2"];
+        let status = program(
+            &rt,
+            alloc,
+            &heap,
+            &words,
+            &mut input,
+            &mut output,
+            &mut faults,
+        );
+        assert_eq!(rt; status, 1);
+        if output.failures == 0 {
+            assert_eq!(rt; faults.bytes.as_slice(), b"41 Memory\n".as_slice());
+            continue;
+        }
+        failed += 1;
+        let text = told(alloc, output.bytes.len())?;
+        assert_eq!(rt; faults.bytes.as_slice(), text.as_slice());
+        if !heap.has_refused() {
+            assert!(rt; failed > 1);
+            return Ok(());
+        }
+    }
+    Err("no run without a refused allocation".into())
+}
