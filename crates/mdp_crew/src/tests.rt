@@ -9,7 +9,7 @@ mod writer;
 use crate::gate::{Gate, Open};
 use crate::starts::{Always, Starts};
 use crate::stop::Stop;
-use crate::tests::channel::{NEXT, TEXT, listed};
+use crate::tests::channel::{Came, NEXT, TEXT, listed};
 use crate::tests::in_threads::run_in_threads;
 use crate::tests::in_turn::run_in_turn;
 use mdp_templates::{Instrument, Memory};
@@ -59,7 +59,18 @@ fn threads_print<R: Threads + Wait + Abort + Sync>(
     listed: &[Instrument],
     workers: u16,
 ) -> Result<(), Fail> {
-    let came = run_in_threads(rt, &Always, alloc, alloc, &Open, listed, workers, 0)?;
+    let came = run_in_threads(
+        rt,
+        &Always,
+        alloc,
+        alloc,
+        &Open,
+        listed,
+        workers,
+        Came::Channel,
+        0,
+    )?;
+    assert_eq!(rt; came.go, Some(true));
     assert_eq!(rt; came.bytes.as_slice(), TEXT);
     assert_eq!(rt; came.written, TEXT.len() as u64);
     match came.standing {
@@ -81,15 +92,17 @@ fn any_number_of_workers_prints_the_text_in_threads(rt: HostRuntime) -> Result<(
     Ok(())
 }
 
-/// Holds each worker at its first step until both have come, and counts those that waited for nothing.
+/// Holds each worker at its first step until both have come, counts those that waited for nothing, and adds up the steps that it is told.
 #[derive(Drop)]
 struct BothAtOnce {
     here: AtomicU64,
     late: AtomicU64,
+    steps: AtomicU64,
 }
 
 impl Gate for BothAtOnce {
     fn arrive(&self, _worker: usize, step: u64) {
+        self.steps.fetch_add(step, Ordering::SeqCst);
         if step != 1 {
             return;
         }
@@ -111,10 +124,23 @@ fn workers_work_at_once(rt: HostRuntime) -> Result<(), Fail> {
     let gate = BothAtOnce {
         here: AtomicU64::new(0),
         late: AtomicU64::new(0),
+        steps: AtomicU64::new(0),
     };
-    let came = run_in_threads(&rt, &Always, rt.alloc(), rt.alloc(), &gate, &listed()?, 2, 0)?;
+    let listed = listed()?;
+    let came = run_in_threads(
+        &rt,
+        &Always,
+        rt.alloc(),
+        rt.alloc(),
+        &gate,
+        &listed,
+        2,
+        Came::Channel,
+        0,
+    )?;
     assert!(rt; came.standing.is_ok());
     assert_eq!(rt; gate.late.load(Ordering::SeqCst), 0);
+    assert_eq!(rt; gate.steps.load(Ordering::SeqCst), 2 * (1 + 2 + 3 + 4 + 5));
     assert_eq!(rt; came.bytes.as_slice(), TEXT);
     Ok(())
 }
@@ -129,6 +155,7 @@ impl Starts for Except {
     }
 }
 
+/// Without its thread the arbiter works on the caller's, and what the readers have put before is printed.
 #[test]
 fn each_start_refused(rt: HostRuntime) -> Result<(), Fail> {
     let listed = listed()?;
@@ -141,8 +168,10 @@ fn each_start_refused(rt: HostRuntime) -> Result<(), Fail> {
             &Open,
             &listed,
             2,
+            Came::Channel,
             0,
         )?;
+        assert_eq!(rt; came.go, Some(false));
         assert_eq!(rt; came.standing.is_ok(), thread == 3);
         assert!(rt; TEXT.starts_with(&came.bytes));
     }
@@ -162,6 +191,7 @@ fn each_write_fails(rt: HostRuntime) -> Result<(), Fail> {
             &Open,
             &listed,
             2,
+            Came::Channel,
             fail_at,
         )?;
         assert_eq!(rt; came.written, came.bytes.len() as u64);
@@ -176,6 +206,28 @@ fn each_write_fails(rt: HostRuntime) -> Result<(), Fail> {
     Ok(())
 }
 
+#[test]
+fn a_failed_write_holds_nobody_back(rt: HostRuntime) -> Result<(), Fail> {
+    let listed = listed()?;
+    let came = run_in_threads(
+        &rt,
+        &Always,
+        rt.alloc(),
+        rt.alloc(),
+        &Open,
+        &listed,
+        2,
+        Came::Many,
+        1,
+    )?;
+    match came.standing {
+        Ok(_) => panic!(rt; "no write failed"),
+        Err(stop) => assert_eq!(rt; stop, Stop::Output),
+    }
+    assert_eq!(rt; came.bytes.len(), 0);
+    Ok(())
+}
+
 /// Whether two workers print the text, by memory from this heap.
 fn two_print<R: Threads + Wait + Abort + Sync>(
     rt: &R,
@@ -183,7 +235,7 @@ fn two_print<R: Threads + Wait + Abort + Sync>(
     heap: &Refusing<Global>,
     listed: &[Instrument],
 ) -> Result<bool, Memory> {
-    let came = run_in_threads(rt, &Always, heap, plain, &Open, listed, 2, 0)?;
+    let came = run_in_threads(rt, &Always, heap, plain, &Open, listed, 2, Came::Channel, 0)?;
     assert!(rt; TEXT.starts_with(&came.bytes));
     Ok(came.standing.is_ok())
 }

@@ -25,16 +25,10 @@ const SPREAD: i32 = 3;
 type Quote = (u32, i32, Kind, i64, i32);
 
 /// What the reader of A hands over first.
-const FIRST: [Quote; 2] = [
-    (1, NEAR, Kind::Bid, 100, 5),
-    (2, FAR, Kind::Offer, 90, 3),
-];
+const FIRST: [Quote; 2] = [(1, NEAR, Kind::Bid, 100, 5), (2, FAR, Kind::Offer, 90, 3)];
 
 /// What the reader of B hands over: packet 3 never comes, and with a window of 4 packet 7 gives it up.
-const SECOND: [Quote; 2] = [
-    (4, NEAR, Kind::Bid, 101, 2),
-    (7, FAR, Kind::Bid, 80, 1),
-];
+const SECOND: [Quote; 2] = [(4, NEAR, Kind::Bid, 101, 2), (7, FAR, Kind::Bid, 80, 1)];
 
 /// What the reader of A hands over last, behind the snapshots, which include packet 3.
 const LAST: [Quote; 1] = [(5, NEAR, Kind::Offer, 103, 4)];
@@ -168,8 +162,17 @@ pub type Ends<A> = (
     IntakeReceiver<Batch<A>, A>,
 );
 
-/// An intake into which the three readers have put all that they hand over.
-pub fn handed_over<R: Wait, A: Allocator + Copy>(rt: &R, alloc: A) -> Result<Ends<A>, Memory>
+/// What the three readers hand over.
+#[derive(Clone, Copy)]
+pub enum Came {
+    /// The events of the worked text.
+    Channel,
+    /// Packets 1 to 200, each in a batch of its own: more than a lane has room for.
+    Many,
+}
+
+// An intake into which the readers have put the events of the worked text.
+fn channel_over<R: Wait, A: Allocator + Copy>(rt: &R, alloc: A) -> Result<Ends<A>, Memory>
     ensures { IfOk result (λ ends. ends.3.taken ≡ []) }
 {
     let (mut a, mut b, mut s, receiver) = Intake::new(alloc, 16)?;
@@ -178,4 +181,33 @@ pub fn handed_over<R: Wait, A: Allocator + Copy>(rt: &R, alloc: A) -> Result<End
     put(rt, &mut s, snapshots(alloc)?);
     put(rt, &mut a, packets(alloc, &LAST, true)?);
     Ok((a, b, s, receiver))
+}
+
+// An intake into which the reader of A has put a batch for each of 200 packets, and each reader an empty one as its last.
+fn many_over<R: Wait, A: Allocator + Copy>(rt: &R, alloc: A) -> Result<Ends<A>, Memory>
+    ensures { IfOk result (λ ends. ends.3.taken ≡ []) }
+{
+    let (mut a, mut b, mut s, receiver) = Intake::new(alloc, 256)?;
+    for number in 1..201u32 {
+        let quote = (number, NEAR, Kind::Bid, 100, 5);
+        put(rt, &mut a, packets(alloc, &[quote], false)?);
+    }
+    put(rt, &mut a, packets(alloc, &[], true)?);
+    put(rt, &mut b, packets(alloc, &[], true)?);
+    put(rt, &mut s, packets(alloc, &[], true)?);
+    Ok((a, b, s, receiver))
+}
+
+/// An intake into which the readers have put all that they hand over.
+pub fn handed_over<R: Wait, A: Allocator + Copy>(
+    rt: &R,
+    alloc: A,
+    came: Came,
+) -> Result<Ends<A>, Memory>
+    ensures { IfOk result (λ ends. ends.3.taken ≡ []) }
+{
+    match came {
+        Came::Channel => channel_over(rt, alloc),
+        Came::Many => many_over(rt, alloc),
+    }
 }

@@ -6,7 +6,7 @@ use crate::gate::Gate;
 use crate::running::run_crew;
 use crate::starts::Starts;
 use crate::stop::Stop;
-use crate::tests::channel::handed_over;
+use crate::tests::channel::{Came, handed_over};
 use crate::tests::writer::Kept;
 use crate::{CrewOutcome, Standing};
 use mdp_templates::{Instrument, Memory, are_fit};
@@ -15,12 +15,13 @@ use std::sync::{OnceLock, Wait};
 use std::thread;
 use std::thread::{Scope, Threads};
 
-/// What a crew in threads comes to: what it says, and the bytes that it wrote with their number.
+/// What a crew in threads comes to: what it says, the bytes that it wrote with their number, and what it told the readers.
 #[derive(Drop)]
 pub struct InThreads {
     pub standing: Result<Standing, Stop>,
     pub bytes: Vec<u8>,
     pub written: u64,
+    pub go: Option<bool>,
 }
 
 // All that happens inside the scope.
@@ -32,6 +33,7 @@ fn run_in<'s, E, R, S, G, A>(
     gate: &'s G,
     listed: &'s [Instrument],
     workers: u16,
+    came: Came,
     mut kept: Kept,
 ) -> Result<InThreads, Memory>
 where
@@ -45,7 +47,7 @@ where
     if workers == 0 || !are_fit(listed) {
         return Err(Memory);
     }
-    let (_a, _b, _s, receiver) = handed_over(rt, alloc)?;
+    let (_a, _b, _s, receiver) = handed_over(rt, alloc, came)?;
     let go = OnceLock::new();
     let CrewOutcome {
         receiver: _receiver,
@@ -58,10 +60,11 @@ where
         standing,
         bytes: kept.bytes,
         written,
+        go: go.get().copied(),
     })
 }
 
-/// Runs a crew of so many workers in threads, with this allocator; the write of this number fails, or none with 0.
+/// Runs a crew of so many workers in threads, with this allocator, over what came; the write of this number fails, or none with 0.
 pub fn run_in_threads<R, S, G, A>(
     rt: &R,
     starts: &S,
@@ -70,6 +73,7 @@ pub fn run_in_threads<R, S, G, A>(
     gate: &G,
     listed: &[Instrument],
     workers: u16,
+    came: Came,
     fail_at: u64,
 ) -> Result<InThreads, Memory>
 where
@@ -89,6 +93,7 @@ where
             gate,
             listed,
             workers,
+            came,
             Kept::new(plain, fail_at),
         ),
     )

@@ -9,7 +9,7 @@ use crate::crew::{AnswersOrders, Post};
 use crate::gate::Open;
 use crate::order::Order;
 use crate::stop::Stop;
-use crate::tests::channel::handed_over;
+use crate::tests::channel::{Came, handed_over};
 use crate::tests::writer::Kept;
 use crate::worker::work;
 use mdp_arbiter::Arbiter;
@@ -149,7 +149,7 @@ fn run_in<'s, E, R: Threads + Wait + Sync>(
     if workers == 0 || !are_fit(listed) {
         return Err(Memory);
     }
-    let (_a, _b, _s, receiver) = handed_over(rt, alloc)?;
+    let (_a, _b, _s, receiver) = handed_over(rt, alloc, Came::Channel)?;
     let (senders, lanes) = lanes(alloc, workers)?;
     let window = RingWindow::new(alloc, 4)?;
     let arbiter = Arbiter::new(alloc, listed, window)?;
