@@ -12,6 +12,7 @@ use crate::stop::Stop;
 use mdp_lanes::LaneReceiver;
 use mdp_print::{CountedWrite, write_all_counted};
 use mdp_reports::{Answer, Collector};
+use mdp_templates::Memory;
 use std::alloc::Allocator;
 use std::sync::Wait;
 
@@ -91,6 +92,20 @@ fn drain_all<R: Wait, A: Allocator + Copy>(rt: &R, posts: &mut [Post<A>], round:
     }
 }
 
+// Makes the text of a round.
+fn make_text<A: Allocator + Copy>(
+    alloc: A,
+    collector: &mut Collector<A>,
+    round: &[Answer<A>],
+    text: &mut Vec<u8, A>,
+) -> Result<(), Memory>
+    ensures text { OnOk result (text.new.items ≡ text_of_batch collector.old (map told_in_answer round.now)) }
+    ensures kept { OnOk result (collector.new ≡ kept_after_batch collector.old (map told_in_answer round.now)) }
+{
+    text.clear();
+    collector.take(alloc, round, text)
+}
+
 // Writes the text of a round.
 fn write_round<W: CountedWrite, A: Allocator + Copy>(
     alloc: A,
@@ -107,8 +122,7 @@ fn write_round<W: CountedWrite, A: Allocator + Copy>(
     ensures counts { (start : List ℕ) → HasCounted start (W.taken writer.old) written.old → HasCounted start (W.taken writer.new) written.new }
     ensures failed { FailsByStop result (W.failed writer.old) (W.failed writer.new) }
 {
-    text.clear();
-    let Ok(()) = collector.take(alloc, round, text) else {
+    let Ok(()) = make_text(alloc, collector, round, text) else {
         return Err(Stop::Memory);
     };
     match write_all_counted(writer, text) {

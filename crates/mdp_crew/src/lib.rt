@@ -11,6 +11,8 @@ mod order;
 mod running;
 mod starts;
 mod stop;
+#[cfg(test)]
+mod tests;
 mod worker;
 
 pub use arbiter::Standing;

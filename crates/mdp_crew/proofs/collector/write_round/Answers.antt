@@ -7,5 +7,5 @@ use Rattle.mdp_crew.proofs.collector.write_round.Goals as goal
 pub returns-in-Err-clause-begins : goal.returns-in-Err-clause-begins
 returns-in-Err-clause-begins g c =
     let whole = text_of_batch c.args.collector.now (map told_in_answer c.args.round.now) in
-    let text : c.deref.result.now ≡ whole = c.deref.ensures.value ∙ c.in-Ok.ensures.text ∙ ap (λ (t : List ℕ). t ++ whole) c.clear.ensures.items in
+    let text : c.deref.result.now ≡ whole = c.deref.ensures.value ∙ c.in-Ok.ensures.text in
     (c.in-Err.count, c.in-Err.ensures.taken ∙ ap (λ (t : List ℕ). g.W.CountedWrite.taken c.args.writer.now ++ take c.in-Err.count t) text)

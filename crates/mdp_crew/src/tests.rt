@@ -1,0 +1,258 @@
+//! Crews in one thread and in threads: both print the worked text, whatever the number of workers; and each start, each write and each
+//! allocation refused in turn.
+
+mod channel;
+mod in_threads;
+mod in_turn;
+mod writer;
+
+use crate::gate::{Gate, Open};
+use crate::starts::{Always, Starts};
+use crate::stop::Stop;
+use crate::tests::channel::{Came, NEXT, TEXT, listed};
+use crate::tests::in_threads::run_in_threads;
+use crate::tests::in_turn::run_in_turn;
+use mdp_templates::{Instrument, Memory};
+use refusing::Refusing;
+use std::alloc::Global;
+use std::process::Abort;
+use std::sync::Wait;
+use std::sync::atomic::{AtomicU64, Ordering};
+use std::test::Fail;
+use std::thread;
+use std::thread::Threads;
+
+/// So many workers print the text in one thread.
+fn in_turn_prints<R: Threads + Wait + Abort + Sync>(
+    rt: &R,
+    alloc: Global,
+    listed: &[Instrument],
+    workers: u16,
+) -> Result<(), Fail> {
+    let came = run_in_turn(rt, alloc, listed, workers)?;
+    assert!(rt; came.collected.is_ok());
+    assert_eq!(rt; came.bytes.as_slice(), TEXT);
+    assert_eq!(rt; came.written, TEXT.len() as u64);
+    match came.standing {
+        Ok(standing) => {
+            assert_eq!(rt; standing.next, NEXT);
+            assert!(rt; !standing.lost);
+        }
+        Err(_) => panic!(rt; "no memory"),
+    }
+    Ok(())
+}
+
+#[test]
+fn any_number_of_workers_prints_the_text_one_after_another(rt: HostRuntime) -> Result<(), Fail> {
+    let listed = listed()?;
+    for workers in [1, 2, 3, 16] {
+        in_turn_prints(&rt, rt.alloc(), &listed, workers)?;
+    }
+    Ok(())
+}
+
+/// So many workers print the text in threads.
+fn threads_print<R: Threads + Wait + Abort + Sync>(
+    rt: &R,
+    alloc: Global,
+    listed: &[Instrument],
+    workers: u16,
+) -> Result<(), Fail> {
+    let came = run_in_threads(
+        rt,
+        &Always,
+        alloc,
+        alloc,
+        &Open,
+        listed,
+        workers,
+        Came::Channel,
+        0,
+    )?;
+    assert_eq!(rt; came.go, Some(true));
+    assert_eq!(rt; came.bytes.as_slice(), TEXT);
+    assert_eq!(rt; came.written, TEXT.len() as u64);
+    match came.standing {
+        Ok(standing) => {
+            assert_eq!(rt; standing.next, NEXT);
+            assert!(rt; !standing.lost);
+        }
+        Err(_) => panic!(rt; "stopped"),
+    }
+    Ok(())
+}
+
+#[test]
+fn any_number_of_workers_prints_the_text_in_threads(rt: HostRuntime) -> Result<(), Fail> {
+    let listed = listed()?;
+    for workers in [1, 2, 3, 16] {
+        threads_print(&rt, rt.alloc(), &listed, workers)?;
+    }
+    Ok(())
+}
+
+/// Holds each worker at its first step until both have come, counts those that waited for nothing, and adds up the steps that it is told.
+#[derive(Drop)]
+struct BothAtOnce {
+    here: AtomicU64,
+    late: AtomicU64,
+    steps: AtomicU64,
+}
+
+impl Gate for BothAtOnce {
+    fn arrive(&self, _worker: usize, step: u64) {
+        self.steps.fetch_add(step, Ordering::SeqCst);
+        if step != 1 {
+            return;
+        }
+        self.here.fetch_add(1, Ordering::SeqCst);
+        for _ in 0..1_000_000_000u64 {
+            if self.here.load(Ordering::SeqCst) >= 2 {
+                return;
+            }
+            thread::yield_now();
+        }
+        self.late.fetch_add(1, Ordering::SeqCst);
+    }
+
+    fn reads(&self, _feed: usize, _place: u64) {}
+}
+
+#[test]
+fn workers_work_at_once(rt: HostRuntime) -> Result<(), Fail> {
+    let gate = BothAtOnce {
+        here: AtomicU64::new(0),
+        late: AtomicU64::new(0),
+        steps: AtomicU64::new(0),
+    };
+    let listed = listed()?;
+    let came = run_in_threads(
+        &rt,
+        &Always,
+        rt.alloc(),
+        rt.alloc(),
+        &gate,
+        &listed,
+        2,
+        Came::Channel,
+        0,
+    )?;
+    assert!(rt; came.standing.is_ok());
+    assert_eq!(rt; gate.late.load(Ordering::SeqCst), 0);
+    assert_eq!(rt; gate.steps.load(Ordering::SeqCst), 2 * (1 + 2 + 3 + 4 + 5));
+    assert_eq!(rt; came.bytes.as_slice(), TEXT);
+    Ok(())
+}
+
+/// Starts each thread but one.
+#[derive(Clone, Copy)]
+struct Except(usize);
+
+impl Starts for Except {
+    fn may_start(&self, thread: usize) -> bool {
+        thread != self.0
+    }
+}
+
+/// Without its thread the arbiter works on the caller's, and what the readers have put before is printed.
+#[test]
+fn each_start_refused(rt: HostRuntime) -> Result<(), Fail> {
+    let listed = listed()?;
+    for thread in 3..6usize {
+        let came = run_in_threads(
+            &rt,
+            &Except(thread),
+            rt.alloc(),
+            rt.alloc(),
+            &Open,
+            &listed,
+            2,
+            Came::Channel,
+            0,
+        )?;
+        assert_eq!(rt; came.go, Some(false));
+        assert_eq!(rt; came.standing.is_ok(), thread == 3);
+        assert!(rt; TEXT.starts_with(&came.bytes));
+    }
+    Ok(())
+}
+
+#[test]
+fn each_write_fails(rt: HostRuntime) -> Result<(), Fail> {
+    let listed = listed()?;
+    let mut failed = 0u64;
+    for fail_at in 1..1000u64 {
+        let came = run_in_threads(
+            &rt,
+            &Always,
+            rt.alloc(),
+            rt.alloc(),
+            &Open,
+            &listed,
+            2,
+            Came::Channel,
+            fail_at,
+        )?;
+        assert_eq!(rt; came.written, came.bytes.len() as u64);
+        assert!(rt; TEXT.starts_with(&came.bytes));
+        match came.standing {
+            Ok(_) => break,
+            Err(stop) => assert_eq!(rt; stop, Stop::Output),
+        }
+        failed = fail_at;
+    }
+    assert!(rt; failed > 10);
+    Ok(())
+}
+
+#[test]
+fn a_failed_write_holds_nobody_back(rt: HostRuntime) -> Result<(), Fail> {
+    let listed = listed()?;
+    let came = run_in_threads(
+        &rt,
+        &Always,
+        rt.alloc(),
+        rt.alloc(),
+        &Open,
+        &listed,
+        2,
+        Came::Many,
+        1,
+    )?;
+    match came.standing {
+        Ok(_) => panic!(rt; "no write failed"),
+        Err(stop) => assert_eq!(rt; stop, Stop::Output),
+    }
+    assert_eq!(rt; came.bytes.len(), 0);
+    Ok(())
+}
+
+/// Whether two workers print the text, by memory from this heap.
+fn two_print<R: Threads + Wait + Abort + Sync>(
+    rt: &R,
+    plain: Global,
+    heap: &Refusing<Global>,
+    listed: &[Instrument],
+) -> Result<bool, Memory> {
+    let came = run_in_threads(rt, &Always, heap, plain, &Open, listed, 2, Came::Channel, 0)?;
+    assert!(rt; TEXT.starts_with(&came.bytes));
+    Ok(came.standing.is_ok())
+}
+
+#[test]
+fn each_allocation_refused(rt: HostRuntime) -> Result<(), Fail> {
+    let listed = listed()?;
+    let mut refused = 0u64;
+    for number in 1..10000u64 {
+        let heap = Refusing::new(rt.alloc(), number);
+        let printed = two_print(&rt, rt.alloc(), &heap, &listed).unwrap_or(false);
+        assert_eq!(rt; printed, !heap.has_refused());
+        if printed {
+            break;
+        }
+        refused = number;
+    }
+    assert!(rt; refused > 30);
+    Ok(())
+}

@@ -1,0 +1,100 @@
+//! A crew in threads, over what the three readers have put before it begins.
+
+ghost use Rattle.std.specs.Prelude.{◌≡◌};
+
+use crate::gate::Gate;
+use crate::running::run_crew;
+use crate::starts::Starts;
+use crate::stop::Stop;
+use crate::tests::channel::{Came, handed_over};
+use crate::tests::writer::Kept;
+use crate::{CrewOutcome, Standing};
+use mdp_templates::{Instrument, Memory, are_fit};
+use std::alloc::{Allocator, Global};
+use std::sync::{OnceLock, Wait};
+use std::thread;
+use std::thread::{Scope, Threads};
+
+/// What a crew in threads comes to: what it says, the bytes that it wrote with their number, and what it told the readers.
+#[derive(Drop)]
+pub struct InThreads {
+    pub standing: Result<Standing, Stop>,
+    pub bytes: Vec<u8>,
+    pub written: u64,
+    pub go: Option<bool>,
+}
+
+// All that happens inside the scope.
+fn run_in<'s, E, R, S, G, A>(
+    rt: &'s R,
+    scope: &'s Scope<'s, E>,
+    starts: &S,
+    alloc: A,
+    gate: &'s G,
+    listed: &'s [Instrument],
+    workers: u16,
+    came: Came,
+    mut kept: Kept,
+) -> Result<InThreads, Memory>
+where
+    R: Threads + Wait + Sync,
+    S: Starts,
+    G: Gate + Sync,
+    A: Allocator + Copy + Send + Sync,
+    A: 's,
+    requires { kept.failures ≡ 0 }
+{
+    if workers == 0 || !are_fit(listed) {
+        return Err(Memory);
+    }
+    let (_a, _b, _s, receiver) = handed_over(rt, alloc, came)?;
+    let go = OnceLock::new();
+    let CrewOutcome {
+        receiver: _receiver,
+        standing,
+        written,
+    } = run_crew(
+        rt, scope, &go, starts, alloc, gate, listed, workers, 4, receiver, &mut kept,
+    );
+    Ok(InThreads {
+        standing,
+        bytes: kept.bytes,
+        written,
+        go: go.get().copied(),
+    })
+}
+
+/// Runs a crew of so many workers in threads, with this allocator, over what came; the write of this number fails, or none with 0.
+pub fn run_in_threads<R, S, G, A>(
+    rt: &R,
+    starts: &S,
+    alloc: A,
+    plain: Global,
+    gate: &G,
+    listed: &[Instrument],
+    workers: u16,
+    came: Came,
+    fail_at: u64,
+) -> Result<InThreads, Memory>
+where
+    R: Threads + Wait + Sync,
+    S: Starts + Sync,
+    G: Gate + Sync,
+    A: Allocator + Copy + Send + Sync,
+{
+    thread::scope(
+        thread::scope_env(),
+        rt,
+        move |scope| run_in(
+            rt,
+            scope,
+            starts,
+            alloc,
+            gate,
+            listed,
+            workers,
+            came,
+            Kept::new(plain, fail_at),
+        ),
+    )
+}
