@@ -99,8 +99,8 @@ impl<A: Allocator + Copy> Reading<A> {
         Ok(())
     }
 
-    // Takes in what a line feed ends, and tells on which feed it brought a datagram. Where nothing is pending it is a whole
-    // line, and is read where it lies.
+    // Takes in what a line feed ends. With nothing pending it is a whole line, which is read where it lies, and the answer is
+    // the feed on which it brought a datagram. `last` is the line before, and `feed` what was answered of that.
     fn take_line(
         &mut self,
         alloc: A,
@@ -117,15 +117,15 @@ impl<A: Allocator + Copy> Reading<A> {
         ensures refused { IfErr result (λ fault. (more : List ℕ) → IsFaultOf (capture_with self.old (text.now ++ 10 ∷ more)) fault) }
         ensures no_input { IfErr result (λ fault. fault ≢ CaptureFault.Input) }
     {
-        if self.pending.is_empty() {
-            let text = without_carriage_return(text);
-            let last = without_carriage_return(last);
-            let feed = self.draft.add_text(alloc, text, last, feed)?;
-            return Ok(feed);
+        if !self.pending.is_empty() {
+            self.pending.extend_from_slice(text)?;
+            self.end_line(alloc)?;
+            return Ok(None);
         }
-        self.pending.extend_from_slice(text)?;
-        self.end_line(alloc)?;
-        Ok(None)
+        let text = without_carriage_return(text);
+        let last = without_carriage_return(last);
+        let feed = self.draft.add_text(alloc, text, last, feed)?;
+        Ok(feed)
     }
 
     fn end_line(&mut self, alloc: A) -> Result<(), CaptureFault>

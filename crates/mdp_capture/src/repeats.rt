@@ -14,8 +14,8 @@ use mdp_templates::Feed;
 use std::alloc::{AllocError, Allocator};
 
 impl<A: Allocator + Copy> Draft<A> {
-    /// Takes in the next line, and tells on which feed it brought a datagram. The line before is `last`, and it brought one on
-    /// `feed`; without `feed` nothing is known of it.
+    /// Takes in the next line, and tells on which feed it brought a datagram. `last` is the line before, and `known` the feed
+    /// on which it brought one; where that is `None`, nothing is known of it.
     pub(crate) fn add_text(
         &mut self,
         alloc: A,
@@ -46,7 +46,7 @@ impl<A: Allocator + Copy> Draft<A> {
         }
     }
 
-    // Takes in the line of a datagram of these digits.
+    // Takes in the line of these digits on a feed, and tells that feed if they are a datagram's.
     fn add_digits(
         &mut self,
         alloc: A,
@@ -62,7 +62,8 @@ impl<A: Allocator + Copy> Draft<A> {
         ensures indexed { OnOk result (IsIndexed self.new) }
         ensures fit { OnOk result (AreFitSoFar self.old.instruments.items → AreFitSoFar self.new.instruments.items) }
         ensures known { IfOk result (HasBytesOf (packet_of feed (fields digits.now)) self.new) }
-        ensures refused { IfErr result (IsFaultOf (add_line self.old.line (packet_of feed (fields digits.now)) (capture_so_far self.old))) }
+        ensures refused { IfErr result
+            (IsFaultOf (add_line self.old.line (packet_of feed (fields digits.now)) (capture_so_far self.old))) }
         ensures no_input { IfErr result (λ fault. fault ≢ CaptureFault.Input) }
     {
         match self.copy_or_decode(alloc, digits, last, known)? {

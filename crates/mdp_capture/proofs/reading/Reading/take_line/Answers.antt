@@ -10,7 +10,7 @@ use Rattle.mdp_capture.proofs.reading.Reading.take_line.Goals as goal
 
 pub returns-in_err-feed-clause-refused : goal.returns-in_err-feed-clause-refused
 returns-in_err-feed-clause-refused g c =
-    let p = err_from_is_err_and c.from_residual.result c.from_residual.ensures.1 in
+    let p = err_from_is_err_and c.from_residual-in_err-feed.result c.from_residual-in_err-feed.ensures.1 in
     let old = c.args.self.now in
     let text = c.args.text.now in
     let empty : length old.pending.items ≡ 0 = grind (arith, nat_tests) in
@@ -19,8 +19,8 @@ returns-in_err-feed-clause-refused g c =
     let refused = rw says at c.in_err-feed.ensures.refused in
     rw (p.1, p.2) (λ more. same_fault _ _ _ (line_alone old.draft.line old.pending.items (text ++ 10 ∷ more) (capture_so_far old.draft) none) (line_refused old.draft.line text more (capture_so_far old.draft) _ c.requires.line refused))
 
-pub returns-then-is_empty-clause-capture : goal.returns-then-is_empty-clause-capture
-returns-then-is_empty-clause-capture g c more =
+pub returns-clause-capture : goal.returns-clause-capture
+returns-clause-capture g c more =
     let old = c.args.self.now in
     let text = c.args.text.now in
     let empty : length old.pending.items ≡ 0 = grind (arith, nat_tests) in
