@@ -1,7 +1,7 @@
 -- Digits that spell bytes, and the fields of a line that has them.
-use Rattle.std.proofs.Common.{◌≡◌, ℕ, ◌+◌, ◌*◌, ◌<◌, ◌≤◌, true, false, eqb, leb, List, [], ◌∷◌, length, take, drop, Result, Ok, Err, Some, None, refl, sym, ap, ◌∙◌, subst, arith, get_or}
+use Rattle.std.proofs.Common.{◌≡◌, ℕ, ◌+◌, ◌<◌, ◌≤◌, true, false, eqb, leb, List, [], ◌∷◌, length, take, drop, Result, Ok, Err, Some, None, refl, ap, ◌∙◌, arith, get_or}
 use Rattle.std.specs.Prelude.{IsErr}
-use Rattle.std.proofs.lemmas.Bool.{cond-true, cond-false, ne_eqb, eq-eqb, eqb-true, le-leb, lt-leb}
+use Rattle.std.proofs.lemmas.Bool.{cond-true, cond-false, ne_eqb, eq-eqb, le-leb, lt-leb}
 use Rattle.std.proofs.lemmas.List.Splits.{slice_split_none}
 use Rattle.hex.specs.Hex.{decode_of, decode_pairs, is_hex_digit}
 use Rattle.hex.specs.declared.error.FromHexError.{FromHexError}
@@ -9,10 +9,10 @@ use Rattle.hex.proofs.HexLemmas.{decode_of-ok}
 use Rattle.memchr.specs.Find.{IsFirstByte, is_byte}
 use Rattle.mdp_templates.specs.declared.feed.Feed.{Feed}
 use Rattle.mdp_capture.specs.Repeats.{IsSkippedFor, Spells}
-use Rattle.mdp_capture.specs.Line.{LineContent, Packet, Skipped, fields, packet, packet_of}
+use Rattle.mdp_capture.specs.Line.{Packet, Skipped, fields, packet, packet_of}
 use Rattle.mdp_capture.specs.declared.skip.Skip.TheVariants.{LineForm, Hex, TooLong}
 use Rattle.mdp_capture.proofs.Fields.{fields_some, packet_of_more}
-use Rattle.mdp_capture.proofs.Splits.{IsFreeOf, parts_found, parts_none}
+use Rattle.mdp_capture.proofs.Splits.{parts_found, parts_none}
 
 digit_no_space : (byte : ℕ) → is_hex_digit byte ≡ true → eqb byte 32 ≡ false
 digit_no_space byte is = ne_eqb byte 32 (λ e. let bad = rw e at is in cc bad)

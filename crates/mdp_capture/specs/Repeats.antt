@@ -1,15 +1,14 @@
 -- Datagrams that were decoded already: the bytes that the digits of a line spell, and where they are.
-use Rattle.std.specs.Prelude.{◌≡◌, ◌-◌, ℕ, List, length, Option, None, Some, IfSome}
+use Rattle.std.specs.Prelude.{◌≡◌, ◌-◌, ℕ, List, length, Option, None, Some}
 use Rattle.std.specs.List.{slice_get}
 use Rattle.mdp_templates.specs.declared.feed.Feed.{Feed}
 use Rattle.mdp_templates.specs.declared.feed.Feed.TheVariants as feeds
 use Rattle.mdp_capture.specs.Capture.{CaptureContent}
 use Rattle.mdp_capture.specs.Draft.{capture_so_far}
-use Rattle.mdp_capture.specs.Line.{LineContent, Blank, Listing, Packet, Closing, Skipped, fields, line_of, packet_of}
+use Rattle.mdp_capture.specs.Line.{LineContent, Blank, Listing, Packet, Closing, Skipped, fields, packet_of}
 use Rattle.mdp_capture.specs.Record.{RecordContent, Received, Datagram, Close}
 use Rattle.mdp_capture.specs.declared.draft.Draft.{Draft}
 use Rattle.mdp_capture.specs.declared.skip.Skip.{Skip}
-use Rattle.mdp_templates.specs.declared.instrument.Instrument.{Instrument}
 
 -- a line of these digits brings a datagram of these bytes, whatever its feed
 abbrev pub Spells : List ℕ → List ℕ → Type 0
