@@ -46,10 +46,6 @@ left_some (Some text) is = fields_some text.now
 pub calendar_of_left : (leg1 leg2 : List ℕ) (rest : Option (Bor (List ℕ))) → is_some rest ≡ true → calendar_of_fields (leg1 ∷ leg2 ∷ fields_left rest) ≡ None
 calendar_of_left leg1 leg2 rest is = calendar_of_more leg1 leg2 (fields_left rest) (left_some rest is)
 
--- one field more than a datagram has
-pub packet_of_left : (feed : Feed) (digits : List ℕ) (rest : Option (Bor (List ℕ))) → is_some rest ≡ true → packet_of feed (digits ∷ fields_left rest) ≡ Skipped LineForm
-packet_of_left feed digits rest is = packet_of_more feed digits (fields_left rest) (left_some rest is)
-
 graphic_low : (byte : ℕ) → is_graphic byte ≡ true → byte < 128
 graphic_low byte is = let high = leb-true byte 126 (and_parts (leb 33 byte) (leb byte 126) is).1 in omega arith
 

@@ -1,6 +1,7 @@
 pub mod Splits
 pub mod Numbers
 pub mod Fields
+pub mod Spelling
 pub mod Accepted
 pub mod Pieces
 pub mod Fit

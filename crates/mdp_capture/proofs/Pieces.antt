@@ -64,18 +64,21 @@ last_added n front old new free some is = at_end n front old free some ∙ ap (�
 pub last_refused : (n : ℕ) (front : List ℕ) (capture : CaptureContent) (fault : CaptureFault) → IsFreeOf 10 front → 0 < length front → IsFaultOf (add_line n (line_of front) capture) fault → IsFaultOf (capture_from n (front ++ []) capture) fault
 last_refused n front capture fault free some is = same_fault _ _ fault (at_end n front capture free some) (fault_stays _ (add_lines (next_line n) []) fault is)
 
--- a piece up to its first line feed joins what is pending
-pub piece_at : (pending piece text : List ℕ) (k : ℕ) → IsFirstByte (is_byte 10) piece (Some k) → pending ++ (piece ++ text) ≡ (pending ++ take k piece) ++ 10 ∷ (drop (k + 1) piece ++ text)
-piece_at pending piece text k first =
-    let split : piece ++ text ≡ take k piece ++ 10 ∷ (drop (k + 1) piece ++ text) = ap (λ bytes. bytes ++ text) (split_there 10 piece k first) ∙ append_assoc (take k piece) (10 ∷ drop (k + 1) piece) text in
-    ap (λ bytes. pending ++ bytes) split ∙ sym (append_assoc pending (take k piece) (10 ∷ (drop (k + 1) piece ++ text)))
+-- a piece is cut at its first line feed
+pub cut_there : (piece text : List ℕ) (k : ℕ) → IsFirstByte (is_byte 10) piece (Some k) → piece ++ text ≡ take k piece ++ 10 ∷ (drop (k + 1) piece ++ text)
+cut_there piece text k first =
+    ap (λ bytes. bytes ++ text) (split_there 10 piece k first) ∙ append_assoc (take k piece) (10 ∷ drop (k + 1) piece) text
 
 -- the line feed ends a line, and the next line has nothing pending
 pub next_starts : (n m : ℕ) (front pending text : List ℕ) (old new : CaptureContent) → IsFreeOf 10 front → add_line n (line_of (strip_carriage_return front)) old ≡ Ok new → m ≡ next_line n → pending ≡ [] → capture_from n (front ++ 10 ∷ text) old ≡ capture_from m (pending ++ text) new
 next_starts n m front pending text old new free is line none =
     line_added n front text old new free is ∙ ap (λ k. capture_from k text new) (sym line) ∙ ap (λ bytes. capture_from m (bytes ++ text) new) (sym none)
 
--- a piece up to its first line feed, with what was pending, is a line
-pub line_in_piece : (n : ℕ) (pending piece joined text : List ℕ) (k : ℕ) (capture : CaptureContent) → IsFirstByte (is_byte 10) piece (Some k) → joined ≡ pending ++ take k piece → capture_from n (pending ++ (piece ++ text)) capture ≡ capture_from n (joined ++ 10 ∷ (drop (k + 1) piece ++ text)) capture
-line_in_piece n pending piece joined text k capture first is =
-    ap (λ bytes. capture_from n bytes capture) (piece_at pending piece text k first) ∙ ap (λ bytes. capture_from n (bytes ++ 10 ∷ (drop (k + 1) piece ++ text)) capture) (sym is)
+-- what is pending and what a line feed ends are one line
+pub line_joined : (n : ℕ) (pending front joined more : List ℕ) (capture : CaptureContent) → joined ≡ pending ++ front → capture_from n (pending ++ (front ++ 10 ∷ more)) capture ≡ capture_from n (joined ++ 10 ∷ more) capture
+line_joined n pending front joined more capture is =
+    ap (λ bytes. capture_from n bytes capture) (sym (append_assoc pending front (10 ∷ more)) ∙ ap (λ bytes. bytes ++ 10 ∷ more) (sym is))
+
+-- with nothing pending
+pub line_alone : (n : ℕ) (pending text : List ℕ) (capture : CaptureContent) → pending ≡ [] → capture_from n (pending ++ text) capture ≡ capture_from n text capture
+line_alone n pending text capture none = ap (λ bytes. capture_from n (bytes ++ text) capture) none

@@ -5,5 +5,6 @@ pub mod Line
 pub mod Capture
 pub mod Parsed
 pub mod Draft
+pub mod Repeats
 pub mod Reading
 pub mod Lines

@@ -13,10 +13,14 @@ capture_from line text capture = needs_instrument (add_lines line (lines text) c
 abbrev pub capture_with : {A : Type 0} → Reading A → List ℕ → Result CaptureContent RefusedLine
 capture_with reading text = capture_from reading.draft.line (reading.pending.items ++ text) (capture_so_far reading.draft)
 
+-- bytes with no line feed among them
+abbrev pub IsOneLine : List ℕ → Type 0
+IsOneLine bytes = All (λ byte. eqb byte 10 ≡ false) bytes
+
 -- a reading with instruments that fit so far, and behind its lines the bytes of a line that has no line feed yet
 pub record IsSound {A : Type 0} (reading : Reading A) : Type 0 where
   pub indexed : IsIndexed reading.draft
-  pub unfinished : All (λ byte. eqb byte 10 ≡ false) reading.pending.items
+  pub unfinished : IsOneLine reading.pending.items
   pub fit : AreFitSoFar reading.draft.instruments.items
 
 -- the reading of a text that was all of `whole` comes, with what is left of it, to the capture of the whole, where the

@@ -1,6 +1,6 @@
 //! A capture under construction.
 
-ghost use Rattle.std.specs.Prelude.{◌≡◌, ◌≢◌, ◌++◌, ◌∷◌, [], OnOk, IfOk, IfErr};
+ghost use Rattle.std.specs.Prelude.{◌≡◌, ◌≢◌, ◌++◌, ◌∷◌, [], OnOk, IfOk, IfErr, IfSome};
 ghost use Rattle.std.specs.Ordering.{int_eq};
 ghost use Rattle.indexmap.specs.IndexMap.{get};
 ghost use Rattle.std.specs.List.{list_any};
@@ -8,6 +8,7 @@ ghost use Rattle.std.specs.Str.{bytes_eq};
 ghost use Rattle.mdp_capture.specs.Line.{Skipped};
 ghost use Rattle.mdp_capture.specs.Capture.{add_line, add_record, add_instrument, refusal_of, has_record, is_listed, has_legs, are_legs, is_outright, kind_with_id, entry_of, next_line, no_capture, needs_instrument, IsFaultOf};
 ghost use Rattle.mdp_capture.specs.Parsed.{content_of};
+ghost use Rattle.mdp_capture.specs.Repeats.{newest_of, newest_on};
 ghost use Rattle.mdp_capture.specs.Draft.{capture_so_far, IsIndexed, AreFitSoFar};
 ghost use Rattle.mdp_templates.specs.Instrument.{AreFit};
 
@@ -102,6 +103,17 @@ impl<A: Allocator + Copy> Draft<A> {
             Feed::S => self.s.push(entry)?,
         }
         Ok(())
+    }
+
+    /// The bytes of the last record of a feed, where it is a datagram.
+    pub(crate) fn newest(&self, feed: Feed) -> Option<&[u8]>
+        ensures { IfSome result (λ bytes. newest_on feed (capture_so_far self.now) ≡ Some bytes.now) }
+    {
+        match feed {
+            Feed::A => newest_of(self.a.as_slice()),
+            Feed::B => newest_of(self.b.as_slice()),
+            Feed::S => newest_of(self.s.as_slice()),
+        }
     }
 
     fn skip_line(&mut self, skip: Skip) -> Result<(), CaptureFault>
@@ -226,6 +238,15 @@ fn index<A: Allocator + Copy>(
 {
     kinds.insert(instrument.id, instrument.kind)?;
     Ok(())
+}
+
+fn newest_of<A: Allocator>(records: &[Record<A>]) -> Option<&[u8]>
+    ensures { IfSome result (λ bytes. newest_of records.now ≡ Some bytes.now) }
+{
+    match records.last() {
+        Some(record) => record.bytes(),
+        None => None,
+    }
 }
 
 fn has_name(instruments: &[Instrument], name: &str) -> bool

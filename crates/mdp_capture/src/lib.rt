@@ -11,6 +11,7 @@ mod line;
 mod reader;
 mod reading;
 mod record;
+mod repeats;
 mod skip;
 
 pub use capture::Capture;

@@ -1,14 +1,16 @@
 //! One line of a capture.
 
-ghost use Rattle.std.specs.Prelude.{◌≡◌, IfOk};
+ghost use Rattle.std.specs.Prelude.{◌≡◌, IfOk, IfSome, IsErr, MatchResult};
 ghost use Rattle.hex.specs.Hex.{decode_of};
-ghost use Rattle.mdp_capture.specs.Line.{fields, calendar_of_fields, kind_of, instrument_of, listing, packet, packet_of, closing_of, line_of};
+ghost use Rattle.mdp_capture.specs.Line.{fields, calendar_of_fields, kind_of, instrument_of, listing, packet_of, closing_of, line_of};
+ghost use Rattle.mdp_capture.specs.Repeats.{IsSkippedFor, Spells};
 ghost use Rattle.mdp_capture.specs.Parsed.{content_of, fields_left};
 
 use crate::field::{id_of, is_letter, name_of, next_field};
 use crate::skip::Skip;
 use hex::FromHexError;
 use mdp_templates::{Feed, Instrument, InstrumentKind};
+use memchr::memchr;
 use std::alloc::{AllocError, Allocator};
 
 /// What a line says.
@@ -97,27 +99,50 @@ fn calendar_of(legs: &[u8]) -> Option<InstrumentKind>
 fn packet_of<A: Allocator>(alloc: A, feed: Feed, rest: Option<&[u8]>) -> Result<Line<A>, AllocError>
     ensures { IfOk result (λ line. content_of line ≡ packet_of feed (fields_left rest.entry)) }
 {
-    let Some(rest) = rest else {
+    let Some(digits) = rest else {
         return Ok(Line::Skipped(Skip::LineForm));
     };
-    let (digits, rest) = next_field(rest);
-    if rest.is_some() {
-        return Ok(Line::Skipped(Skip::LineForm));
+    match bytes_of(alloc, digits)? {
+        Ok(bytes) => Ok(Line::Packet(feed, bytes)),
+        Err(skip) => Ok(Line::Skipped(skip)),
     }
-    if digits.is_empty() {
-        return Ok(Line::Skipped(Skip::LineForm));
-    }
-    packet(alloc, feed, digits)
 }
 
-fn packet<A: Allocator>(alloc: A, feed: Feed, digits: &[u8]) -> Result<Line<A>, AllocError>
-    ensures { IfOk result (λ line. content_of line ≡ packet feed (decode_of digits.now)) }
+/// The feed and the digits of a line that begins as a datagram's does.
+pub(crate) fn digits_in(text: &[u8]) -> Option<(Feed, &[u8])>
+    ensures { IfSome result (λ found. line_of text.now ≡ packet_of found.0 (fields found.1.now)) }
+{
+    match text {
+        [b'A', b' ', digits @ ..] => Some((Feed::A, digits)),
+        [b'B', b' ', digits @ ..] => Some((Feed::B, digits)),
+        [b'S', b' ', digits @ ..] => Some((Feed::S, digits)),
+        _ => None,
+    }
+}
+
+/// The bytes that the digits of a line spell, or why the line is skipped.
+pub(crate) fn bytes_of<A: Allocator>(
+    alloc: A,
+    digits: &[u8],
+) -> Result<Result<Vec<u8, A>, Skip>, AllocError>
+    ensures { IfOk result (λ read. MatchResult read (λ bytes. Spells digits.now bytes.items) (IsSkippedFor digits.now)) }
 {
     match hex::decode(alloc, digits) {
-        Ok(bytes) if bytes.len() <= LONGEST_DATAGRAM => Ok(Line::Packet(feed, bytes)),
-        Ok(_) => Ok(Line::Skipped(Skip::TooLong)),
+        Ok(bytes) if bytes.is_empty() => Ok(Err(Skip::LineForm)),
+        Ok(bytes) if bytes.len() <= LONGEST_DATAGRAM => Ok(Ok(bytes)),
+        Ok(_) => Ok(Err(Skip::TooLong)),
         Err(FromHexError::OutOfMemory) => Err(AllocError),
-        Err(_) => Ok(Line::Skipped(Skip::Hex)),
+        Err(_) => Ok(Err(skip_of(digits))),
+    }
+}
+
+// Why the line of something other than digits is skipped: for a field too many, or for a byte that is no digit.
+fn skip_of(digits: &[u8]) -> Skip
+    ensures { IsErr (decode_of digits.now) → IsSkippedFor digits.now result }
+{
+    match memchr(b' ', digits) {
+        Some(_) => Skip::LineForm,
+        None => Skip::Hex,
     }
 }
 

@@ -4,15 +4,18 @@ ghost use Rattle.std.specs.Prelude.{◌≡◌, ◌≢◌, ◌++◌, ◌∷◌, [
 ghost use Rattle.std.specs.Str.Lines.{strip_carriage_return};
 ghost use Rattle.std.specs.Io.KnownBytes.{IsAtEnd};
 ghost use Rattle.mdp_capture.specs.Capture.{IsFaultOf, capture_of, needs_instrument};
+ghost use Rattle.mdp_capture.specs.Line.{line_of};
+ghost use Rattle.mdp_capture.specs.Repeats.{HasBytesOf};
 ghost use Rattle.mdp_capture.specs.Draft.{capture_so_far, AreFitSoFar};
 ghost use Rattle.mdp_templates.specs.Instrument.{AreFit};
-ghost use Rattle.mdp_capture.specs.Reading.{capture_with, IsSound};
+ghost use Rattle.mdp_capture.specs.Reading.{capture_with, IsOneLine, IsSound};
 
 use crate::capture::Capture;
 use crate::draft::Draft;
 use crate::fault::CaptureFault;
 use crate::line::line_of;
 use crate::reader::CountedRead;
+use mdp_templates::Feed;
 use memchr::memchr;
 use std::alloc::{AllocError, Allocator};
 
@@ -84,13 +87,45 @@ impl<A: Allocator + Copy> Reading<A> {
         ensures no_input { IfErr result (λ fault. fault ≢ CaptureFault.Input) }
     {
         let mut rest = piece;
+        let mut last = &piece[..0];
+        let mut feed = None;
         while let Some(end) = memchr(b'\n', rest) {
-            self.pending.extend_from_slice(&rest[..end])?;
-            self.end_line(alloc)?;
+            let text = &rest[..end];
             rest = &rest[end + 1..];
+            feed = self.take_line(alloc, text, last, feed)?;
+            last = text;
         }
         self.pending.extend_from_slice(rest)?;
         Ok(())
+    }
+
+    // Takes in what a line feed ends. With nothing pending it is a whole line, which is read where it lies, and the answer is
+    // the feed on which it brought a datagram. `last` is the line before, and `feed` what was answered of that.
+    fn take_line(
+        &mut self,
+        alloc: A,
+        text: &[u8],
+        last: &[u8],
+        feed: Option<Feed>,
+    ) -> Result<Option<Feed>, CaptureFault>
+        requires sound { IsSound self.old }
+        requires line { IsOneLine text.now }
+        requires known { HasBytesOf (line_of (strip_carriage_return last.now)) self.old.draft feed }
+        ensures capture { OnOk result ((more : List ℕ) → capture_with self.old (text.now ++ 10 ∷ more) ≡ capture_with self.new more) }
+        ensures sound { OnOk result (IsSound self.new) }
+        ensures known { IfOk result (HasBytesOf (line_of (strip_carriage_return text.now)) self.new.draft) }
+        ensures refused { IfErr result (λ fault. (more : List ℕ) → IsFaultOf (capture_with self.old (text.now ++ 10 ∷ more)) fault) }
+        ensures no_input { IfErr result (λ fault. fault ≢ CaptureFault.Input) }
+    {
+        if !self.pending.is_empty() {
+            self.pending.extend_from_slice(text)?;
+            self.end_line(alloc)?;
+            return Ok(None);
+        }
+        let text = without_carriage_return(text);
+        let last = without_carriage_return(last);
+        let feed = self.draft.add_text(alloc, text, last, feed)?;
+        Ok(feed)
     }
 
     fn end_line(&mut self, alloc: A) -> Result<(), CaptureFault>

@@ -183,10 +183,11 @@ fn tells_numbers_and_names(rt: HostRuntime) -> Result<(), Fail> {
     Ok(())
 }
 
-// Gives one byte a call, and fails at one call.
+// Gives at most so many bytes a call, and fails at one call.
 #[derive(Drop)]
 struct Slow<'a> {
     text: &'a [u8],
+    step: usize,
     fail_at: u64,
     failures: u64,
     left: u64,
@@ -207,12 +208,10 @@ impl CountedRead for Slow<'_> {
             return Err(io::Error::from(io::ErrorKind::Interrupted));
         }
         self.left -= 1;
-        if self.text.is_empty() || buf.is_empty() {
-            return Ok(0);
-        }
-        buf[0] = self.text[0];
-        self.text = &self.text[1..];
-        Ok(1)
+        let count = self.step.min(self.text.len()).min(buf.len());
+        buf[..count].copy_from_slice(&self.text[..count]);
+        self.text = &self.text[count..];
+        Ok(count)
     }
 
     fn failures(&self) -> u64 {
@@ -223,10 +222,12 @@ impl CountedRead for Slow<'_> {
 fn read_slowly(
     alloc: Global,
     text: &str,
+    step: usize,
     fail_at: u64,
 ) -> (Result<Capture<Global>, CaptureFault>, u64) {
     let mut slow = Slow {
         text: text.as_bytes(),
+        step,
         fail_at,
         failures: 0,
         left: u64::MAX,
@@ -249,7 +250,7 @@ const TEXT: &str = "I 1 NEAR O\r\nI 2 FAR O\nI 3 CAL C 1 2\n\nA 0102\nQ\nB ff\nS
 #[test]
 fn one_byte_at_a_time_is_the_same(rt: HostRuntime) -> Result<(), Fail> {
     let at_once = read(rt.alloc(), TEXT)?;
-    let (slowly, failures) = read_slowly(rt.alloc(), TEXT, u64::MAX);
+    let (slowly, failures) = read_slowly(rt.alloc(), TEXT, 1, u64::MAX);
     let slowly = slowly?;
     assert_eq!(rt; failures, 0);
     assert_eq!(rt; slowly.instruments().len(), 3);
@@ -269,11 +270,11 @@ fn a_failed_read_is_told(rt: HostRuntime) -> Result<(), Fail> {
     // The last read finds the end.
     let reads = TEXT.len() as u64 + 1;
     for call in 0..reads {
-        let (answer, failures) = read_slowly(rt.alloc(), TEXT, call);
+        let (answer, failures) = read_slowly(rt.alloc(), TEXT, 1, call);
         assert_eq!(rt; answer.err(), Some(CaptureFault::Input));
         assert_eq!(rt; failures, 1);
     }
-    let (answer, failures) = read_slowly(rt.alloc(), TEXT, reads);
+    let (answer, failures) = read_slowly(rt.alloc(), TEXT, 1, reads);
     assert!(rt; answer.is_ok());
     assert_eq!(rt; failures, 0);
     Ok(())
@@ -283,6 +284,7 @@ fn a_failed_read_is_told(rt: HostRuntime) -> Result<(), Fail> {
 fn a_reader_without_reads_fails(rt: HostRuntime) -> Result<(), Fail> {
     let mut spent = Slow {
         text: TEXT.as_bytes(),
+        step: 1,
         fail_at: u64::MAX,
         failures: 0,
         left: 10,
@@ -295,5 +297,67 @@ fn a_reader_without_reads_fails(rt: HostRuntime) -> Result<(), Fail> {
     let mut counting = CountingReader::new(TEXT.as_bytes());
     assert!(rt; read_capture(rt.alloc(), &mut counting).is_ok());
     assert_eq!(rt; counting.failures(), 0);
+    Ok(())
+}
+
+// Lines that repeat the digits of the line before, or nearly do.
+const REPEATS: &str = concat!(
+    "I 1 N O\nA 0a0B\nB 0a0B\nA 0a0b\nS 0a0b\nX\nS 0a0b\nB 0\nA 0\nB 00 \n",
+    "A 00 01\nB 00 01\nA 0001\nB 0002\nB 0002\r\nA 0002\r\nB 00020\nA 00\nC 00\n\nB 00\nB 0"
+);
+
+fn is_record(record: &Record<Global>, line: u32, bytes: &[u8]) -> bool {
+    record.line() == line && has_bytes(record, bytes)
+}
+
+#[test]
+fn a_repeat_is_what_its_line_says(rt: HostRuntime) -> Result<(), Fail> {
+    let capture = read(rt.alloc(), REPEATS)?;
+    assert_eq!(rt; capture.a().len(), 5);
+    assert!(rt; is_record(&capture.a()[0], 2, &[10u8, 11]));
+    assert!(rt; is_record(&capture.a()[1], 4, &[10u8, 11]));
+    assert!(rt; is_record(&capture.a()[2], 13, &[0u8, 1]));
+    assert!(rt; is_record(&capture.a()[3], 16, &[0u8, 2]));
+    assert!(rt; is_record(&capture.a()[4], 18, &[0u8]));
+    assert_eq!(rt; capture.b().len(), 4);
+    assert!(rt; is_record(&capture.b()[0], 3, &[10u8, 11]));
+    assert!(rt; is_record(&capture.b()[1], 14, &[0u8, 2]));
+    assert!(rt; is_record(&capture.b()[2], 15, &[0u8, 2]));
+    assert!(rt; is_record(&capture.b()[3], 21, &[0u8]));
+    assert_eq!(rt; capture.s().len(), 3);
+    assert!(rt; is_record(&capture.s()[0], 5, &[10u8, 11]));
+    assert!(rt; capture.s()[1].bytes().is_none());
+    assert!(rt; is_record(&capture.s()[2], 7, &[10u8, 11]));
+    Ok(())
+}
+
+#[test]
+fn a_repeat_is_skipped_as_its_line_says(rt: HostRuntime) -> Result<(), Fail> {
+    let capture = read(rt.alloc(), REPEATS)?;
+    let lines = [
+        skipped(8, Skip::Hex),
+        skipped(9, Skip::Hex),
+        skipped(10, Skip::LineForm),
+        skipped(11, Skip::LineForm),
+        skipped(12, Skip::LineForm),
+        skipped(17, Skip::Hex),
+        skipped(19, Skip::LineForm),
+        skipped(22, Skip::Hex),
+    ];
+    assert_eq!(rt; capture.skipped(), lines.as_slice());
+    Ok(())
+}
+
+#[test]
+fn pieces_of_each_size_are_the_same(rt: HostRuntime) -> Result<(), Fail> {
+    let at_once = read(rt.alloc(), REPEATS)?;
+    for step in 1..=REPEATS.len() {
+        let (slowly, _) = read_slowly(rt.alloc(), REPEATS, step, u64::MAX);
+        let slowly = slowly?;
+        is_same(&rt, at_once.a(), slowly.a());
+        is_same(&rt, at_once.b(), slowly.b());
+        is_same(&rt, at_once.s(), slowly.s());
+        assert_eq!(rt; at_once.skipped(), slowly.skipped());
+    }
     Ok(())
 }
