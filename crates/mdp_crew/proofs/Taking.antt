@@ -196,7 +196,7 @@ module _ {A : Type 0} where
 
   -- ---- all turns
 
-  took_nothing : (ps : List (Post A)) → ps ≡ all_took ps (nothing (length ps))
+  pub took_nothing : (ps : List (Post A)) → ps ≡ all_took ps (nothing (length ps))
   took_nothing [] = refl
   took_nothing (p ∷ ps) =
       let here : p ≡ took p [] = λ k. record p { answers = record p.answers { taken = sym (append-nil p.answers.taken) k } } in

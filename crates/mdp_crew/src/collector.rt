@@ -56,39 +56,46 @@ fn all_are_finished<A: Allocator>(round: &[Answer<A>]) -> bool
     round.iter().all(finishes)
 }
 
-// Takes a worker's answers up to its last.
-fn drain<R: Wait, A: Allocator + Copy>(
+fn none_tells<A: Allocator>(round: &[Answer<A>]) -> bool {
+    !round.iter().any(tells)
+}
+
+// Takes a worker's next answer in the place of this one, unless this was its last.
+fn take_next<R: Wait, A: Allocator + Copy>(
     rt: &R,
     answers: &mut LaneReceiver<Answer<A>, A>,
-    has_ended: bool,
+    answer: &mut Answer<A>,
 )
     ensures { (more : List (Answer A)) × (answers.new ≡ record answers.old { taken = answers.old.taken ++ more }) }
 {
-    if has_ended {
+    if !tells(answer) {
         return;
     }
-    for _ in rt.forever() {
-        let answer = answers.take(rt);
-        if !tells(&answer) {
-            break;
-        }
-    }
+    *answer = answers.take(rt);
 }
 
-// Whether the answer at this place was a worker's last.
-fn has_ended<A: Allocator>(round: &[Answer<A>], place: usize) -> bool {
-    match round.get(place) {
-        Some(answer) => !tells(answer),
-        None => true,
-    }
-}
-
-// Takes all workers' answers up to their last ones, after this round.
-fn drain_all<R: Wait, A: Allocator + Copy>(rt: &R, posts: &mut [Post<A>], round: &[Answer<A>])
-    ensures { (more : List (List (Answer A))) × (length more ≡ length posts.old) × (posts.new ≡ all_took posts.old more) }
+// Takes the next answer of each worker that has not ended.
+fn drain_round<R: Wait, A: Allocator + Copy>(rt: &R, posts: &mut [Post<A>], round: &mut [Answer<A>])
+    requires { length round.old ≡ length posts.old }
+    ensures took { (more : List (List (Answer A))) × (length more ≡ length posts.old) × (posts.new ≡ all_took posts.old more) }
+    ensures long { length round.new ≡ length round.old }
 {
     for n in 0..posts.len() {
-        drain(rt, &mut posts[n].answers, has_ended(round, n));
+        take_next(rt, &mut posts[n].answers, &mut round[n]);
+    }
+}
+
+// Takes all workers' answers up to their last ones, after this round. It takes one of each at a time: where it took all of one worker's
+// first, the others would wait for room in their lanes, the arbiter for them, and that worker for the arbiter.
+fn drain_all<R: Wait, A: Allocator + Copy>(rt: &R, posts: &mut [Post<A>], round: &mut [Answer<A>])
+    requires { length round.old ≡ length posts.old }
+    ensures { (more : List (List (Answer A))) × (length more ≡ length posts.old) × (posts.new ≡ all_took posts.old more) }
+{
+    for _ in rt.forever() {
+        if none_tells(round) {
+            return;
+        }
+        drain_round(rt, posts, round);
     }
 }
 
@@ -162,13 +169,13 @@ fn turn<R: Wait, W: CountedWrite, A: Allocator + Copy>(
         return Some(Ok(()));
     }
     if !all_are_told(round) {
-        drain_all(rt, posts, round);
+        drain_all(rt, posts, round.as_mut_slice());
         return Some(Err(Stop::Memory));
     }
     match write_round(alloc, collector, round, text, written, writer) {
         Ok(()) => None,
         Err(stop) => {
-            drain_all(rt, posts, round);
+            drain_all(rt, posts, round.as_mut_slice());
             Some(Err(stop))
         }
     }

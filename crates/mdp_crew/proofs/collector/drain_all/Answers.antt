@@ -1,17 +1,18 @@
-use Rattle.std.proofs.Common.{◌∷◌, ◌++◌, [], List, refl, arith}
-use Rattle.std.proofs.lemmas.List.{length-append}
+use Rattle.std.proofs.Common.{◌≡◌, List, length, replicate, sym, ap, ◌∙◌, []}
 use Rattle.mdp_reports.specs.declared.answer.Answer.{Answer}
-use Rattle.mdp_crew.proofs.Taking.{took_none, took_step}
+use Rattle.mdp_crew.specs.Rounds.{all_took}
+use Rattle.mdp_crew.proofs.Taking.{joined, length-joined, length-nothing, length-took, took_nothing, took_took}
 use Rattle.mdp_crew.proofs.collector.drain_all.Goals as goal
 
-pub loop-n-init : goal.loop-n-init
-loop-n-init g c = ([], refl, took_none _)
+pub loop-init : goal.loop-init
+loop-init g c = (replicate (length c.args.posts.now) [], length-nothing _ [], took_nothing c.args.posts.now, c.requires)
 
-pub loop-n-preserved : goal.loop-n-preserved
-loop-n-preserved g c =
-    let was = c.loop-n.invariant in
-    let row : List (Answer g.row.A.Denot) = c.drain.ensures.0 in (
-      was.0 ++ row ∷ [],
-      omega (arith, length-append was.0 (row ∷ []), was.1),
-      took_step c.args.posts.now was.0 c.loop-n.posts c.loop-n.n c.index-posts-n.result row c.drain.new.answers was.1 was.2 c.loop-n-test.true c.index-posts-n.is c.drain.ensures.1,
+pub loop-preserved : goal.loop-preserved
+loop-preserved g c =
+    let was = c.loop.invariant in
+    let next = c.drain_round.ensures.took in (
+      joined was.0 next.0,
+      length-joined was.0 next.0 ∙ was.1,
+      next.2 ∙ ap (λ l. all_took l next.0) was.2 ∙ took_took c.args.posts.now was.0 next.0 was.1,
+      c.drain_round.ensures.long ∙ was.3 ∙ sym (ap length next.2 ∙ length-took c.loop.posts next.0),
     )

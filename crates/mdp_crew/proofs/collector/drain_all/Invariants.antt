@@ -3,5 +3,5 @@ use Rattle.mdp_reports.specs.declared.answer.Answer.{Answer}
 use Rattle.mdp_crew.specs.Rounds.{all_took}
 use Rattle.mdp_crew.proofs.collector.drain_all.Given as goal
 
-abbrev pub invariant-loop-n : goal.invariant-loop-n
-invariant-loop-n g l = (more : List (List (Answer g.row.A.Denot))) × (length more ≡ l.n) × (l.posts ≡ all_took l.fn.posts more)
+abbrev pub invariant-loop : goal.invariant-loop
+invariant-loop g l = (more : List (List (Answer g.row.A.Denot))) × (length more ≡ length l.fn.posts) × (l.posts ≡ all_took l.fn.posts more) × (length l.round ≡ length l.posts)

@@ -1,0 +1,18 @@
+use Rattle.std.proofs.Common.{◌∷◌, ◌++◌, ◌∙◌, [], List, refl, arith}
+use Rattle.std.proofs.lemmas.List.{length-append, length-set}
+use Rattle.mdp_reports.specs.declared.answer.Answer.{Answer}
+use Rattle.mdp_crew.proofs.Taking.{took_none, took_step}
+use Rattle.mdp_crew.proofs.collector.drain_round.Goals as goal
+
+pub loop-n-init : goal.loop-n-init
+loop-n-init g c = ([], refl, took_none _, refl)
+
+pub loop-n-preserved : goal.loop-n-preserved
+loop-n-preserved g c =
+    let was = c.loop-n.invariant in
+    let row : List (Answer g.row.A.Denot) = c.take_next.ensures.0 in (
+      was.0 ++ row ∷ [],
+      omega (arith, length-append was.0 (row ∷ []), was.1),
+      took_step c.args.posts.now was.0 c.loop-n.posts c.loop-n.n c.index-posts-n.result row c.take_next.new.answers was.1 was.2 c.loop-n-test.true c.index-posts-n.is c.take_next.ensures.1,
+      length-set c.loop-n.round c.loop-n.n c.take_next.new.answer ∙ was.3,
+    )
