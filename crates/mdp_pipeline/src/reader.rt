@@ -24,7 +24,7 @@ use std::sync::{OnceLock, Wait};
 
 /// How many events a batch holds at most. A reader's batches hold 1, 2, 4 events and so on up to this many: so its first event
 /// is handed over at once, and under load a batch costs little.
-const MOST_EVENTS: usize = 64;
+const MOST_EVENTS: usize = 128;
 
 /// A reader's sender, and what it has read and not handed over yet.
 #[derive(Drop)]
