@@ -50,6 +50,7 @@ run_examples() {
 run_part "rt ci" rt ci
 run_part "the examples" run_examples
 run_part "the rows" tests/run_rows.sh "$program"
+run_part "the refusals of the system" tests/run_refusals.sh "$program"
 run_part "the definitions" tests/check_definitions.sh
 echo "$passed passed, $failed failed"
 [ "$failed" -eq 0 ]

@@ -22,6 +22,9 @@ cp "$rows/three_hundred_packets/capture" "$capture"
 chmod 644 "$capture"
 text=$scratch/text
 cp "$rows/three_hundred_packets/stdout" "$text"
+# The same with feed B's datagrams again and again: the text is the same, and it takes some ten megabytes.
+long=$scratch/long
+{ cat "$capture"; for _ in {1..100}; do grep '^B ' "$capture"; done; } >"$long"
 passed=0
 failed=0
 
@@ -61,9 +64,9 @@ is_whole_or_wants_memory() {
     fi
 }
 
-# Runs the program with these words over the capture, its output in a file.
+# Runs the program with these words over the long capture, its output in a file.
 run() {
-    timeout 10 "$program" "$@" <"$capture" >"$scratch/out" 2>"$scratch/err"
+    timeout 10 "$program" "$@" <"$long" >"$scratch/out" 2>"$scratch/err"
     echo $? >"$scratch/status"
 }
 
@@ -92,7 +95,7 @@ for words in --in-order --workers=1 --workers=16; do
 
     # From too little for the capture up to what suffices.
     wanted=0
-    for limit in 8000 10000 12000 16000 24000 48000 96000 200000 800000; do
+    for limit in 3000 4000 6000 8000 12000 24000 48000 96000 200000 800000; do
         (ulimit -v "$limit" 2>/dev/null && run "$words")
         case $(cat "$scratch/status") in
             126 | 127) continue ;;
@@ -107,12 +110,9 @@ done
 if [ "$(id -u)" = 0 ] && command -v setpriv >/dev/null; then
     as_other=(setpriv --reuid=61234 --regid=61234 --clear-groups)
     if "${as_other[@]}" test -x "$program" 2>/dev/null; then
-        "${as_other[@]}" bash -c "ulimit -u 1; exec timeout 10 \"$program\" --workers=2" <"$capture" >"$scratch/out" 2>"$scratch/err"
+        timeout 10 "${as_other[@]}" bash -c "ulimit -u 1; exec \"$program\" --workers=2" <"$capture" >"$scratch/out" 2>"$scratch/err"
         echo $? >"$scratch/status"
-        case $(cat "$scratch/status") in
-            125 | 126) echo "not run: timeout itself can't be started with one process" ;;
-            *) judge "one process" ended_with "41 Memory" ;;
-        esac
+        judge "one process" ended_with "41 Memory"
     else
         echo "not run: another user can't run the program here"
     fi
