@@ -39,7 +39,10 @@ AreRowsAfter rows steps = (slot : ℕ) → slot < length rows → slice_index_or
 
 -- what an end that knows nothing yet knows
 abbrev pub newcomer : Known
-newcomer = record { slots = 0; front = record { marker = record {}; book = record { number = 0; log_name = 0; cells_name = 0 }; names = []; log = [] } }
+newcomer = record {
+  slots = 0;
+  front = record { marker = record {}; book = record { number = 0; log_name = 0; cells_name = 0 }; names = []; log = [] };
+}
 
 -- an end that knows of so many slots of this board
 abbrev pub Knows : Known → Book → ℕ → Type 0

@@ -1,5 +1,6 @@
 -- The rows of a board after the steps that were published on it.
-use Rattle.std.specs.Prelude.{◌≡◌, ◌==◌, ℕ, Bool, true, false, List, [], ◌∷◌, ◌++◌, map, filter, flat_map, if◌then◌else◌}
+use Rattle.std.specs.Prelude.{◌≡◌, ◌==◌, ℕ, Bool, true, false, List, [], ◌∷◌, ◌++◌, map, filter}
+use Rattle.std.specs.Prelude.{flat_map, if◌then◌else◌}
 use Rattle.std.specs.List.{list_any}
 use Rattle.mdp_lanes.specs.declared.row.Row.{Row}
 use Rattle.mdp_lanes.specs.declared.row.Row.TheVariants.{Never, Stale}

@@ -128,7 +128,9 @@ fn make_readers<A: Allocator + Copy>(
     requires slots { 0 < slots }
     requires front { front.now.log ≡ [] }
     requires known { Knows (view writer.old.desk.place) front.now.book slots }
-    ensures same { (writer.new.desk.shown ≡ writer.old.desk.shown) × (writer.new.log ≡ writer.old.log) × (writer.new.behind ≡ writer.old.behind) }
+    ensures same { (writer.new.desk.shown ≡ writer.old.desk.shown)
+        × (writer.new.log ≡ writer.old.log)
+        × (writer.new.behind ≡ writer.old.behind) }
     ensures many { IfOk result (λ ends. vec_len ends ≡ readers) }
     ensures ends { IfOk result (λ ends. All (IsFreshReader front.now.book slots) ends.items) }
 {
@@ -153,7 +155,9 @@ fn make_reader<A: Allocator + Copy>(
     requires slots { 0 < slots }
     requires front { front.now.log ≡ [] }
     requires known { Knows (view writer.old.desk.place) front.now.book slots }
-    ensures same { (writer.new.desk.shown ≡ writer.old.desk.shown) × (writer.new.log ≡ writer.old.log) × (writer.new.behind ≡ writer.old.behind) }
+    ensures same { (writer.new.desk.shown ≡ writer.old.desk.shown)
+        × (writer.new.log ≡ writer.old.log)
+        × (writer.new.behind ≡ writer.old.behind) }
     ensures known { view writer.new.desk.place ≡ view writer.old.desk.place }
     ensures end { IfSome result (IsFreshReader front.now.book slots) }
 {
