@@ -6,3 +6,8 @@ pub mod Endings
 pub mod IntakeSteps
 pub mod Settling
 pub mod LaneSteps
+pub mod Fronts
+pub mod RowSteps
+pub mod SheetSteps
+pub mod HistorySteps
+pub mod BoardSteps

@@ -3,3 +3,7 @@ pub mod Items
 pub mod Intakes
 pub mod Lanes
 pub mod Queues
+pub mod Rows
+pub mod Updates
+pub mod History
+pub mod Boards

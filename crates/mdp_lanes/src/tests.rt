@@ -1,4 +1,4 @@
-//! Three threads over an intake, one over a lane, and each allocation refused in turn.
+//! Three threads over an intake, one over a lane, and each allocation refused in turn. (Of boards in a module of its own.)
 
 ghost use Rattle.std.specs.Prelude.{◌≡◌, ◌≤◌, IfOk};
 ghost use Rattle.mdp_lanes.specs.Items.{ends_taken};
@@ -14,6 +14,8 @@ use std::snapshot::Snapshot as Copied;
 use std::sync::Wait;
 use std::thread;
 use std::thread::{Promise, PromisedHandle, Scope, Threads};
+
+mod boards;
 
 /// What a reader of a feed puts.
 #[derive(Drop)]
