@@ -7,7 +7,8 @@ use crate::threads::run_where;
 use mdp_capture::{CountingReader, read_capture};
 use mdp_crew::{Always, Gate, Open, Starts};
 use mdp_print::CountedWrite;
-use std::alloc::Global;
+use refusing::Refusing;
+use std::alloc::{Allocator, Global};
 use std::io::ErrorKind;
 use std::process::Abort;
 use std::sync::Wait;
@@ -167,29 +168,31 @@ impl Starts for Except {
     }
 }
 
-// Runs over the capture, and gives what that comes to with the bytes that were written.
-fn run_over<R, S, G>(
+// What a run over the capture comes to, and the bytes that were written; nothing where there was no memory for the capture.
+fn run_over<R, S, G, A>(
     rt: &R,
     alloc: Global,
+    heap: A,
     starts: &S,
     workers: u16,
     gate: &G,
-) -> Result<(Result<Summary, RunFault>, Vec<u8>), Fail>
+) -> Option<(Result<Summary, RunFault>, Vec<u8>)>
 where
     R: Threads + Wait + Sync,
     S: Starts + Sync,
     G: Gate + Sync,
+    A: Allocator + Copy + Send + Sync,
     requires { 1 ≤ workers }
 {
     let mut text = CountingReader::new(CAPTURE);
-    let Ok(capture) = read_capture(alloc, &mut text) else {
-        return Err("the capture can't be read".into());
+    let Ok(capture) = read_capture(heap, &mut text) else {
+        return None;
     };
     let mut kept = Kept::new(alloc);
     let outcome = run_where(
         rt,
         starts,
-        alloc,
+        heap,
         capture.instruments(),
         capture.a(),
         capture.b(),
@@ -199,7 +202,7 @@ where
         gate,
         &mut kept,
     );
-    Ok((outcome, kept.bytes))
+    Some((outcome, kept.bytes))
 }
 
 #[test]
@@ -210,7 +213,9 @@ fn prints_what_any_merge_gives(rt: HostRuntime) -> Result<(), Fail> {
         written: TEXT.len() as u64,
     };
     for workers in [1, 2, 3, 16] {
-        let (outcome, bytes) = run_over(&rt, rt.alloc(), &Always, workers, &Open)?;
+        let Some((outcome, bytes)) = run_over(&rt, rt.alloc(), rt.alloc(), &Always, workers, &Open) else {
+        return Err("no memory for the capture".into());
+    };
         assert_eq!(rt; outcome, Ok(summary));
         assert_eq!(rt; bytes.as_slice(), TEXT);
     }
@@ -223,7 +228,9 @@ fn readers_run_at_once_and_so_do_workers(rt: HostRuntime) -> Result<(), Fail> {
         readers: Meeting::new(),
         workers: Meeting::new(),
     };
-    let (outcome, bytes) = run_over(&rt, rt.alloc(), &Always, 2, &gate)?;
+    let Some((outcome, bytes)) = run_over(&rt, rt.alloc(), rt.alloc(), &Always, 2, &gate) else {
+        return Err("no memory for the capture".into());
+    };
     assert!(rt; outcome.is_ok());
     assert!(rt; !gate.readers.has_late());
     assert!(rt; !gate.workers.has_late());
@@ -236,7 +243,9 @@ fn workers_work_beside_readers(rt: HostRuntime) -> Result<(), Fail> {
     let gate = WorkBesideReading {
         workers: Meeting::new(),
     };
-    let (outcome, bytes) = run_over(&rt, rt.alloc(), &Always, 2, &gate)?;
+    let Some((outcome, bytes)) = run_over(&rt, rt.alloc(), rt.alloc(), &Always, 2, &gate) else {
+        return Err("no memory for the capture".into());
+    };
     assert!(rt; outcome.is_ok());
     assert!(rt; !gate.workers.has_late());
     assert_eq!(rt; bytes.as_slice(), TEXT);
@@ -247,10 +256,36 @@ fn workers_work_beside_readers(rt: HostRuntime) -> Result<(), Fail> {
 #[test]
 fn each_start_refused(rt: HostRuntime) -> Result<(), Fail> {
     for thread in 0..6usize {
-        let (outcome, bytes) = run_over(&rt, rt.alloc(), &Except(thread), 2, &Open)?;
+        let Some((outcome, bytes)) = run_over(&rt, rt.alloc(), rt.alloc(), &Except(thread), 2, &Open) else {
+        return Err("no memory for the capture".into());
+    };
         let written = bytes.len() as u64;
         assert_eq!(rt; outcome, Err(RunFault::Memory { written }));
         assert!(rt; TEXT.starts_with(&bytes));
+    }
+    Ok(())
+}
+
+// Each of these threads refused, and each allocation besides.
+#[test]
+fn each_start_refused_with_each_allocation(rt: HostRuntime) -> Result<(), Fail> {
+    for thread in 0..6usize {
+        let starts = Except(thread);
+        let mut refused = 0u64;
+        for number in 1..10_000u64 {
+            let heap = Refusing::new(rt.alloc(), number);
+            let Some((outcome, bytes)) = run_over(&rt, rt.alloc(), &heap, &starts, 2, &Open) else {
+                continue;
+            };
+            let written = bytes.len() as u64;
+            assert_eq!(rt; outcome, Err(RunFault::Memory { written }));
+            assert!(rt; TEXT.starts_with(&bytes));
+            if !heap.has_refused() {
+                break;
+            }
+            refused += 1;
+        }
+        assert!(rt; refused > 5);
     }
     Ok(())
 }
