@@ -21,6 +21,10 @@ use std::alloc::Allocator;
 /// The length of a root block up to its match event indicator, which ends it, in bytes.
 const ROOT_LENGTH: u16 = 9;
 
+/// How many messages room is taken for at first: few packets have more, and a list of so many is small enough for the C library to take
+/// it back from another thread without a lock.
+const USUAL_MESSAGES: usize = 3;
+
 /// Bit 7 of the match event indicator: the message is the last of its event.
 const LAST_OF_EVENT: u8 = 0x80;
 
@@ -75,7 +79,7 @@ fn read_messages<A: Allocator + Copy>(alloc: A, rest: &[u8]) -> Result<Vec<Messa
     ensures ok { IfOk result (λ v. AreMessages IsIncremental rest.now v.items []) }
     ensures refused { IfErr result (OnRefusal (AreRefused IsIncremental IsRefusedIncremental rest.now)) }
 {
-    let mut list = Vec::new(alloc);
+    let mut list = Vec::with_capacity(alloc, USUAL_MESSAGES)?;
     let mut cursor = Messages::new(rest);
     while let Some(next) = cursor.next() {
         let message = next?;
