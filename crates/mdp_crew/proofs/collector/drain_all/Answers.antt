@@ -1,5 +1,4 @@
-use Rattle.std.proofs.Common.{◌≡◌, List, length, replicate, sym, ap, ◌∙◌, []}
-use Rattle.mdp_reports.specs.declared.answer.Answer.{Answer}
+use Rattle.std.proofs.Common.{length, replicate, sym, ap, ◌∙◌, []}
 use Rattle.mdp_crew.specs.Rounds.{all_took}
 use Rattle.mdp_crew.proofs.Taking.{joined, length-joined, length-nothing, length-took, took_nothing, took_took}
 use Rattle.mdp_crew.proofs.collector.drain_all.Goals as goal
