@@ -72,7 +72,10 @@ fn fail_each<R: Threads + Wait + Sync + Abort>(
 fn each_write_fails_in_turn(rt: HostRuntime) -> Result<(), Fail> {
     let alloc = rt.alloc();
     for failure in FAILURES {
-        for words in [["--in-order", "--workers=1"], ["--window=1024", "--workers=2"]] {
+        for words in [
+            ["--in-order", "--workers=1"],
+            ["--window=1024", "--workers=2"],
+        ] {
             let words = ["mdp_handler", words[0], words[1]];
             fail_each(&rt, alloc, &words, failure, SPREAD, SPREAD_TEXT)?;
         }

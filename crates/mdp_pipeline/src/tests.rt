@@ -213,9 +213,10 @@ fn prints_what_any_merge_gives(rt: HostRuntime) -> Result<(), Fail> {
         written: TEXT.len() as u64,
     };
     for workers in [1, 2, 3, 16] {
-        let Some((outcome, bytes)) = run_over(&rt, rt.alloc(), rt.alloc(), &Always, workers, &Open) else {
-        return Err("no memory for the capture".into());
-    };
+        let Some((outcome, bytes)) = run_over(&rt, rt.alloc(), rt.alloc(), &Always, workers, &Open)
+        else {
+            return Err("no memory for the capture".into());
+        };
         assert_eq!(rt; outcome, Ok(summary));
         assert_eq!(rt; bytes.as_slice(), TEXT);
     }
@@ -256,9 +257,16 @@ fn workers_work_beside_readers(rt: HostRuntime) -> Result<(), Fail> {
 #[test]
 fn each_start_refused(rt: HostRuntime) -> Result<(), Fail> {
     for thread in 0..6usize {
-        let Some((outcome, bytes)) = run_over(&rt, rt.alloc(), rt.alloc(), &Except(thread), 2, &Open) else {
-        return Err("no memory for the capture".into());
-    };
+        let Some((outcome, bytes)) = run_over(
+            &rt,
+            rt.alloc(),
+            rt.alloc(),
+            &Except(thread),
+            2,
+            &Open,
+        ) else {
+            return Err("no memory for the capture".into());
+        };
         let written = bytes.len() as u64;
         assert_eq!(rt; outcome, Err(RunFault::Memory { written }));
         assert!(rt; TEXT.starts_with(&bytes));
