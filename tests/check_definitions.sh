@@ -1,7 +1,8 @@
 #!/usr/bin/env bash
-# Checks that each definition that docs/DEFINITIONS.md names stands where it says: in the first column of its tables each name in
-# backticks must be defined in a file of definitions (crates/*/specs) that the row's third column names, or be an enum or a
-# struct of a crate. Tells each that isn't, and then 'N passed, M failed'. The exit status is 1 if any failed.
+# Checks docs/DEFINITIONS.md both ways. Each definition that it names stands where it says: in the first column of its tables each
+# name in backticks must be defined in a file of definitions (crates/*/specs) that the row's third column names, or be an enum or a
+# struct of a crate. And each public definition of these files is named there, in a table or below one. Tells each that isn't, and
+# then 'N passed, M failed'. The exit status is 1 if any failed.
 set -u
 
 cd "$(dirname "$(realpath "$0")")/.." || exit 2
@@ -15,6 +16,7 @@ awk '
         sub(/.*\//, "", base)
         sub(/\.antt$/, "", base)
         defined[base, $3] = 1
+        place[$3] = FILENAME ":" FNR
         next
     }
 
@@ -24,6 +26,15 @@ awk '
             types[words[3]] = 1
         }
         next
+    }
+
+    # Every name of the document, whatever stands round it.
+    {
+        words_left = $0
+        while (match(words_left, /`[^`]+`/)) {
+            named[substr(words_left, RSTART + 1, RLENGTH - 2)] = 1
+            words_left = substr(words_left, RSTART + RLENGTH)
+        }
     }
 
     # A row of a table: its names, and the files that it names.
@@ -43,6 +54,11 @@ awk '
     }
 
     END {
+        for (name in place) {
+            if (name in named) { passed++; continue }
+            failed++
+            printf "%s: %s is not named in the document\n", place[name], name
+        }
         if (passed + failed == 0) failed++
         printf "%d passed, %d failed\n", passed, failed
         exit failed > 0
