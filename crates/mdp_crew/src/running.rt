@@ -257,14 +257,15 @@ where
 
 /// Runs over what three readers hand over, once they are told to go: an arbiter and so many workers in threads of the scope, and the
 /// collector on the caller's thread, which writes the text. All that the readers hand over is taken, and all threads are joined, on
-/// every path. Where a thread can't be started the readers are told to stop.
+/// every path. Where a thread can't be started the readers are told to stop; where it is the arbiter's, it arbitrates on the caller's
+/// thread what they put before.
 ///
 /// The number of workers is 1 to 16, and the window covers 1 to 65536 packet numbers.
 ///
 /// # Errors
 ///
-/// `Output` exactly where a write failed, else `Memory`, also where a thread can't be started. What went out is a beginning of what
-/// the whole run shows.
+/// `Output` exactly where a write failed, else `Memory`, also where a worker's thread can't be started. What went out is a beginning of
+/// what the whole run shows.
 pub fn run_crew<'s, E, R, S, G, W, A>(
     rt: &'s R,
     scope: &'s Scope<'s, E>,
