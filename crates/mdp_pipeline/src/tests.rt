@@ -291,7 +291,7 @@ fn each_start_refused_with_each_allocation(rt: HostRuntime) -> Result<(), Fail> 
             if !heap.has_refused() {
                 break;
             }
-            refused += 1;
+            refused = number;
         }
         assert!(rt; refused > 5);
     }
