@@ -1,7 +1,8 @@
 -- What went into the lanes, batch by batch, and what was taken of the readers.
-use Rattle.std.proofs.Common.{◌≡◌, ℕ, List, [], ◌∷◌, ◌++◌, map, refl, sym, ap, subst, ◌∙◌, append_assoc}
+use Rattle.std.proofs.Common.{◌≡◌, ◌==◌, ℕ, true, true≢false, inl, inr, length, List, [], ◌∷◌, ◌++◌, map, refl, sym, ap, subst, ◌∙◌, append_assoc}
 use Rattle.std.specs.Prelude.{Result, Ok, Err, IfErr, OnOk}
-use Rattle.std.proofs.lemmas.List.{append-nil, map-append}
+use Rattle.std.proofs.lemmas.Bool.Decides.{eqb_tells}
+use Rattle.std.proofs.lemmas.List.{append-nil, map-append, nil_from_length}
 use Rattle.std.proofs.lemmas.List.Concat.{flat_map-append}
 use Rattle.mdp_templates.specs.declared.feed.Feed.{Feed}
 use Rattle.mdp_templates.specs.declared.instrument.Instrument.{Instrument}
@@ -26,6 +27,9 @@ pub lost_there : (listed : List Instrument) (room : ℕ) (events : List Event) (
     → is_lost v.channel events (state v) ≡ is_lost (channel_of listed room) events (state_at (channel_of listed room) events)
 lost_there listed room events batches v sent =
     ap (λ (c : Channel). is_lost c events (state v)) sent.channel ∙ ap (is_lost (channel_of listed room) events) (state_there listed room events batches v sent)
+
+pub none_there : {X : Type 0} (xs : List X) → true ≡ (length xs == 0) → xs ≡ []
+none_there xs empty = elim (eqb_tells (length xs) 0) [ inl e ↦ nil_from_length xs e.1 | inr e ↦ absurd (true≢false (empty ∙ e.0)) ]
 
 module _ {A : Type 0} where
   -- ---- lanes

@@ -15,7 +15,7 @@ use Rattle.mdp_desks.specs.Desks.{passed_desks, passed_text, rebased_desks}
 -- the event of the recovery machine that came
 abbrev pub event_of : {A : Type 0} → Event A → Accepted
 event_of (Packet packet) = came packet
-event_of (Snapshot snapshot) = recovered snapshot
+event_of (Snapshot snapshot) = recovered snapshot.value
 event_of Close = closed
 
 -- the desks after a step, where a jump took these snapshots

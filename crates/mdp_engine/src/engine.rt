@@ -177,7 +177,7 @@ impl<A: Allocator + Copy, W: Window<Packet<A>> + Drop> Engine<A, W> {
                 Put::Memory(_) => Err(Memory),
             },
             Event::Snapshot(snapshot) => {
-                self.arbiter.snapshot(snapshot);
+                self.arbiter.snapshot(Box::into_inner(snapshot));
                 Ok(())
             }
             Event::Close => {

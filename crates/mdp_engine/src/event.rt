@@ -1,6 +1,7 @@
 //! What comes on a channel.
 
 ghost use Rattle.std.specs.Prelude.{◌≡◌, IfOk};
+ghost use Rattle.mdp_arbiter.specs.Accepted.{recovered};
 ghost use Rattle.mdp_engine.specs.Steps.{event_of};
 
 use mdp_templates::{Memory, Packet, Snapshot};
@@ -11,10 +12,19 @@ use std::alloc::Allocator;
 pub enum Event<A: Allocator> {
     /// A packet came on one of the two incremental feeds.
     Packet(Packet<A>),
-    /// A snapshot came on the market recovery feed.
-    Snapshot(Snapshot),
+    /// A snapshot came on the market recovery feed. It is ten times as large as a packet's own part, so it is boxed.
+    Snapshot(Box<Snapshot, A>),
     /// The channel was closed.
     Close,
+}
+
+impl<A: Allocator> Event<A> {
+    /// The event of a snapshot, or want of memory.
+    pub fn snapshot(alloc: A, snapshot: Snapshot) -> Result<Event<A>, Memory>
+        ensures { IfOk result (λ event. event_of event ≡ recovered snapshot) }
+    {
+        Ok(Event::Snapshot(Box::new(alloc, snapshot)?))
+    }
 }
 
 impl<A: Allocator + Copy> Event<A> {
@@ -24,7 +34,7 @@ impl<A: Allocator + Copy> Event<A> {
     {
         match self {
             Event::Packet(packet) => Ok(Event::Packet(packet.copy(alloc)?)),
-            Event::Snapshot(snapshot) => Ok(Event::Snapshot(snapshot.copy())),
+            Event::Snapshot(snapshot) => Event::snapshot(alloc, snapshot.copy()),
             Event::Close => Ok(Event::Close),
         }
     }

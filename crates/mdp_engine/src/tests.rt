@@ -194,7 +194,7 @@ fn event(alloc: Global, came: Came) -> Result<Event<Global>, Memory> {
             };
             Ok(Event::Packet(packet(alloc, number, entry)?))
         }
-        Came::Snapshot(last, levels) => Ok(Event::Snapshot(snapshot(last, levels))),
+        Came::Snapshot(last, levels) => Event::snapshot(alloc, snapshot(last, levels)),
         Came::Close => Ok(Event::Close),
     }
 }

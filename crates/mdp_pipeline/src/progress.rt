@@ -53,23 +53,29 @@ impl<A: Allocator + Copy> Run<A> {
     }
 
     // Takes snapshots, in their order.
-    fn recover(&mut self, snapshots: &[Snapshot]) -> Result<(), Memory>
+    fn recover(&mut self, alloc: A, snapshots: &[Snapshot]) -> Result<(), Memory>
         ensures goes { OnOk result (GoesOn (map recovered snapshots.now) self.old.engine self.old.text.items self.new.engine self.new.text.items) }
         ensures refusals { OnOk result (self.new.refusals ≡ self.old.refusals) }
     {
         for snapshot in snapshots {
-            self.on(Event::Snapshot(snapshot.copy()))?;
+            self.on(Event::snapshot(alloc, snapshot.copy())?)?;
         }
         Ok(())
     }
 
     // Takes what a record on this line of a feed says. Of a datagram that is refused its line alone is kept.
-    fn take_in(&mut self, feed: Feed, line: u32, decoded: Decoded<A>) -> Result<(), Memory>
+    fn take_in(
+        &mut self,
+        alloc: A,
+        feed: Feed,
+        line: u32,
+        decoded: Decoded<A>,
+    ) -> Result<(), Memory>
         ensures { OnOk result (TakesSaid feed line (said_of decoded) self.old self.new) }
     {
         match decoded {
             Decoded::Packet(packet) => self.on(Event::Packet(packet))?,
-            Decoded::Snapshots(snapshots) => self.recover(&snapshots)?,
+            Decoded::Snapshots(snapshots) => self.recover(alloc, &snapshots)?,
             Decoded::Close => self.on(Event::Close)?,
             Decoded::Nothing => {}
             Decoded::Refused(refusal) => self.refusals.put(feed, line, refusal)?,
@@ -82,6 +88,6 @@ impl<A: Allocator + Copy> Run<A> {
         ensures { OnOk result (TakesAs (kind_of feed) feed «record».now.line «record».now.received self.old self.new) }
     {
         let decoded = read_record(alloc, feed, record)?;
-        self.take_in(feed, record.line(), decoded)
+        self.take_in(alloc, feed, record.line(), decoded)
     }
 }

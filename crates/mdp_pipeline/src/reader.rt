@@ -49,13 +49,14 @@ pub struct ReaderOutcome<A: Allocator + Copy> {
 
 // Appends snapshots as events, in their order.
 fn push_all<A: Allocator + Copy>(
+    alloc: A,
     events: &mut Vec<Event<A>, A>,
     snapshots: &[Snapshot],
 ) -> Result<(), Memory>
     ensures { OnOk result (map event_of events.new.items ≡ map event_of events.old.items ++ map recovered snapshots.now) }
 {
     for snapshot in snapshots {
-        events.push(Event::Snapshot(snapshot.copy()))?;
+        events.push(Event::snapshot(alloc, snapshot.copy())?)?;
     }
     Ok(())
 }
@@ -71,14 +72,14 @@ fn number_of(feed: Feed) -> usize {
 
 impl<A: Allocator + Copy> Reader<A> {
     // Holds the events that a record on this line brings, or the line of its refusal.
-    fn hold(&mut self, feed: Feed, line: u32, decoded: Decoded<A>) -> Result<(), Memory>
+    fn hold(&mut self, alloc: A, feed: Feed, line: u32, decoded: Decoded<A>) -> Result<(), Memory>
         ensures events { OnOk result (events_held self.new ≡ events_held self.old ++ brought_by (said_of decoded)) }
         ensures refusals { OnOk result (self.new.refusals.items ≡ self.old.refusals.items ++ refusal_text feed line (said_of decoded)) }
         ensures sender { self.new.sender ≡ self.old.sender }
     {
         match decoded {
             Decoded::Packet(packet) => self.events.push(Event::Packet(packet))?,
-            Decoded::Snapshots(snapshots) => push_all(&mut self.events, &snapshots)?,
+            Decoded::Snapshots(snapshots) => push_all(alloc, &mut self.events, &snapshots)?,
             Decoded::Close => self.events.push(Event::Close)?,
             Decoded::Nothing => {}
             Decoded::Refused(refusal) => put_refusal(&mut self.refusals, feed, line, refusal)?,
@@ -146,7 +147,7 @@ impl<A: Allocator + Copy> Reader<A> {
         ensures goes_on { has_ended self.new.sender ≡ false }
     {
         let decoded = read_record(alloc, feed, record)?;
-        self.hold(feed, record.line(), decoded)?;
+        self.hold(alloc, feed, record.line(), decoded)?;
         self.hand_over(rt, alloc);
         Ok(())
     }

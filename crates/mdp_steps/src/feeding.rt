@@ -85,7 +85,7 @@ fn take_in<A: Allocator + Copy, W: Window<Packet<A>> + Drop>(
             Put::Memory(_) => Err(Memory),
         },
         Event::Snapshot(snapshot) => {
-            arbiter.snapshot(snapshot);
+            arbiter.snapshot(Box::into_inner(snapshot));
             Ok(())
         }
         Event::Close => {

@@ -41,15 +41,16 @@ fn packet<A: Allocator + Copy>(alloc: A, number: u32) -> Result<Event<A>, Memory
 }
 
 /// A snapshot of the one security, with an empty book.
-fn snapshot<A: Allocator>(last: u32) -> Event<A> {
-    Event::Snapshot(Snapshot::new(
+fn snapshot<A: Allocator>(alloc: A, last: u32) -> Result<Event<A>, Memory> {
+    let snapshot = Snapshot::new(
         1,
         last,
         ArrayVec::new(),
         ArrayVec::new(),
         ArrayVec::new(),
         ArrayVec::new(),
-    ))
+    );
+    Event::snapshot(alloc, snapshot)
 }
 
 /// Packets 2 and 1; then 4 and 7, which gives 3 up; a snapshot that includes 3; packet 5, a close, and packet 6 too late.
@@ -58,7 +59,7 @@ fn all_events<A: Allocator + Copy>(alloc: A) -> Result<Vec<Event<A>, A>, Memory>
     for number in [2, 1, 4, 7] {
         events.push(packet(alloc, number)?)?;
     }
-    events.push(snapshot(3))?;
+    events.push(snapshot(alloc, 3)?)?;
     events.push(packet(alloc, 5)?)?;
     events.push(Event::Close)?;
     events.push(packet(alloc, 6)?)?;
