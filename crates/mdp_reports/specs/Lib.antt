@@ -6,4 +6,5 @@ pub mod FromAnswers
 pub mod Taking
 pub mod Reporting
 pub mod ReportLaw
+pub mod BoardSteps
 pub mod Worker

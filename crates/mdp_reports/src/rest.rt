@@ -70,6 +70,7 @@ impl<'a> Rest<'a> {
                     slot: row.slot,
                     lines: &self.bytes[row.from..row.to],
                     best: row.best,
+                    top: row.top,
                 };
                 self.rows = rest;
                 Some(line)
