@@ -7,4 +7,5 @@ pub mod Taking
 pub mod Reporting
 pub mod ReportLaw
 pub mod BoardSteps
+pub mod Steps
 pub mod Worker

@@ -4,6 +4,7 @@
 
 mod answer;
 mod audits;
+mod board_steps;
 mod collector;
 mod event_end;
 mod kept;
@@ -18,6 +19,7 @@ mod tests;
 mod worker;
 
 pub use answer::Answer;
+pub use board_steps::{BoardSteps, Posting};
 pub use collector::Collector;
 pub use laws::{law_of_first_desks, law_of_full_jumps, law_of_reports};
 pub use reporting::report;
