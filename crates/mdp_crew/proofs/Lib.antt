@@ -1,3 +1,5 @@
+pub mod BoardStub
+pub mod Boards
 pub mod Taking
 pub mod Settling
 pub mod Hiring
