@@ -8,3 +8,4 @@ pub mod Moves
 pub mod Owning
 pub mod Full
 pub mod Stepping
+pub mod Boarding

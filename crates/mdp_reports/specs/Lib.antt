@@ -7,5 +7,6 @@ pub mod Taking
 pub mod Reporting
 pub mod ReportLaw
 pub mod BoardSteps
+pub mod BoardLaws
 pub mod Steps
 pub mod Worker

@@ -20,6 +20,7 @@ pub struct StepMark {
 }
 
 /// A step, lent from the list that it stands in.
+#[derive(Clone, Copy, Debug, PartialEq, Eq)]
 pub enum Posting<'a> {
     /// An event ended: each pair gives its slot its row.
     Event(&'a [(u16, Row)]),
