@@ -1,5 +1,5 @@
 -- What a reader has handed over, record by record.
-use Rattle.std.proofs.Common.{◌≡◌, ℕ, ◌+◌, ◌<◌, Bool, true, false, List, [], ◌∷◌, ◌++◌, map, take, drop, length, get_or, refl, sym, ap, subst, ◌∙◌, append_assoc}
+use Rattle.std.proofs.Common.{Vec, ◌≡◌, ℕ, ◌+◌, ◌<◌, Bool, true, false, List, [], ◌∷◌, ◌++◌, map, take, drop, length, get_or, refl, sym, ap, subst, ◌∙◌, append_assoc}
 use Rattle.std.specs.Prelude.{◌||◌}
 use Rattle.std.specs.List.{AllByRecursion, flat_map, list_any}
 use Rattle.std.proofs.lemmas.List.{append-nil, map-append, take_more, take-append-drop}
@@ -90,6 +90,22 @@ module _ {A : Type 0} where
   read_next feed records i entry before old new within at so_far one =
       subst (λ (t : List RecordContent). HasReadSoFar feed t before new) (ap (λ (e : RecordContent). take i records ++ e ∷ []) at ∙ sym (take_more records i entry within))
       (read_more feed (take i records) entry before old new so_far one)
+
+  -- what was held was handed over
+  pub moved_on : (feed : Feed) (done : List RecordContent) (before : IntakeSenderView (Batch A)) (old new : Reader A) (batches : List (Batch A)) → HasPut old.sender batches new.sender → events_held old ≡ all_events batches ++ events_held new → new.refusals ≡ old.refusals
+      → HasReadSoFar feed done before old → HasReadSoFar feed done before new
+  moved_on feed done before old new batches put events told so_far = record {
+    batches = so_far.batches ++ batches;
+    put = puts_more before old.sender new.sender so_far.batches batches so_far.put put;
+    readings = so_far.readings;
+    are = so_far.are;
+    front =
+        so_far.front
+        ∙ ap (λ (t : List Event). all_events so_far.batches ++ t) events
+        ∙ sym (append_assoc (all_events so_far.batches) (all_events batches) (events_held new))
+        ∙ ap (λ (t : List Event). t ++ events_held new) (sym (all_events-append so_far.batches batches));
+    refusals = ap (λ (r : Vec ℕ A). r.items) told ∙ so_far.refusals;
+  }
 
   -- the records behind these say something too
   pub handed_over : (feed : Feed) (records done left : List RecordContent) (before after : IntakeSenderView (Batch A)) (reader : Reader A) → records ≡ done ++ left → after ≡ reader.sender → HasReadSoFar feed done before reader → HasHandedOver feed records before after

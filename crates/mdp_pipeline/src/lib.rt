@@ -5,6 +5,7 @@
 mod decoding;
 mod in_order;
 mod merge;
+mod pace;
 mod progress;
 mod reader;
 mod refusals;

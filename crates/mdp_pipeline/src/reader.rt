@@ -12,6 +12,7 @@ ghost use Rattle.mdp_crew.specs.Batches.{all_events};
 ghost use Rattle.mdp_pipeline.specs.Readers.{HasHandedOver, HasPut, HasRead, HasReadOne, HasReadSoFar, events_held, has_ended};
 
 use crate::decoding::{Decoded, read_record};
+use crate::pace::Pace;
 use mdp_capture::Record;
 use mdp_crew::{Batch, Gate};
 use mdp_engine::Event;
@@ -20,7 +21,7 @@ use mdp_print::put_refusal;
 use mdp_templates::{Feed, Memory, Snapshot};
 use std::alloc::Allocator;
 use std::mem;
-use std::sync::{OnceLock, Wait};
+use std::sync::Wait;
 
 /// How many events a batch holds at most. A reader's batches hold 1, 2, 4 events and so on up to this many: so its first event
 /// is handed over at once, and under load a batch costs little.
@@ -35,6 +36,8 @@ pub struct Reader<A: Allocator + Copy> {
     pub refusals: Vec<u8, A>,
     /// How many events the next batch is to hold.
     pub size: usize,
+    /// The last line that it may read before it tells the others where it stands.
+    pub until: u32,
 }
 
 /// What a reader leaves: its sender, which has ended, and the lines of its refused datagrams, unless memory ran out.
@@ -83,6 +86,24 @@ impl<A: Allocator + Copy> Reader<A> {
         Ok(())
     }
 
+    // Hands over the events that are held, if any.
+    fn put_held<R: Wait>(&mut self, rt: &R, alloc: A)
+        requires { has_ended self.old.sender ≡ false }
+        ensures put { (batches : List (Batch A)) × HasPut self.old.sender batches self.new.sender × (events_held self.old ≡ all_events batches ++ events_held self.new) }
+        ensures goes_on { has_ended self.new.sender ≡ false }
+        ensures refusals { self.new.refusals ≡ self.old.refusals }
+    {
+        if self.events.is_empty() {
+            return;
+        }
+        let events = mem::replace(&mut self.events, Vec::new(alloc));
+        let batch = Batch {
+            events,
+            is_last: false,
+        };
+        self.sender.put(rt, batch);
+    }
+
     // Hands over the events that are held, where they fill a batch.
     fn hand_over<R: Wait>(&mut self, rt: &R, alloc: A)
         requires { has_ended self.old.sender ≡ false }
@@ -93,13 +114,22 @@ impl<A: Allocator + Copy> Reader<A> {
         if self.events.len() < self.size {
             return;
         }
-        let events = mem::replace(&mut self.events, Vec::new(alloc));
-        let batch = Batch {
-            events,
-            is_last: false,
-        };
-        self.sender.put(rt, batch);
+        self.put_held(rt, alloc);
         self.size = self.size.saturating_mul(2).min(MOST_EVENTS);
+    }
+
+    // Hands over the events that are held and waits for the slower readers, where the next record's line asks for it.
+    fn keep_pace<R: Wait>(&mut self, rt: &R, alloc: A, pace: &Pace, feed: Feed, line: u32)
+        requires { has_ended self.old.sender ≡ false }
+        ensures put { (batches : List (Batch A)) × HasPut self.old.sender batches self.new.sender × (events_held self.old ≡ all_events batches ++ events_held self.new) }
+        ensures goes_on { has_ended self.new.sender ≡ false }
+        ensures refusals { self.new.refusals ≡ self.old.refusals }
+    {
+        if line <= self.until {
+            return;
+        }
+        self.put_held(rt, alloc);
+        self.until = pace.keep(rt, feed, line);
     }
 
     // Reads a record.
@@ -127,6 +157,7 @@ impl<A: Allocator + Copy> Reader<A> {
         rt: &R,
         alloc: A,
         gate: &G,
+        pace: &Pace,
         feed: Feed,
         records: &[Record<A>],
     ) -> Result<(), Memory>
@@ -140,6 +171,7 @@ impl<A: Allocator + Copy> Reader<A> {
         let mut place = 1u64;
         for record in records {
             gate.reads(number_of(feed), place);
+            self.keep_pace(rt, alloc, pace, feed, record.line());
             self.read(rt, alloc, feed, record)?;
             place = place.saturating_add(1);
         }
@@ -190,11 +222,10 @@ fn stop<R: Wait, A: Allocator + Copy>(
     }
 }
 
-/// Decodes the records of a feed and hands over their events, once it is told to go; told to stop, it hands over none. In either
-/// way it puts its last batch.
-pub fn read_feed<R: Wait, G: Gate, A: Allocator + Copy>(
+// Decodes the records of a feed and hands over their events, once it is told to go; told to stop, it hands over none.
+fn read_or_stop<R: Wait, G: Gate, A: Allocator + Copy>(
     rt: &R,
-    go: &OnceLock<bool>,
+    pace: &Pace,
     alloc: A,
     gate: &G,
     feed: Feed,
@@ -204,7 +235,7 @@ pub fn read_feed<R: Wait, G: Gate, A: Allocator + Copy>(
     requires { has_ended sender ≡ false }
     ensures { HasRead feed records.now sender result }
 {
-    if !*go.wait(rt) {
+    if !*pace.go.wait(rt) {
         return stop(rt, alloc, sender);
     }
     let mut reader = Reader {
@@ -212,12 +243,32 @@ pub fn read_feed<R: Wait, G: Gate, A: Allocator + Copy>(
         events: Vec::new(alloc),
         refusals: Vec::new(alloc),
         size: 1,
+        until: 0,
     };
-    match reader.read_all(rt, alloc, gate, feed, records) {
+    match reader.read_all(rt, alloc, gate, pace, feed, records) {
         Ok(()) => reader.finish(rt),
         Err(Memory) => {
             let Reader { sender, .. } = reader;
             stop(rt, alloc, sender)
         }
     }
+}
+
+/// Decodes the records of a feed and hands over their events, once it is told to go; told to stop, it hands over none. In either
+/// way it puts its last batch, and tells the others that it waits for nobody and nobody need wait for it.
+pub fn read_feed<R: Wait, G: Gate, A: Allocator + Copy>(
+    rt: &R,
+    pace: &Pace,
+    alloc: A,
+    gate: &G,
+    feed: Feed,
+    records: &[Record<A>],
+    sender: IntakeSender<Batch<A>, A>,
+) -> ReaderOutcome<A>
+    requires { has_ended sender ≡ false }
+    ensures { HasRead feed records.now sender result }
+{
+    let outcome = read_or_stop(rt, pace, alloc, gate, feed, records, sender);
+    pace.leave(rt, feed);
+    outcome
 }

@@ -11,6 +11,7 @@ ghost use Rattle.mdp_pipeline.specs.Faults.{FailsBy};
 ghost use Rattle.mdp_pipeline.specs.Output.{BeginsMerge, PrintsMerge};
 ghost use Rattle.mdp_pipeline.specs.Readers.{HasRead, has_ended};
 
+use crate::pace::Pace;
 use crate::reader::{ReaderOutcome, read_feed};
 use crate::settling::{Readers, settle_and_finish};
 use crate::summary::{RunFault, Summary};
@@ -21,7 +22,7 @@ use mdp_print::CountedWrite;
 use mdp_templates::{Feed, Instrument};
 use std::alloc::Allocator;
 use std::snapshot::Snapshot;
-use std::sync::{OnceLock, Wait};
+use std::sync::Wait;
 use std::thread;
 use std::thread::{Promise, PromisedHandle, Scope, Threads};
 
@@ -47,7 +48,7 @@ type Begun<'s, A> = Result<PromisedHandle<ReaderOutcome<A>, ReadsFeed<'s, A>>, R
 fn begin_reader<'s, E, R, S, G, A>(
     rt: &'s R,
     scope: &'s Scope<'s, E>,
-    go: &'s OnceLock<bool>,
+    pace: &'s Pace,
     starts: &S,
     thread: usize,
     alloc: A,
@@ -68,8 +69,8 @@ where
         (λ outcome. HasRead feed records.entry.now sender outcome) }
 {
     if !starts.may_start(thread) {
-        let _ = go.set(rt, false);
-        return Err(read_feed(rt, go, alloc, gate, feed, records, sender));
+        let _ = pace.go.set(rt, false);
+        return Err(read_feed(rt, pace, alloc, gate, feed, records, sender));
     }
     let promise = ReadsFeed {
         feed,
@@ -78,11 +79,11 @@ where
     };
     match scope.spawn_with(
         promise,
-        move || read_feed(rt, go, alloc, gate, feed, records, sender),
+        move || read_feed(rt, pace, alloc, gate, feed, records, sender),
     ) {
         Ok(handle) => Ok(handle),
         Err(refused) => {
-            let _ = go.set(rt, false);
+            let _ = pace.go.set(rt, false);
             Err((refused.value)())
         }
     }
@@ -108,7 +109,7 @@ fn join_reader<'s, R: Threads + Wait, A: Allocator + Copy>(
 fn run_in<'s, E, R, S, G, W, A>(
     rt: &'s R,
     scope: &'s Scope<'s, E>,
-    go: &'s OnceLock<bool>,
+    pace: &'s Pace,
     starts: &S,
     alloc: A,
     instruments: &'s [Instrument],
@@ -142,13 +143,13 @@ where
     let Ok((to_a, to_b, to_s, receiver)) = Intake::new(alloc, INTAKE_ROOM) else {
         return Err(RunFault::Memory { written: 0 });
     };
-    let reads_a = begin_reader(rt, scope, go, starts, 0, alloc, gate, Feed::A, a, to_a);
-    let reads_b = begin_reader(rt, scope, go, starts, 1, alloc, gate, Feed::B, b, to_b);
-    let reads_s = begin_reader(rt, scope, go, starts, 2, alloc, gate, Feed::S, s, to_s);
+    let reads_a = begin_reader(rt, scope, pace, starts, 0, alloc, gate, Feed::A, a, to_a);
+    let reads_b = begin_reader(rt, scope, pace, starts, 1, alloc, gate, Feed::B, b, to_b);
+    let reads_s = begin_reader(rt, scope, pace, starts, 2, alloc, gate, Feed::S, s, to_s);
     let crew = run_crew(
         rt,
         scope,
-        go,
+        &pace.go,
         starts,
         alloc,
         gate,
@@ -198,8 +199,8 @@ where
     ensures told { IfErr result (λ fault. HasCounted (W.taken writer.old) (W.taken writer.new) (written_before fault)) }
     ensures failed { FailsBy result (W.failed writer.old) (W.failed writer.new) }
 {
-    let lock = OnceLock::new();
-    let go = &lock;
+    let paced = Pace::new(window, s);
+    let pace = &paced;
     let (back, outcome) = thread::scope(
         thread::scope_env(),
         rt,
@@ -216,7 +217,7 @@ where
             let outcome = run_in(
                 rt,
                 scope,
-                go,
+                pace,
                 starts,
                 alloc,
                 instruments,

@@ -1,5 +1,5 @@
 use Rattle.mdp_pipeline.proofs.HandingOver.{handed_over_none}
-use Rattle.mdp_pipeline.proofs.reader.read_feed.Goals as goal
+use Rattle.mdp_pipeline.proofs.reader.read_or_stop.Goals as goal
 
 pub returns-then-not-wait : goal.returns-then-not-wait
 returns-then-not-wait g c = c.stop.ensures c.args.feed c.args.records.now c.args.sender (handed_over_none c.args.feed c.args.records.now c.args.sender)
