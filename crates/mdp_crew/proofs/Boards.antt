@@ -8,7 +8,7 @@ use Rattle.mdp_lanes.specs.declared.step.Step.{Step}
 use Rattle.mdp_desks.specs.Reports.{Report}
 use Rattle.mdp_engine.specs.Rounds.{all_rounds_in, rounds_in}
 use Rattle.mdp_reports.specs.BoardSteps.{steps_in}
-use Rattle.mdp_crew.proofs.BoardStub.{steps_in-append}
+use Rattle.mdp_reports.proofs.Boarding.{law_of_first_steps}
 use Rattle.mdp_crew.specs.Collecting.{steps_of_batch, steps_of_batches}
 use Rattle.mdp_crew.specs.Publishing.{published_on}
 
@@ -24,7 +24,7 @@ pub published_more : (old now new : Option Published) (xs ys : List Step) → no
 published_more old now new xs ys first later = later ∙ ap (λ (b : Option Published). published_on b ys) first ∙ published-append old xs ys
 
 pub steps-append : (xs ys : List (List (List Report))) → steps_of_batches (xs ++ ys) ≡ steps_of_batches xs ++ steps_of_batches ys
-steps-append xs ys = ap steps_in (flat_map-append rounds_in xs ys) ∙ steps_in-append (all_rounds_in xs) (all_rounds_in ys)
+steps-append xs ys = ap steps_in (flat_map-append rounds_in xs ys) ∙ law_of_first_steps (all_rounds_in xs) (all_rounds_in ys)
 
 pub steps-push : (xs : List (List (List Report))) (round : List (List Report)) → steps_of_batches xs ++ steps_of_batch round ≡ steps_of_batches (xs ++ round ∷ [])
 steps-push xs round =

@@ -1,4 +1,3 @@
-pub mod BoardStub
 pub mod Boards
 pub mod Taking
 pub mod Settling

@@ -16,7 +16,7 @@ use Rattle.mdp_engine.proofs.Batching.{law_of_batches, law_of_cuts}
 use Rattle.mdp_engine.proofs.Collecting.{law_of_workers}
 use Rattle.mdp_steps.specs.Sent.{moves_sent}
 use Rattle.mdp_reports.specs.BoardSteps.{board_steps}
-use Rattle.mdp_crew.proofs.BoardStub.{law_of_boards}
+use Rattle.mdp_reports.proofs.Boarding.{law_of_boards}
 use Rattle.mdp_reports.specs.Taking.{View, kept_after_rounds}
 use Rattle.mdp_crew.specs.Collecting.{kept_after_batch, steps_of_batches, text_of_batch, text_of_batches}
 use Rattle.mdp_crew.proofs.Settling.{rounds_of}
@@ -49,6 +49,6 @@ text_is_shown listed workers batches some differ ascend =
     ∙ ap (λ (ms : List Moment). collected_text listed (map (round_of workers) ms)) (law_of_cuts listed batches)
     ∙ law_of_workers workers listed (moves_sent batches) some differ ascend
 
-pub steps_are_shown : (listed : List Instrument) (workers : ℕ) (batches : List (List Move)) → 1 ≤ workers → AllPairs (λ a b. a ≢ b) (ids_of listed) → Ascend listed 1 (moves_sent batches)
+pub steps_are_shown : (listed : List Instrument) (workers : ℕ) (batches : List (List Move)) → 1 ≤ workers
     → steps_of_batches (rounds_of listed workers [] batches) ≡ board_steps listed (moves_sent batches)
-steps_are_shown listed workers batches some differ ascend = law_of_boards workers listed (moments_by listed [] batches) (moves_sent batches) some differ ascend (sym (law_of_cuts listed batches))
+steps_are_shown listed workers batches some = law_of_boards workers listed (moves_sent batches) (moments_by listed [] batches) some (sym (law_of_cuts listed batches))

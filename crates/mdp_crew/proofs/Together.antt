@@ -109,15 +109,15 @@ module _ {A : Type 0} where
           record { all = tt; some = some_out front.0 front.1 front.2 (sym text ∙ front.3) }
 
   pub met_on_board : (listed : List Instrument) (n room : ℕ) (ss : List (LaneSenderView (Order A))) (ps new : List (Post A)) (collector : View) (start taken : List ℕ) (board board' : Option Published) (receiver : IntakeReceiverView (Batch A)) (outcome : ArbiterOutcome A) (collected : Result (Unit {0}) Stop)
-      → 1 ≤ n → AllPairs (λ a b. a ≢ b) (ids_of listed) → IsCrew listed n n ss ps → HasSent listed room receiver ss outcome → EndsCollecting ps new collector start taken board board' collected
+      → 1 ≤ n → IsCrew listed n n ss ps → HasSent listed room receiver ss outcome → EndsCollecting ps new collector start taken board board' collected
       → AllZip IsSettled outcome.senders.items new → HasPublished listed room (events_taken outcome.receiver.taken) board board' (outcome_of collected outcome.standing)
-  met_on_board listed n room ss ps new collector start taken board board' receiver outcome collected some differ crew sent ends settled_are = by_both collected outcome.standing ends sent.sent.whole
+  met_on_board listed n room ss ps new collector start taken board board' receiver outcome collected some crew sent ends settled_are = by_both collected outcome.standing ends sent.sent.whole
     where
       is : AllSettled listed n sent.batches ss ps new
       is = all_settled listed n room ss ps new receiver outcome some crew sent settled_are
 
       steps : steps_of_batches (rounds_of listed n [] sent.batches) ≡ board_steps listed (moves_sent sent.batches)
-      steps = steps_are_shown listed n sent.batches some differ (sent_ascend listed room ss receiver outcome sent)
+      steps = steps_are_shown listed n sent.batches some
 
       all_out : HasAll ps new collector start taken board board' → board' ≡ published_on board (board_steps listed (moves_sent sent.batches))
       all_out all = all_published listed n sent.batches ss ps new collector start taken board board' is all ∙ ap (published_on board) steps

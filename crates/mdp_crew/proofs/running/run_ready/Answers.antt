@@ -77,4 +77,4 @@ returns-clause-publishes g c =
     let crew : IsCrew listed c.args.workers c.args.workers ready.senders.items old = subst (λ (l : List (Post g.row.A.Denot)). IsCrew listed c.args.workers c.args.workers ready.senders.items l) (sym same) is.crew in
     let settled : AllZip IsSettled outcome.senders.items new = subst (λ (l : List (Post g.row.A.Denot)). AllZip IsSettled outcome.senders.items l) back c.let_all_go.ensures in
     subst (λ (o : Result Standing Stop). HasPublished listed c.args.window (events_taken outcome.receiver.taken) c.args.board.now c.collect-collected.new.board o) (sym c.outcome.ensures)
-    (met_on_board listed c.args.workers c.args.window ready.senders.items old new ready.collector start went c.args.board.now c.collect-collected.new.board c.args.receiver outcome c.collect-collected.result c.requires.some (ids_differ listed c.requires.fit.ids_differ) crew sent c.collect-collected.ensures.ends settled)
+    (met_on_board listed c.args.workers c.args.window ready.senders.items old new ready.collector start went c.args.board.now c.collect-collected.new.board c.args.receiver outcome c.collect-collected.result c.requires.some crew sent c.collect-collected.ensures.ends settled)
