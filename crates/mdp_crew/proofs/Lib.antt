@@ -1,3 +1,4 @@
+pub mod Boards
 pub mod Taking
 pub mod Settling
 pub mod Hiring

@@ -15,8 +15,10 @@ use Rattle.mdp_engine.specs.Rounds.{all_rounds_in, batch_of, collected_text, kep
 use Rattle.mdp_engine.proofs.Batching.{law_of_batches, law_of_cuts}
 use Rattle.mdp_engine.proofs.Collecting.{law_of_workers}
 use Rattle.mdp_steps.specs.Sent.{moves_sent}
+use Rattle.mdp_reports.specs.BoardSteps.{board_steps}
+use Rattle.mdp_reports.proofs.Boarding.{law_of_boards}
 use Rattle.mdp_reports.specs.Taking.{View, kept_after_rounds}
-use Rattle.mdp_crew.specs.Collecting.{kept_after_batch, text_of_batch, text_of_batches}
+use Rattle.mdp_crew.specs.Collecting.{kept_after_batch, steps_of_batches, text_of_batch, text_of_batches}
 use Rattle.mdp_crew.proofs.Settling.{rounds_of}
 
 text_from-append : (listed : List Instrument) (kept : List (Option Best)) (xs ys : List (List Report)) → text_from listed kept (xs ++ ys) ≡ text_from listed kept xs ++ text_from listed (kept_after_rounds kept xs) ys
@@ -46,3 +48,7 @@ text_is_shown listed workers batches some differ ascend =
     ∙ ap (collected_text listed) (law_of_batches workers all some)
     ∙ ap (λ (ms : List Moment). collected_text listed (map (round_of workers) ms)) (law_of_cuts listed batches)
     ∙ law_of_workers workers listed (moves_sent batches) some differ ascend
+
+pub steps_are_shown : (listed : List Instrument) (workers : ℕ) (batches : List (List Move)) → 1 ≤ workers
+    → steps_of_batches (rounds_of listed workers [] batches) ≡ board_steps listed (moves_sent batches)
+steps_are_shown listed workers batches some = law_of_boards workers listed (moves_sent batches) (moments_by listed [] batches) some (sym (law_of_cuts listed batches))

@@ -1,10 +1,12 @@
 -- Where all threads are joined and all lanes settled, the rounds that were taken are those of a beginning of the batches.
 use Rattle.std.proofs.Common.{◌≡◌, ◌≤◌, ◌<◌, ℕ, ◌+◌, zero, suc, Bool, true, false, List, [], ◌∷◌, ◌++◌, length, map, take, drop, replicate, refl, sym, ap, ◌∙◌, subst, append_assoc, arith}
-use Rattle.std.specs.Prelude.{Result, Ok, Err, OnOk, IfOk, IfErr}
+use Rattle.std.specs.Prelude.{Option, Result, Ok, Err, OnOk, IfOk, IfErr}
 use Rattle.std.specs.List.{AllByRecursion, AllZip}
 use Rattle.std.proofs.lemmas.List.{append-nil}
 use Rattle.mdp_templates.specs.declared.instrument.Instrument.{Instrument}
+use Rattle.mdp_lanes.specs.Boards.{Published}
 use Rattle.mdp_lanes.specs.Queues.{LaneReceiverView, LaneSenderView}
+use Rattle.mdp_lanes.specs.declared.step.Step.{Step}
 use Rattle.mdp_arbiter.specs.Machine.{Move}
 use Rattle.mdp_desks.specs.Moments.{moments_after, moments_by}
 use Rattle.mdp_desks.specs.Reports.{Report, report_of}
@@ -20,7 +22,9 @@ use Rattle.mdp_crew.specs.declared.order.Order.{Order}
 use Rattle.mdp_crew.specs.declared.order.Order.TheVariants.{Take, Done}
 use Rattle.mdp_crew.specs.declared.stop.Stop.{Stop}
 use Rattle.mdp_crew.specs.declared.worker.WorkerOutcome.{WorkerOutcome}
-use Rattle.mdp_crew.specs.Collecting.{EndsCollecting, HasAll, HasSome, kept_after_batch, text_of_batch, text_of_batches}
+use Rattle.mdp_crew.specs.Collecting.{EndsCollecting, HasAll, HasSome, kept_after_batch, steps_of_batches, text_of_batch, text_of_batches}
+use Rattle.mdp_crew.specs.Publishing.{published_on}
+use Rattle.mdp_crew.proofs.Boards.{steps-append}
 use Rattle.mdp_crew.specs.Crew.{AreFresh, AreNumbered, IsFront, IsHired, IsSettled, IsWorker}
 use Rattle.mdp_crew.specs.Orders.{and_sent, orders_of}
 use Rattle.mdp_crew.specs.Rounds.{Wide, all_took, laid, put}
@@ -246,33 +250,56 @@ module _ {A : Type 0} where
       subst (λ (k : ℕ). AreFronts listed n [] xs (numbers_from 0 k) rows) is.many
       (fronts_of listed n 0 xs ss ps rows (long ∙ sym is.many) is.numbered is.fresh.0 is.fresh.1 is.full (subst (λ (l : List (Post A)). AllZip IsSettled (map (and_sent (orders_of xs)) ss) l) took_is is.settled_are))
 
-  pub all_written : (listed : List Instrument) (n : ℕ) (xs : List (List Move)) (ss : List (LaneSenderView (Order A))) (ps new : List (Post A)) (collector : View) (taken taken' : List ℕ)
-      → AllSettled listed n xs ss ps new → HasAll ps new collector taken taken' → taken' ≡ taken ++ text_of_batches collector (rounds_of listed n [] xs)
-  all_written listed n xs ss ps new collector taken taken' is has =
+  all_rounds : (listed : List Instrument) (n : ℕ) (xs : List (List Move)) (ss : List (LaneSenderView (Order A))) (ps new : List (Post A)) (collector : View) (taken taken' : List ℕ) (board board' : Option Published)
+      → AllSettled listed n xs ss ps new → (has : HasAll ps new collector taken taken' board board') → has.rounds ≡ rounds_of listed n [] xs
+  all_rounds listed n xs ss ps new collector taken taken' board board' is has =
       let last : List (Answer A) = Finished ∷ [] in
       let wide : Wide n has.rounds = subst (λ (k : ℕ). Wide k has.rounds) is.many has.wide in
       let took_is : new ≡ all_took ps (laid has.rounds (replicate n last)) = has.took_is ∙ ap (λ (k : ℕ). all_took ps (laid has.rounds (replicate k last))) is.many in
       let long : length (laid has.rounds (replicate n last)) ≡ n = length-laid n has.rounds (replicate n last) (length-nothing n last) wide in
-      has.text ∙ ap (λ (l : List (List (List Report))). taken ++ text_of_batches collector l) (rounds_all listed n xs has.rounds last refl is.some wide (fronts_all listed n xs ss ps new (laid has.rounds (replicate n last)) is took_is long))
+      rounds_all listed n xs has.rounds last refl is.some wide (fronts_all listed n xs ss ps new (laid has.rounds (replicate n last)) is took_is long)
 
-  pub some_written : (listed : List Instrument) (n : ℕ) (xs : List (List Move)) (ss : List (LaneSenderView (Order A))) (ps new : List (Post A)) (collector : View) (taken taken' : List ℕ)
-      → AllSettled listed n xs ss ps new → HasSome ps new collector taken taken'
-      → (sent : List ℕ) × (rest : List ℕ) × (taken' ≡ taken ++ sent) × (text_of_batches collector (rounds_of listed n [] xs) ≡ sent ++ rest)
-  some_written listed n xs ss ps new collector taken taken' is has =
+  some_rounds : (listed : List Instrument) (n : ℕ) (xs : List (List Move)) (ss : List (LaneSenderView (Order A))) (ps new : List (Post A)) (collector : View) (taken taken' : List ℕ) (board board' : Option Published)
+      → AllSettled listed n xs ss ps new → (has : HasSome ps new collector taken taken' board board') → (rest : List (List (List Report))) × (rounds_of listed n [] xs ≡ has.rounds ++ rest)
+  some_rounds listed n xs ss ps new collector taken taken' board board' is has =
       let wide : Wide n has.rounds = subst (λ (k : ℕ). Wide k has.rounds) is.many has.wide in
       let long : length (laid has.rounds has.more) ≡ n = length-laid n has.rounds has.more (has.long ∙ is.many) wide in
-      let front = rounds_some listed n xs has.rounds has.more is.some wide (has.long ∙ is.many) (fronts_all listed n xs ss ps new (laid has.rounds has.more) is has.took_is long) in
+      rounds_some listed n xs has.rounds has.more is.some wide (has.long ∙ is.many) (fronts_all listed n xs ss ps new (laid has.rounds has.more) is has.took_is long)
+
+  pub all_written : (listed : List Instrument) (n : ℕ) (xs : List (List Move)) (ss : List (LaneSenderView (Order A))) (ps new : List (Post A)) (collector : View) (taken taken' : List ℕ) (board board' : Option Published)
+      → AllSettled listed n xs ss ps new → HasAll ps new collector taken taken' board board' → taken' ≡ taken ++ text_of_batches collector (rounds_of listed n [] xs)
+  all_written listed n xs ss ps new collector taken taken' board board' is has =
+      has.text ∙ ap (λ (l : List (List (List Report))). taken ++ text_of_batches collector l) (all_rounds listed n xs ss ps new collector taken taken' board board' is has)
+
+  pub all_published : (listed : List Instrument) (n : ℕ) (xs : List (List Move)) (ss : List (LaneSenderView (Order A))) (ps new : List (Post A)) (collector : View) (taken taken' : List ℕ) (board board' : Option Published)
+      → AllSettled listed n xs ss ps new → HasAll ps new collector taken taken' board board' → board' ≡ published_on board (steps_of_batches (rounds_of listed n [] xs))
+  all_published listed n xs ss ps new collector taken taken' board board' is has =
+      has.steps ∙ ap (λ (l : List (List (List Report))). published_on board (steps_of_batches l)) (all_rounds listed n xs ss ps new collector taken taken' board board' is has)
+
+  pub some_written : (listed : List Instrument) (n : ℕ) (xs : List (List Move)) (ss : List (LaneSenderView (Order A))) (ps new : List (Post A)) (collector : View) (taken taken' : List ℕ) (board board' : Option Published)
+      → AllSettled listed n xs ss ps new → HasSome ps new collector taken taken' board board'
+      → (sent : List ℕ) × (rest : List ℕ) × (taken' ≡ taken ++ sent) × (text_of_batches collector (rounds_of listed n [] xs) ≡ sent ++ rest)
+  some_written listed n xs ss ps new collector taken taken' board board' is has =
+      let front = some_rounds listed n xs ss ps new collector taken taken' board board' is has in
       let more = text_more collector has.rounds front.0 in
       (has.sent, has.rest ++ more.0, has.text, ap (text_of_batches collector) front.1 ∙ more.1 ∙ ap (λ (l : List ℕ). l ++ more.0) has.whole ∙ append_assoc has.sent has.rest more.0)
 
+  pub some_published : (listed : List Instrument) (n : ℕ) (xs : List (List Move)) (ss : List (LaneSenderView (Order A))) (ps new : List (Post A)) (collector : View) (taken taken' : List ℕ) (board board' : Option Published)
+      → AllSettled listed n xs ss ps new → HasSome ps new collector taken taken' board board'
+      → (shown : List Step) × (rest : List Step) × (board' ≡ published_on board shown) × (steps_of_batches (rounds_of listed n [] xs) ≡ shown ++ rest)
+  some_published listed n xs ss ps new collector taken taken' board board' is has =
+      let front = some_rounds listed n xs ss ps new collector taken taken' board board' is has in
+      let more = steps_of_batches front.0 in
+      (has.shown, has.hidden ++ more, has.steps, ap steps_of_batches front.1 ∙ steps-append has.rounds front.0 ∙ ap (λ (l : List Step). l ++ more) has.all_steps ∙ append_assoc has.shown has.hidden more)
+
   -- ---- a slice that is written back
 
-  pub ended_took : (old new : List (Post A)) (collector : View) (taken taken' : List ℕ) (result : Result (Unit {0}) Stop) → EndsCollecting old new collector taken taken' result → (rows : List (List (Answer A))) × (new ≡ all_took old rows)
-  ended_took old new collector taken taken' (Ok done) is = (laid is.rounds (replicate (length old) (Finished ∷ [])), is.took_is)
-  ended_took old new collector taken taken' (Err stop) is = (laid is.rounds is.more, is.took_is)
+  pub ended_took : (old new : List (Post A)) (collector : View) (taken taken' : List ℕ) (board board' : Option Published) (result : Result (Unit {0}) Stop) → EndsCollecting old new collector taken taken' board board' result → (rows : List (List (Answer A))) × (new ≡ all_took old rows)
+  ended_took old new collector taken taken' board board' (Ok done) is = (laid is.rounds (replicate (length old) (Finished ∷ [])), is.took_is)
+  ended_took old new collector taken taken' board board' (Err stop) is = (laid is.rounds is.more, is.took_is)
 
-  pub ended_long : (old new : List (Post A)) (collector : View) (taken taken' : List ℕ) (result : Result (Unit {0}) Stop) → EndsCollecting old new collector taken taken' result → length new ≡ length old
-  ended_long old new collector taken taken' result is = let rows = ended_took old new collector taken taken' result is in ap length rows.1 ∙ length-took old rows.0
+  pub ended_long : (old new : List (Post A)) (collector : View) (taken taken' : List ℕ) (board board' : Option Published) (result : Result (Unit {0}) Stop) → EndsCollecting old new collector taken taken' board board' result → length new ≡ length old
+  ended_long old new collector taken taken' board board' result is = let rows = ended_took old new collector taken taken' board board' result is in ap length rows.1 ∙ length-took old rows.0
 
 pub written_back : {X : Type 0} (new items : List X) (n : ℕ) → length new ≡ length items → length items ≡ n → take n (new ++ drop (length new) items) ≡ new
 written_back [] [] zero long is = refl

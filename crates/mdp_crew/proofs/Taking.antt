@@ -1,10 +1,15 @@
 -- What is taken, round by round, and what is written of it.
 use Rattle.std.proofs.Common.{◌≡◌, ◌<◌, ℕ, zero, suc, Bool, true, false, List, [], ◌∷◌, ◌++◌, length, take, drop, map, set, get_or, replicate, refl, sym, ap, ◌∙◌, subst, append_assoc, arith}
-use Rattle.std.specs.Prelude.{Result, Ok, Err, ◌&&◌}
+use Rattle.std.specs.Prelude.{Option, Result, Ok, Err, ◌&&◌}
 use Rattle.std.proofs.lemmas.List.{append-nil, take-append-drop}
+use Rattle.mdp_lanes.specs.Boards.{Published}
 use Rattle.mdp_lanes.specs.Queues.{LaneReceiverView}
+use Rattle.mdp_lanes.specs.declared.step.Step.{Step}
 use Rattle.mdp_crew.specs.Rounds.{took, all_took, put, laid, one_each, Wide, all_tell, all_finish}
-use Rattle.mdp_crew.specs.Collecting.{text_of_batch, kept_after_batch, text_of_batches, TakesOne, HasAll, HasSome, EndsCollecting, IsCollecting}
+use Rattle.mdp_crew.specs.Collecting.{text_of_batch, kept_after_batch, text_of_batches, steps_of_batch, steps_of_batches, CutShort, TakesOne, HasAll, HasSome, EndsCollecting, IsCollecting}
+use Rattle.mdp_crew.specs.Collecting.CutShort.{in_text, in_steps}
+use Rattle.mdp_crew.specs.Publishing.{published_on}
+use Rattle.mdp_crew.proofs.Boards.{published_nothing, published_more, steps-append, steps-push}
 use Rattle.mdp_desks.specs.Reports.{Report}
 use Rattle.mdp_reports.specs.FromAnswers.{told_in_answer}
 use Rattle.mdp_reports.specs.Taking.{View}
@@ -153,17 +158,17 @@ module _ {A : Type 0} where
   length-each [] = refl
   length-each (a ∷ answers) = ap suc (length-each answers)
 
-  pub turned_all : (old new : List (Post A)) (answers : List (Answer A)) (state : View) (taken : List ℕ) → length answers ≡ length old → all_finish answers ≡ true → new ≡ all_took old (one_each answers) → HasAll old new state taken taken
-  turned_all old new answers state taken long is took_is =
-      record { rounds = []; wide = tt; took_is = took_is ∙ ap (all_took old) (finished_laid answers (length old) long is); text = sym (append-nil taken) }
+  pub turned_all : (old new : List (Post A)) (answers : List (Answer A)) (state : View) (taken : List ℕ) (board : Option Published) → length answers ≡ length old → all_finish answers ≡ true → new ≡ all_took old (one_each answers) → HasAll old new state taken taken board board
+  turned_all old new answers state taken board long is took_is =
+      record { rounds = []; wide = tt; took_is = took_is ∙ ap (all_took old) (finished_laid answers (length old) long is); text = sym (append-nil taken); steps = published_nothing board }
 
-  pub turned_on : (old new : List (Post A)) (answers : List (Answer A)) (state state' : View) (taken taken' : List ℕ) → length answers ≡ length old → all_tell answers ≡ true → new ≡ all_took old (one_each answers)
-      → taken' ≡ taken ++ text_of_batch state (map told_in_answer answers) → state' ≡ kept_after_batch state (map told_in_answer answers) → TakesOne old new state state' taken taken'
-  turned_on old new answers state state' taken taken' long is took_is text kept_is =
-      record { round = map told_in_answer answers; wide = told_wide answers is ∙ long; took_is = took_is ∙ ap (all_took old) (told_laid answers (length old) long is); text = text; kept_is = kept_is }
+  pub turned_on : (old new : List (Post A)) (answers : List (Answer A)) (state state' : View) (taken taken' : List ℕ) (board board' : Option Published) → length answers ≡ length old → all_tell answers ≡ true → new ≡ all_took old (one_each answers)
+      → taken' ≡ taken ++ text_of_batch state (map told_in_answer answers) → board' ≡ published_on board (steps_of_batch (map told_in_answer answers)) → state' ≡ kept_after_batch state (map told_in_answer answers) → TakesOne old new state state' taken taken' board board'
+  turned_on old new answers state state' taken taken' board board' long is took_is text steps kept_is =
+      record { round = map told_in_answer answers; wide = told_wide answers is ∙ long; took_is = took_is ∙ ap (all_took old) (told_laid answers (length old) long is); text = text; steps = steps; kept_is = kept_is }
 
-  pub turned_broken : (old now new : List (Post A)) (answers : List (Answer A)) (more : List (List (Answer A))) (state : View) (taken : List ℕ) → length answers ≡ length old → now ≡ all_took old (one_each answers) → new ≡ all_took now more → HasSome old new state taken taken
-  turned_broken old now new answers more state taken long took_is drained =
+  pub turned_broken : (old now new : List (Post A)) (answers : List (Answer A)) (more : List (List (Answer A))) (state : View) (taken : List ℕ) (board : Option Published) → length answers ≡ length old → now ≡ all_took old (one_each answers) → new ≡ all_took now more → HasSome old new state taken taken board board
+  turned_broken old now new answers more state taken board long took_is drained =
       let first : length (one_each answers) ≡ length old = length-each answers ∙ long in
       record {
         rounds = [];
@@ -175,11 +180,17 @@ module _ {A : Type 0} where
         rest = [];
         text = sym (append-nil taken);
         whole = refl;
+        shown = [];
+        hidden = [];
+        steps = published_nothing board;
+        all_steps = refl;
       }
 
-  pub turned_unwritten : (old now new : List (Post A)) (answers : List (Answer A)) (more : List (List (Answer A))) (state : View) (n : ℕ) (taken taken' : List ℕ) → length answers ≡ length old → all_tell answers ≡ true → now ≡ all_took old (one_each answers)
-      → length more ≡ length now → new ≡ all_took now more → taken' ≡ taken ++ take n (text_of_batch state (map told_in_answer answers)) → HasSome old new state taken taken'
-  turned_unwritten old now new answers more state n taken taken' long is took_is many drained text =
+  turned_short : (old now new : List (Post A)) (answers : List (Answer A)) (more : List (List (Answer A))) (state : View) (taken taken' : List ℕ) (board board' : Option Published) (sent rest : List ℕ) (shown hidden : List Step)
+      → length answers ≡ length old → all_tell answers ≡ true → now ≡ all_took old (one_each answers) → length more ≡ length now → new ≡ all_took now more
+      → taken' ≡ taken ++ sent → text_of_batch state (map told_in_answer answers) ≡ sent ++ rest → board' ≡ published_on board shown → steps_of_batch (map told_in_answer answers) ≡ shown ++ hidden
+      → HasSome old new state taken taken' board board'
+  turned_short old now new answers more state taken taken' board board' sent rest shown hidden long is took_is many drained text whole steps all_steps =
       let same : length more ≡ length old = many ∙ ap length took_is ∙ length-took old (one_each answers) in
       let wide : Wide (length old) (map told_in_answer answers ∷ []) = (told_wide answers is ∙ long, tt) in
       record {
@@ -188,11 +199,27 @@ module _ {A : Type 0} where
         more = more;
         long = same;
         took_is = then_took old now new (map told_in_answer answers ∷ []) [] more wide tt same (took_is ∙ ap (all_took old) (told_laid answers (length old) long is)) drained;
-        sent = take n (text_of_batch state (map told_in_answer answers));
-        rest = drop n (text_of_batch state (map told_in_answer answers));
+        sent = sent;
+        rest = rest;
         text = text;
-        whole = append-nil (text_of_batch state (map told_in_answer answers)) ∙ sym (take-append-drop n (text_of_batch state (map told_in_answer answers)));
+        whole = append-nil (text_of_batch state (map told_in_answer answers)) ∙ whole;
+        shown = shown;
+        hidden = hidden;
+        steps = steps;
+        all_steps = sym (steps-push [] (map told_in_answer answers)) ∙ all_steps;
       }
+
+  pub turned_unwritten : (old now new : List (Post A)) (answers : List (Answer A)) (more : List (List (Answer A))) (state : View) (taken taken' : List ℕ) (board board' : Option Published) → length answers ≡ length old → all_tell answers ≡ true → now ≡ all_took old (one_each answers)
+      → length more ≡ length now → new ≡ all_took now more → CutShort state (map told_in_answer answers) taken taken' board board' → HasSome old new state taken taken' board board'
+  turned_unwritten old now new answers more state taken taken' board board' long is took_is many drained (in_text n text same) =
+      let whole = text_of_batch state (map told_in_answer answers) in
+      turned_short old now new answers more state taken taken' board board' (take n whole) (drop n whole) [] (steps_of_batch (map told_in_answer answers)) long is took_is many drained
+      text (sym (take-append-drop n whole)) (same ∙ published_nothing board) refl
+  turned_unwritten old now new answers more state taken taken' board board' long is took_is many drained (in_steps n text steps) =
+      let whole = text_of_batch state (map told_in_answer answers) in
+      let all = steps_of_batch (map told_in_answer answers) in
+      turned_short old now new answers more state taken taken' board board' whole [] (take n all) (drop n all) long is took_is many drained
+      text (sym (append-nil whole)) steps (sym (take-append-drop n all))
 
   -- ---- all turns
 
@@ -202,14 +229,14 @@ module _ {A : Type 0} where
       let here : p ≡ took p [] = λ k. record p { answers = record p.answers { taken = sym (append-nil p.answers.taken) k } } in
       ap (λ (q : Post A). q ∷ ps) here ∙ ap (λ (l : List (Post A)). took p [] ∷ l) (took_nothing ps)
 
-  pub under_way_first : (ps : List (Post A)) (state : View) (taken : List ℕ) → IsCollecting ps ps state state taken taken
-  under_way_first ps state taken = record { rounds = []; wide = tt; took_is = took_nothing ps; text = sym (append-nil taken); rest = λ more. refl }
+  pub under_way_first : (ps : List (Post A)) (state : View) (taken : List ℕ) (board : Option Published) → IsCollecting ps ps state state taken taken board board
+  under_way_first ps state taken board = record { rounds = []; wide = tt; took_is = took_nothing ps; text = sym (append-nil taken); steps = published_nothing board; rest = λ more. refl }
 
   same_long : (old now : List (Post A)) (rounds : List (List (List Report))) → now ≡ all_took old (laid rounds (nothing (length old))) → length now ≡ length old
   same_long old now rounds is = ap length is ∙ length-took old (laid rounds (nothing (length old)))
 
-  pub under_way_on : (old now new : List (Post A)) (state state' state'' : View) (taken taken' taken'' : List ℕ) → TakesOne now new state' state'' taken' taken'' → IsCollecting old now state state' taken taken' → IsCollecting old new state state'' taken taken''
-  under_way_on old now new state state' state'' taken taken' taken'' on so_far =
+  pub under_way_on : (old now new : List (Post A)) (state state' state'' : View) (taken taken' taken'' : List ℕ) (board board' board'' : Option Published) → TakesOne now new state' state'' taken' taken'' board' board'' → IsCollecting old now state state' taken taken' board board' → IsCollecting old new state state'' taken taken'' board board''
+  under_way_on old now new state state' state'' taken taken' taken'' board board' board'' on so_far =
       let long : length now ≡ length old = same_long old now so_far.rounds so_far.took_is in
       let wide : Wide (length old) (on.round ∷ []) = (on.wide ∙ long, tt) in
       record {
@@ -223,6 +250,9 @@ module _ {A : Type 0} where
             ∙ append_assoc taken (text_of_batches state so_far.rounds) (text_of_batch state' on.round)
             ∙ ap (λ (t : List ℕ). taken ++ (text_of_batches state so_far.rounds ++ t)) (sym (append-nil (text_of_batch state' on.round)))
             ∙ ap (λ (t : List ℕ). taken ++ t) (sym (so_far.rest (on.round ∷ [])));
+        steps =
+            published_more board board' board'' (steps_of_batches so_far.rounds) (steps_of_batch on.round) so_far.steps on.steps
+            ∙ ap (published_on board) (steps-push so_far.rounds on.round);
         rest = λ more.
             ap (text_of_batches state) (append_assoc so_far.rounds (on.round ∷ []) more)
             ∙ so_far.rest (on.round ∷ more)
@@ -232,8 +262,8 @@ module _ {A : Type 0} where
             ∙ ap (λ (t : List ℕ). t ++ text_of_batches state'' more) (sym (so_far.rest (on.round ∷ [])));
       }
 
-  ended_all : (old now new : List (Post A)) (state state' : View) (taken taken' taken'' : List ℕ) → HasAll now new state' taken' taken'' → IsCollecting old now state state' taken taken' → HasAll old new state taken taken''
-  ended_all old now new state state' taken taken' taken'' last so_far =
+  ended_all : (old now new : List (Post A)) (state state' : View) (taken taken' taken'' : List ℕ) (board board' board'' : Option Published) → HasAll now new state' taken' taken'' board' board'' → IsCollecting old now state state' taken taken' board board' → HasAll old new state taken taken'' board board''
+  ended_all old now new state state' taken taken' taken'' board board' board'' last so_far =
       let long : length now ≡ length old = same_long old now so_far.rounds so_far.took_is in
       let wide : Wide (length old) last.rounds = subst (λ (n : ℕ). Wide n last.rounds) long last.wide in
       record {
@@ -246,10 +276,13 @@ module _ {A : Type 0} where
             ∙ ap (λ (t : List ℕ). t ++ text_of_batches state' last.rounds) so_far.text
             ∙ append_assoc taken (text_of_batches state so_far.rounds) (text_of_batches state' last.rounds)
             ∙ ap (λ (t : List ℕ). taken ++ t) (sym (so_far.rest last.rounds));
+        steps =
+            published_more board board' board'' (steps_of_batches so_far.rounds) (steps_of_batches last.rounds) so_far.steps last.steps
+            ∙ ap (published_on board) (sym (steps-append so_far.rounds last.rounds));
       }
 
-  ended_some : (old now new : List (Post A)) (state state' : View) (taken taken' taken'' : List ℕ) → HasSome now new state' taken' taken'' → IsCollecting old now state state' taken taken' → HasSome old new state taken taken''
-  ended_some old now new state state' taken taken' taken'' last so_far =
+  ended_some : (old now new : List (Post A)) (state state' : View) (taken taken' taken'' : List ℕ) (board board' board'' : Option Published) → HasSome now new state' taken' taken'' board' board'' → IsCollecting old now state state' taken taken' board board' → HasSome old new state taken taken'' board board''
+  ended_some old now new state state' taken taken' taken'' board board' board'' last so_far =
       let long : length now ≡ length old = same_long old now so_far.rounds so_far.took_is in
       let wide : Wide (length old) last.rounds = subst (λ (n : ℕ). Wide n last.rounds) long last.wide in
       record {
@@ -262,26 +295,17 @@ module _ {A : Type 0} where
         rest = last.rest;
         text = last.text ∙ ap (λ (t : List ℕ). t ++ last.sent) so_far.text ∙ append_assoc taken (text_of_batches state so_far.rounds) last.sent;
         whole = so_far.rest last.rounds ∙ ap (λ (t : List ℕ). text_of_batches state so_far.rounds ++ t) last.whole ∙ sym (append_assoc (text_of_batches state so_far.rounds) last.sent last.rest);
+        shown = steps_of_batches so_far.rounds ++ last.shown;
+        hidden = last.hidden;
+        steps = published_more board board' board'' (steps_of_batches so_far.rounds) last.shown so_far.steps last.steps;
+        all_steps =
+            steps-append so_far.rounds last.rounds ∙ ap (λ (l : List Step). steps_of_batches so_far.rounds ++ l) last.all_steps
+            ∙ sym (append_assoc (steps_of_batches so_far.rounds) last.shown last.hidden);
       }
 
-  pub ended : (old now new : List (Post A)) (state state' : View) (taken taken' taken'' : List ℕ) (outcome : Result (Unit {0}) Stop) → EndsCollecting now new state' taken' taken'' outcome → IsCollecting old now state state' taken taken' → EndsCollecting old new state taken taken'' outcome
-  ended old now new state state' taken taken' taken'' (Ok done) last so_far = ended_all old now new state state' taken taken' taken'' last so_far
-  ended old now new state state' taken taken' taken'' (Err stop) last so_far = ended_some old now new state state' taken taken' taken'' last so_far
-
-  -- stopped between two rounds
-  pub ended_here : (old now : List (Post A)) (state state' : View) (taken taken' : List ℕ) → IsCollecting old now state state' taken taken' → HasSome old now state taken taken'
-  ended_here old now state state' taken taken' so_far =
-      record {
-        rounds = so_far.rounds;
-        wide = so_far.wide;
-        more = nothing (length old);
-        long = length-nothing (length old) [];
-        took_is = so_far.took_is;
-        sent = text_of_batches state so_far.rounds;
-        rest = [];
-        text = so_far.text;
-        whole = sym (append-nil (text_of_batches state so_far.rounds));
-      }
+  pub ended : (old now new : List (Post A)) (state state' : View) (taken taken' taken'' : List ℕ) (board board' board'' : Option Published) (outcome : Result (Unit {0}) Stop) → EndsCollecting now new state' taken' taken'' board' board'' outcome → IsCollecting old now state state' taken taken' board board' → EndsCollecting old new state taken taken'' board board'' outcome
+  ended old now new state state' taken taken' taken'' board board' board'' (Ok done) last so_far = ended_all old now new state state' taken taken' taken'' board board' board'' last so_far
+  ended old now new state state' taken taken' taken'' board board' board'' (Err stop) last so_far = ended_some old now new state state' taken taken' taken'' board board' board'' last so_far
 
   pub each-push : (answers : List (Answer A)) (a : Answer A) → one_each (answers ++ a ∷ []) ≡ one_each answers ++ (a ∷ []) ∷ []
   each-push [] a = refl

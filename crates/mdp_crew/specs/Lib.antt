@@ -5,6 +5,7 @@ pub mod Batches
 pub mod Work
 pub mod Answering
 pub mod Rounds
+pub mod Publishing
 pub mod Collecting
 pub mod Crew
 pub mod Arbitrating

@@ -1,13 +1,17 @@
--- What the crew of a run has shown of the events that it took.
-use Rattle.std.specs.Prelude.{◌≡◌, ℕ, List, ◌++◌, Result, Ok, Err, IfOk, IfErr}
+-- What the crew of a run has shown of the events that it took, and what it has published.
+use Rattle.std.specs.Prelude.{◌≡◌, ℕ, List, ◌++◌, Option, Result, Ok, Err, IfOk, IfErr, OnOk}
 use Rattle.mdp_templates.specs.declared.instrument.Instrument.{Instrument}
 use Rattle.mdp_arbiter.specs.Accepted.{Event}
 use Rattle.mdp_arbiter.specs.Channel.{channel_of}
 use Rattle.mdp_arbiter.specs.Machine.{is_lost, state_at, trace}
 use Rattle.mdp_desks.specs.Shown.{shown_lines}
+use Rattle.mdp_lanes.specs.Boards.{Published}
+use Rattle.mdp_lanes.specs.declared.step.Step.{Step}
+use Rattle.mdp_reports.specs.BoardSteps.{board_steps}
 use Rattle.mdp_crew.specs.declared.arbiter.Standing.{Standing}
 use Rattle.mdp_crew.specs.declared.stop.Stop.{Stop}
 use Rattle.mdp_crew.specs.declared.stop.Stop.TheVariants.{Memory}
+use Rattle.mdp_crew.specs.Publishing.{published_on}
 
 -- what the moves of these events show went out, and this is where the channel stands
 pub record HasShownAll (listed : List Instrument) (room : ℕ) (events : List Event) (start taken : List ℕ) (standing : Standing) : Type 0 where
@@ -31,3 +35,16 @@ outcome_of (Ok done) (Err memory) = Err Memory
 pub record HasShown (listed : List Instrument) (room : ℕ) (events : List Event) (start taken : List ℕ) (outcome : Result Standing Stop) : Type 0 where
   pub all : IfOk outcome (λ (standing : Standing). HasShownAll listed room events start taken standing)
   pub some : IfErr outcome (λ (stop : Stop). HasShownSome listed room events start taken)
+
+-- ---- a board
+
+-- a beginning of the steps of these events' moves was published, whatever comes behind them
+pub record HasPublishedSome (listed : List Instrument) (room : ℕ) (events : List Event) (board board' : Option Published) : Type 0 where
+  pub steps : List Step
+  pub board_is : board' ≡ published_on board steps
+  pub begins : (more : List Event) → (rest : List Step) × (board_steps listed (trace (channel_of listed room) (events ++ more)) ≡ steps ++ rest)
+
+-- what was published, whatever the run came to: all steps of these events' moves, or a beginning of them
+pub record HasPublished (listed : List Instrument) (room : ℕ) (events : List Event) (board board' : Option Published) (outcome : Result Standing Stop) : Type 0 where
+  pub all : OnOk outcome (board' ≡ published_on board (board_steps listed (trace (channel_of listed room) events)))
+  pub some : IfErr outcome (λ (stop : Stop). HasPublishedSome listed room events board board')

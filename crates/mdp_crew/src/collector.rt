@@ -1,17 +1,20 @@
-//! The collector's loop: it takes an answer of each worker, writes the text of that round, and goes on until all have finished.
+//! The collector's loop: it takes an answer of each worker, writes the text of that round and publishes its steps, and goes on until all
+//! have finished.
 
-ghost use Rattle.std.specs.Prelude.{◌≡◌, ◌<◌, ◌≤◌, ◌+◌, ◌-◌, ◌^◌, ℕ, [], ◌++◌, List, OnOk, IfErr, IfNone, Result, Some, length, map, take, vec_len, vec_capacity};
-ghost use Rattle.mdp_crew.specs.Collecting.{EndsCollecting, TurnsTo, kept_after_batch, text_of_batch};
+ghost use Rattle.std.specs.Prelude.{◌≡◌, ◌<◌, ◌≤◌, ◌+◌, ◌-◌, ◌^◌, ℕ, [], ◌++◌, List, OnOk, IfErr, IfNone, IfOk, Result, Some, length, map, take, vec_len, vec_capacity};
+ghost use Rattle.mdp_crew.specs.Collecting.{EndsCollecting, CutShort, TurnsTo, kept_after_batch, steps_of_batch, text_of_batch};
 ghost use Rattle.mdp_crew.specs.Counted.{HasCounted};
+ghost use Rattle.mdp_crew.specs.Publishing.{published_on};
 ghost use Rattle.mdp_crew.specs.Rounds.{all_finish, all_tell, all_took, is_finished, is_told, one_each};
 ghost use Rattle.mdp_crew.specs.Stops.{FailsByStop, failed_writes};
 ghost use Rattle.mdp_reports.specs.FromAnswers.{told_in_answer};
 
 use crate::crew::Post;
+use crate::publishing::publish;
 use crate::stop::Stop;
-use mdp_lanes::LaneReceiver;
+use mdp_lanes::{LaneReceiver, Publisher};
 use mdp_print::{CountedWrite, write_all_counted};
-use mdp_reports::{Answer, Collector};
+use mdp_reports::{Answer, BoardSteps, Collector};
 use mdp_templates::Memory;
 use std::alloc::Allocator;
 use std::sync::Wait;
@@ -99,37 +102,42 @@ fn drain_all<R: Wait, A: Allocator + Copy>(rt: &R, posts: &mut [Post<A>], round:
     }
 }
 
-// Makes the text of a round.
+// Makes the text of a round, and the steps that a board shows of it.
 fn make_text<A: Allocator + Copy>(
     alloc: A,
     collector: &mut Collector<A>,
     round: &[Answer<A>],
     text: &mut Vec<u8, A>,
+    steps: &mut BoardSteps<A>,
 ) -> Result<(), Memory>
     ensures text { OnOk result (text.new.items ≡ text_of_batch collector.old (map told_in_answer round.now)) }
+    ensures steps { OnOk result (steps.new ≡ steps_of_batch (map told_in_answer round.now)) }
     ensures kept { OnOk result (collector.new ≡ kept_after_batch collector.old (map told_in_answer round.now)) }
 {
     text.clear();
-    collector.take(alloc, round, text)
+    steps.clear();
+    collector.take(alloc, round, text, steps)
 }
 
-// Writes the text of a round.
+// Writes the text of a round, and makes the steps that a board shows of it.
 fn write_round<W: CountedWrite, A: Allocator + Copy>(
     alloc: A,
     collector: &mut Collector<A>,
     round: &[Answer<A>],
     text: &mut Vec<u8, A>,
+    steps: &mut BoardSteps<A>,
     written: &mut u64,
     writer: &mut W,
 ) -> Result<(), Stop>
     requires { W.failed writer.old < 2 ^ 64 - 1 }
     ensures text { OnOk result (W.taken writer.new ≡ W.taken writer.old ++ text_of_batch collector.old (map told_in_answer round.now)) }
     ensures begins { IfErr result (λ _. (n : ℕ) × (W.taken writer.new ≡ W.taken writer.old ++ take n (text_of_batch collector.old (map told_in_answer round.now)))) }
+    ensures steps { OnOk result (steps.new ≡ steps_of_batch (map told_in_answer round.now)) }
     ensures kept { OnOk result (collector.new ≡ kept_after_batch collector.old (map told_in_answer round.now)) }
     ensures counts { (start : List ℕ) → HasCounted start (W.taken writer.old) written.old → HasCounted start (W.taken writer.new) written.new }
     ensures failed { FailsByStop result (W.failed writer.old) (W.failed writer.new) }
 {
-    let Ok(()) = make_text(alloc, collector, round, text) else {
+    let Ok(()) = make_text(alloc, collector, round, text, steps) else {
         return Err(Stop::Memory);
     };
     match write_all_counted(writer, text) {
@@ -144,6 +152,35 @@ fn write_round<W: CountedWrite, A: Allocator + Copy>(
     }
 }
 
+// Writes the text of a round, and then publishes its steps.
+fn show_round<R: Wait, W: CountedWrite, A: Allocator + Copy>(
+    rt: &R,
+    alloc: A,
+    collector: &mut Collector<A>,
+    round: &[Answer<A>],
+    text: &mut Vec<u8, A>,
+    steps: &mut BoardSteps<A>,
+    written: &mut u64,
+    board: &mut Option<Publisher<A>>,
+    writer: &mut W,
+) -> Result<(), Stop>
+    requires { W.failed writer.old < 2 ^ 64 - 1 }
+    ensures text { OnOk result (W.taken writer.new ≡ W.taken writer.old ++ text_of_batch collector.old (map told_in_answer round.now)) }
+    ensures steps { OnOk result (board.new ≡ published_on board.old (steps_of_batch (map told_in_answer round.now))) }
+    ensures begins { IfErr result (λ _. CutShort collector.old (map told_in_answer round.now) (W.taken writer.old) (W.taken writer.new) board.old board.new) }
+    ensures kept { OnOk result (collector.new ≡ kept_after_batch collector.old (map told_in_answer round.now)) }
+    ensures counts { (start : List ℕ) → HasCounted start (W.taken writer.old) written.old → HasCounted start (W.taken writer.new) written.new }
+    ensures failed { FailsByStop result (W.failed writer.old) (W.failed writer.new) }
+{
+    match write_round(alloc, collector, round, text, steps, written, writer) {
+        Ok(()) => match publish(rt, board, steps) {
+            Ok(()) => Ok(()),
+            Err(Memory) => Err(Stop::Memory),
+        },
+        Err(stop) => Err(stop),
+    }
+}
+
 // One round: none where the loop goes on, else what became of it.
 fn turn<R: Wait, W: CountedWrite, A: Allocator + Copy>(
     rt: &R,
@@ -152,12 +189,14 @@ fn turn<R: Wait, W: CountedWrite, A: Allocator + Copy>(
     collector: &mut Collector<A>,
     round: &mut Vec<Answer<A>, A>,
     text: &mut Vec<u8, A>,
+    steps: &mut BoardSteps<A>,
     written: &mut u64,
+    board: &mut Option<Publisher<A>>,
     writer: &mut W,
 ) -> Option<Result<(), Stop>>
     requires sound { W.failed writer.old < 2 ^ 64 - 1 }
     requires room { length posts.old ≤ vec_capacity round.old }
-    ensures turned { TurnsTo posts.old posts.new collector.old collector.new (W.taken writer.old) (W.taken writer.new) result }
+    ensures turned { TurnsTo posts.old posts.new collector.old collector.new (W.taken writer.old) (W.taken writer.new) board.old board.new result }
     ensures room { vec_capacity round.new ≡ vec_capacity round.old }
     ensures counts { (start : List ℕ) → HasCounted start (W.taken writer.old) written.old → HasCounted start (W.taken writer.new) written.new }
     ensures still { IfNone result (W.failed writer.new ≡ W.failed writer.old) }
@@ -172,7 +211,9 @@ fn turn<R: Wait, W: CountedWrite, A: Allocator + Copy>(
         drain_all(rt, posts, round.as_mut_slice());
         return Some(Err(Stop::Memory));
     }
-    match write_round(alloc, collector, round, text, written, writer) {
+    match show_round(
+        rt, alloc, collector, round, text, steps, written, board, writer,
+    ) {
         Ok(()) => None,
         Err(stop) => {
             drain_all(rt, posts, round.as_mut_slice());
@@ -181,13 +222,14 @@ fn turn<R: Wait, W: CountedWrite, A: Allocator + Copy>(
     }
 }
 
-/// Takes an answer of each worker, round by round, and writes the text of each round, until all workers have finished. From the first
-/// want of memory on, a worker's or its own, or from a failed write on, it writes nothing more, and takes what each worker still
-/// answers, to the last.
+/// Takes an answer of each worker, round by round, until all workers have finished: it writes the text of each round, and then publishes
+/// its steps on the board, if there is one. From the first want of memory on, a worker's or its own, or from a failed write on, it writes
+/// and publishes nothing more, and takes what each worker still answers, to the last.
 ///
 /// # Errors
 ///
-/// `Output` exactly where a write failed, else `Memory`. The text that went out is a beginning of that of the rounds taken.
+/// `Output` exactly where a write failed, else `Memory`. The text that went out is a beginning of that of the rounds taken, and what was
+/// published a beginning of their steps.
 pub fn collect<R: Wait, W: CountedWrite, A: Allocator + Copy>(
     rt: &R,
     alloc: A,
@@ -195,17 +237,21 @@ pub fn collect<R: Wait, W: CountedWrite, A: Allocator + Copy>(
     collector: &mut Collector<A>,
     round: &mut Vec<Answer<A>, A>,
     text: &mut Vec<u8, A>,
+    steps: &mut BoardSteps<A>,
     written: &mut u64,
+    board: &mut Option<Publisher<A>>,
     writer: &mut W,
 ) -> Result<(), Stop>
     requires sound { W.failed writer.old < 2 ^ 64 - 1 }
     requires room { length posts.old ≤ vec_capacity round.old }
-    ensures ends { EndsCollecting posts.old posts.new collector.old (W.taken writer.old) (W.taken writer.new) result }
+    ensures ends { EndsCollecting posts.old posts.new collector.old (W.taken writer.old) (W.taken writer.new) board.old board.new result }
     ensures counts { (start : List ℕ) → HasCounted start (W.taken writer.old) written.old → HasCounted start (W.taken writer.new) written.new }
     ensures failed { FailsByStop result (W.failed writer.old) (W.failed writer.new) }
 {
     for _ in rt.forever() {
-        if let Some(outcome) = turn(rt, alloc, posts, collector, round, text, written, writer) {
+        if let Some(outcome) = turn(
+            rt, alloc, posts, collector, round, text, steps, written, board, writer,
+        ) {
             return outcome;
         }
     }

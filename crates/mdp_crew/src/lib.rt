@@ -8,6 +8,7 @@ mod collector;
 mod crew;
 mod gate;
 mod order;
+mod publishing;
 mod running;
 mod starts;
 mod stop;

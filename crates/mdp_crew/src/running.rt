@@ -10,7 +10,7 @@ ghost use Rattle.mdp_lanes.specs.Queues.{IntakeReceiverView, LaneSenderView};
 ghost use Rattle.mdp_templates.specs.declared.instrument.Instrument.{Instrument};
 ghost use Rattle.mdp_crew.specs.Batches.{HasTakenMore, events_taken};
 ghost use Rattle.mdp_crew.specs.Counted.{HasCounted};
-ghost use Rattle.mdp_crew.specs.Running.{HasShown, outcome_of};
+ghost use Rattle.mdp_crew.specs.Running.{HasPublished, HasShown, outcome_of};
 ghost use Rattle.mdp_crew.specs.Ready.{IsReady};
 ghost use Rattle.mdp_crew.specs.Stops.{FailsByStop};
 
@@ -23,9 +23,9 @@ use crate::order::Order;
 use crate::starts::Starts;
 use crate::stop::Stop;
 use mdp_arbiter::Arbiter;
-use mdp_lanes::{IntakeReceiver, LaneSender};
+use mdp_lanes::{IntakeReceiver, LaneSender, Publisher};
 use mdp_print::CountedWrite;
-use mdp_reports::{Answer, Collector};
+use mdp_reports::{Answer, BoardSteps, Collector};
 use mdp_templates::{Instrument, Memory};
 use mdp_window::RingWindow;
 use std::alloc::Allocator;
@@ -188,7 +188,7 @@ fn outcome(
     }
 }
 
-// Lets the threads work, writes what they come to, and joins them.
+// Lets the threads work, writes and publishes what they come to, and joins them.
 fn run_ready<'s, E, R, S, W, A>(
     rt: &'s R,
     scope: &'s Scope<'s, E>,
@@ -200,6 +200,7 @@ fn run_ready<'s, E, R, S, W, A>(
     window: u32,
     ready: Ready<'s, A>,
     receiver: IntakeReceiver<Batch<A>, A>,
+    board: &mut Option<Publisher<A>>,
     writer: &mut W,
 ) -> CrewOutcome<A>
 where
@@ -216,6 +217,7 @@ where
     ensures takes { HasTakenMore receiver result.receiver }
     ensures ends { ends_taken (λ b. b.is_last) result.receiver.taken ≡ 3 }
     ensures shows { HasShown listed.now window (events_taken result.receiver.taken) (W.taken writer.old) (W.taken writer.new) result.standing }
+    ensures publishes { HasPublished listed.now window (events_taken result.receiver.taken) board.old board.new result.standing }
     ensures counts { HasCounted (W.taken writer.old) (W.taken writer.new) result.written }
     ensures failed { FailsByStop result.standing (W.failed writer.old) (W.failed writer.new) }
 {
@@ -231,6 +233,7 @@ where
     );
     let _ = go.set(rt, true);
     let mut text = Vec::new(alloc);
+    let mut steps = BoardSteps::new(alloc);
     let mut written = 0;
     let collected = collect(
         rt,
@@ -239,7 +242,9 @@ where
         &mut collector,
         &mut round,
         &mut text,
+        &mut steps,
         &mut written,
+        board,
         writer,
     );
     let ArbiterOutcome {
@@ -256,8 +261,8 @@ where
 }
 
 /// Runs over what three readers hand over, once they are told to go: an arbiter and so many workers in threads of the scope, and the
-/// collector on the caller's thread, which writes the text. All that the readers hand over is taken, and all threads are joined, on
-/// every path. Where a thread can't be started the readers are told to stop; where it is the arbiter's, it arbitrates on the caller's
+/// collector on the caller's thread, which writes the text and publishes its steps on the board, if there is one. All that the readers
+/// hand over is taken, and all threads are joined, on every path. Where a thread can't be started the readers are told to stop; where it is the arbiter's, it arbitrates on the caller's
 /// thread what they put before.
 ///
 /// The number of workers is 1 to 16, and the window covers 1 to 65536 packet numbers.
@@ -265,7 +270,7 @@ where
 /// # Errors
 ///
 /// `Output` exactly where a write failed, else `Memory`, also where a worker's thread can't be started. What went out is a beginning of
-/// what the whole run shows.
+/// what the whole run shows, and what was published a beginning of its steps.
 pub fn run_crew<'s, E, R, S, G, W, A>(
     rt: &'s R,
     scope: &'s Scope<'s, E>,
@@ -277,6 +282,7 @@ pub fn run_crew<'s, E, R, S, G, W, A>(
     workers: u16,
     window: u32,
     mut receiver: IntakeReceiver<Batch<A>, A>,
+    board: &mut Option<Publisher<A>>,
     writer: &mut W,
 ) -> CrewOutcome<A>
 where
@@ -295,12 +301,13 @@ where
     ensures takes { HasTakenMore receiver result.receiver }
     ensures ends { ends_taken (λ b. b.is_last) result.receiver.taken ≡ 3 }
     ensures shows { HasShown listed.now window (events_taken result.receiver.taken) (W.taken writer.old) (W.taken writer.new) result.standing }
+    ensures publishes { HasPublished listed.now window (events_taken result.receiver.taken) board.old board.new result.standing }
     ensures counts { HasCounted (W.taken writer.old) (W.taken writer.new) result.written }
     ensures failed { FailsByStop result.standing (W.failed writer.old) (W.failed writer.new) }
 {
     match prepare(rt, scope, starts, alloc, gate, listed, workers, window) {
         Ok(ready) => run_ready(
-            rt, scope, go, starts, alloc, listed, workers, window, ready, receiver, writer,
+            rt, scope, go, starts, alloc, listed, workers, window, ready, receiver, board, writer,
         ),
         Err(Memory) => {
             let _ = go.set(rt, false);

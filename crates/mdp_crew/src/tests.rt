@@ -1,9 +1,10 @@
 //! Crews in one thread and in threads: both print the worked text, whatever the number of workers; and each start, each write and each
-//! allocation refused in turn.
+//! allocation refused in turn. On a board each front of the worked steps can be seen.
 
 mod channel;
 mod in_threads;
 mod in_turn;
+mod on_board;
 mod writer;
 
 use crate::gate::{Gate, Open};
@@ -12,6 +13,7 @@ use crate::stop::Stop;
 use crate::tests::channel::{Came, NEXT, TEXT, listed};
 use crate::tests::in_threads::run_in_threads;
 use crate::tests::in_turn::run_in_turn;
+use crate::tests::on_board::{STEPS, Shown, rows_after, run_on_board, text_length};
 use mdp_templates::{Instrument, Memory};
 use refusing::Refusing;
 use std::alloc::Global;
@@ -254,5 +256,85 @@ fn each_allocation_refused(rt: HostRuntime) -> Result<(), Fail> {
         refused = number;
     }
     assert!(rt; refused > 30);
+    Ok(())
+}
+
+/// So many workers print the text, and publish all its steps.
+fn board_shows<R: Threads + Wait + Abort + Sync>(
+    rt: &R,
+    alloc: Global,
+    listed: &[Instrument],
+    workers: u16,
+) -> Result<(), Fail> {
+    let shown = run_on_board(rt, alloc, alloc, listed, workers, 0)?;
+    assert!(rt; shown.is_ok);
+    assert_eq!(rt; shown.bytes.as_slice(), TEXT);
+    assert_eq!(rt; shown.length, Some(STEPS));
+    assert_eq!(rt; shown.rows, rows_after(STEPS));
+    Ok(())
+}
+
+#[test]
+fn any_number_of_workers_publishes_the_steps(rt: HostRuntime) -> Result<(), Fail> {
+    let listed = listed()?;
+    for workers in [1, 2, 3, 16] {
+        board_shows(&rt, rt.alloc(), &listed, workers)?;
+    }
+    Ok(())
+}
+
+/// Sees that a run which ended early has published a front of the steps, and nothing whose text did not go out.
+fn shows_a_front<R: Abort>(rt: &R, shown: &Shown) {
+    let Some(length) = shown.length else {
+        panic!(rt; "nothing was read");
+    };
+    assert!(rt; length <= STEPS);
+    assert_eq!(rt; shown.rows, rows_after(length));
+    assert!(rt; TEXT.starts_with(&shown.bytes));
+    assert!(rt; shown.bytes.len() >= text_length(length));
+}
+
+#[test]
+fn each_write_fails_beside_a_board(rt: HostRuntime) -> Result<(), Fail> {
+    let listed = listed()?;
+    let mut failed = 0u64;
+    for fail_at in 1..1000u64 {
+        let shown = run_on_board(&rt, rt.alloc(), rt.alloc(), &listed, 2, fail_at)?;
+        shows_a_front(&rt, &shown);
+        if shown.is_ok {
+            break;
+        }
+        failed = fail_at;
+    }
+    assert!(rt; failed > 10);
+    Ok(())
+}
+
+/// Whether two workers publish all steps, by memory from this heap.
+fn two_publish<R: Threads + Wait + Abort + Sync>(
+    rt: &R,
+    plain: Global,
+    heap: &Refusing<Global>,
+    listed: &[Instrument],
+) -> Result<bool, Memory> {
+    let shown = run_on_board(rt, heap, plain, listed, 2, 0)?;
+    shows_a_front(rt, &shown);
+    Ok(shown.is_ok)
+}
+
+#[test]
+fn each_allocation_refused_beside_a_board(rt: HostRuntime) -> Result<(), Fail> {
+    let listed = listed()?;
+    let mut refused = 0u64;
+    for number in 1..10000u64 {
+        let heap = Refusing::new(rt.alloc(), number);
+        let published = two_publish(&rt, rt.alloc(), &heap, &listed).unwrap_or(false);
+        assert_eq!(rt; published, !heap.has_refused());
+        if published {
+            break;
+        }
+        refused = number;
+    }
+    assert!(rt; refused > 40);
     Ok(())
 }

@@ -1,8 +1,11 @@
--- What a worker reports of a moment: each of its securities that is printed there, with its lines and its best levels.
+-- What a worker reports of a moment: each of its securities that is printed there, with its lines, its best levels and
+-- the top of its consolidated book.
 use Rattle.std.specs.Prelude.{Option, Some, None, ℕ, ◌+◌, Bool, List, [], ◌∷◌, ◌++◌, if◌then◌else◌}
 use Rattle.std.specs.List.{filter}
 use Rattle.mdp_quotes.specs.declared.best.Best.{Best}
+use Rattle.mdp_quotes.specs.declared.top.TopOfBook.{TopOfBook}
 use Rattle.mdp_quotes.specs.Best.{best_of}
+use Rattle.mdp_quotes.specs.Top.{top_of_book}
 use Rattle.mdp_desks.specs.Lines.{Seen, book_lines}
 use Rattle.mdp_desks.specs.Moments.{Moment, ended, leapt}
 
@@ -10,9 +13,10 @@ pub record Told : Type 0 where
   pub slot : ℕ
   pub lines : List ℕ
   pub best : Option Best
+  pub top : Option TopOfBook
 
 abbrev pub told_of : ℕ → ℕ → ℕ → Seen → Told
-told_of packet message slot s = record { slot = slot; lines = book_lines packet message s.instrument.name s.book; best = best_of s.book }
+told_of packet message slot s = record { slot = slot; lines = book_lines packet message s.instrument.name s.book; best = best_of s.book; top = top_of_book s.book }
 
 abbrev pub told_there : ℕ → ℕ → ℕ → Option Seen → List Told
 told_there packet message slot None = []

@@ -111,8 +111,8 @@ impl Desk {
         }
         let mut lines = Vec::new(alloc);
         let name = self.instrument.name.as_str().as_bytes();
-        put_book(&mut lines, packet, message, name, &self.book)?;
+        let top = put_book(&mut lines, packet, message, name, &self.book)?;
         let best = Best::of(self.book.book());
-        Ok(Some(ToldSecurity::new(slot, lines, best)))
+        Ok(Some(ToldSecurity::new(slot, lines, best, top)))
     }
 }

@@ -2,16 +2,18 @@
 
 ghost use Rattle.std.specs.Prelude.{◌≡◌};
 
-use mdp_quotes::Best;
+use mdp_quotes::{Best, TopOfBook};
 use std::alloc::Allocator;
 use std::marker::Model;
 
-/// A security that is printed at an event end: its place among the listed ones, its lines, and its best levels, none of a fault.
+/// A security that is printed at an event end: its place among the listed ones, its lines, its best levels, none of a fault,
+/// and the top of its consolidated book, none of a fault.
 #[derive(Drop)]
 pub struct ToldSecurity<A: Allocator> {
     slot: u16,
     lines: Vec<u8, A>,
     best: Option<Best>,
+    top: Option<TopOfBook>,
 }
 
 impl<A: Allocator> Model for ToldSecurity<A> {
@@ -22,15 +24,25 @@ impl<A: Allocator> Model for ToldSecurity<A> {
 
     ghost coded = { told_code };
 
-    ghost view = { λ t. record { slot = t.slot; lines = t.lines.items; best = t.best } };
+    ghost view = { λ t. record { slot = t.slot; lines = t.lines.items; best = t.best; top = t.top } };
 }
 
 impl<A: Allocator> ToldSecurity<A> {
     /// Puts together what is told of a security.
-    pub fn new(slot: u16, lines: Vec<u8, A>, best: Option<Best>) -> ToldSecurity<A>
-        ensures { result ≡ record { slot = slot; lines = lines.items; best = best } }
+    pub fn new(
+        slot: u16,
+        lines: Vec<u8, A>,
+        best: Option<Best>,
+        top: Option<TopOfBook>,
+    ) -> ToldSecurity<A>
+        ensures { result ≡ record { slot = slot; lines = lines.items; best = best; top = top } }
     {
-        ToldSecurity { slot, lines, best }
+        ToldSecurity {
+            slot,
+            lines,
+            best,
+            top,
+        }
     }
 
     /// The place of the security among the listed ones, from 0.
@@ -52,5 +64,12 @@ impl<A: Allocator> ToldSecurity<A> {
         ensures { result ≡ self.now.best }
     {
         self.best
+    }
+
+    /// The top of its consolidated book; none of a faulty book.
+    pub fn top(&self) -> Option<TopOfBook>
+        ensures { result ≡ self.now.top }
+    {
+        self.top
     }
 }

@@ -70,7 +70,7 @@ same_seen a b m i same =
     ap (λ (h : List Sent). cond (m.end && nat_lt i.base m.packet) (seen_as i.instrument (is_printed i.instrument.id i.jumped h m) (book_from i.instrument i.book (behind i.base (a ++ m ∷ [])))) None) same
     ∙ ap (λ (h : List Sent). cond (m.end && nat_lt i.base m.packet) (seen_as i.instrument (is_printed i.instrument.id i.jumped (behind i.base b) m) (book_from i.instrument i.book h)) None) (heard_more a b (m ∷ []) i same)
 
-all_same : (a b : List Sent) (m : Sent) (starts : List Start) → AllByRecursion (SameHeard a b) starts → map (start_seen a m) starts ≡ map (start_seen b m) starts
+pub all_same : (a b : List Sent) (m : Sent) (starts : List Start) → AllByRecursion (SameHeard a b) starts → map (start_seen a m) starts ≡ map (start_seen b m) starts
 all_same a b m [] is = refl
 all_same a b m (i ∷ starts) is =
     ap (λ (s : Option Seen). s ∷ map (start_seen a m) starts) (same_seen a b m i is.0)
@@ -79,7 +79,7 @@ all_same a b m (i ∷ starts) is =
 same_at : (a b : List Sent) (m : Sent) (starts : List Start) → AllByRecursion (SameHeard a b) starts → shown_lines_at starts a m ≡ shown_lines_at starts b m
 same_at a b m starts is = ap (lines_of m) (all_same a b m starts is)
 
-same_more : (a b more : List Sent) (starts : List Start) → AllByRecursion (SameHeard a b) starts → AllByRecursion (SameHeard (a ++ more) (b ++ more)) starts
+pub same_more : (a b more : List Sent) (starts : List Start) → AllByRecursion (SameHeard a b) starts → AllByRecursion (SameHeard (a ++ more) (b ++ more)) starts
 same_more a b more [] is = tt
 same_more a b more (i ∷ starts) is = (heard_more a b more i is.0, same_more a b more starts is.1)
 

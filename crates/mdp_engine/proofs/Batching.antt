@@ -62,7 +62,7 @@ law_of_runs n listed feed room es batches some differ honest cut =
     ∙ law_of_workers n listed (trace (channel_of listed room) es) some differ (law_of_ascent listed room es)
     ∙ shows_what_is_owed listed feed (trace (channel_of listed room) es) honest.complete (honest_moves_agree listed feed room es honest)
 
-moments-append : (listed : List Instrument) (before moves more : List Move) → moments_after listed before (moves ++ more) ≡ moments_after listed before moves ++ moments_after listed (before ++ moves) more
+pub moments-append : (listed : List Instrument) (before moves more : List Move) → moments_after listed before (moves ++ more) ≡ moments_after listed before moves ++ moments_after listed (before ++ moves) more
 moments-append listed before [] more = ap (λ (b : List Move). moments_after listed b more) (sym (append-nil before))
 moments-append listed before (m ∷ moves) more =
     ap (λ (l : List Moment). moments_of listed before m ++ l)

@@ -109,7 +109,7 @@ seen_case feed before m i true true over is =
     ∙ ap (book_from listed (book_at listed head)) (sym (behind-heard i.base before m over)) in
     ap (λ (k : Book). seen_as listed (is_printed listed.id i.jumped h m) k) book
 
-all_seen : (feed : List PacketContent) (before : List Sent) (m : Sent) (fs : List Footing) → AllByRecursion (Heard feed m.packet before) fs → map (seen_at before m) fs ≡ map (start_seen before m) (map (start_of feed) fs)
+pub all_seen : (feed : List PacketContent) (before : List Sent) (m : Sent) (fs : List Footing) → AllByRecursion (Heard feed m.packet before) fs → map (seen_at before m) fs ≡ map (start_seen before m) (map (start_of feed) fs)
 all_seen feed before m [] is = refl
 all_seen feed before m (i ∷ fs) is =
     ap (λ (s : Option Seen). s ∷ map (seen_at before m) fs) (seen_case feed before m i m.end (nat_lt i.base m.packet) refl is.0)
@@ -118,7 +118,7 @@ all_seen feed before m (i ∷ fs) is =
 lines_case : (feed : List PacketContent) (before : List Sent) (m : Sent) (fs : List Footing) → AllByRecursion (Heard feed m.packet before) fs → lines_at fs before m ≡ shown_lines_at (map (start_of feed) fs) before m
 lines_case feed before m fs is = ap (lines_of m) (all_seen feed before m fs is)
 
-heard_more : (feed : List PacketContent) (before : List Sent) (m : Sent) (fs : List Footing) → AllByRecursion (Heard feed m.packet before) fs → AllByRecursion (Heard feed m.packet (before ++ m ∷ [])) fs
+pub heard_more : (feed : List PacketContent) (before : List Sent) (m : Sent) (fs : List Footing) → AllByRecursion (Heard feed m.packet before) fs → AllByRecursion (Heard feed m.packet (before ++ m ∷ [])) fs
 heard_more feed before m [] is = tt
 heard_more feed before m (i ∷ fs) is =
     let more : Heard feed m.packet (before ++ m ∷ []) i = λ over.

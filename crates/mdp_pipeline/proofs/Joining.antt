@@ -1,6 +1,6 @@
 -- What was taken of three readers, with what they did not hand over, is a merge of what their records bring.
 use Rattle.std.proofs.Common.{◌≡◌, ℕ, Bool, true, false, cond, List, [], ◌∷◌, ◌++◌, map, take, refl, sym, ap, subst, ◌∙◌, append_assoc}
-use Rattle.std.specs.Prelude.{Result, Ok, Err, IfOk, IfErr, OnOk, ◌==◌, ◌<◌}
+use Rattle.std.specs.Prelude.{Option, Result, Ok, Err, IfOk, IfErr, OnOk, ◌==◌, ◌<◌}
 use Rattle.std.specs.List.{filter, flat_map}
 use Rattle.std.proofs.lemmas.List.{append-nil, map-append}
 use Rattle.std.proofs.lemmas.List.Elements.{filter-append}
@@ -13,6 +13,9 @@ use Rattle.mdp_arbiter.specs.Accepted.{Event}
 use Rattle.mdp_arbiter.specs.Channel.{channel_of}
 use Rattle.mdp_engine.proofs.Agreeing.{shows_what_is_owed}
 use Rattle.mdp_engine.proofs.Honesty.{honest_moves_agree}
+use Rattle.mdp_lanes.specs.Boards.{Published}
+use Rattle.mdp_lanes.specs.declared.step.Step.{Step}
+use Rattle.mdp_reports.specs.BoardSteps.{board_steps}
 use Rattle.mdp_lanes.specs.Items.{is_same, items_of}
 use Rattle.mdp_lanes.specs.Queues.{IntakeReceiverView, IntakeSenderView, IsFreshSenderOf}
 use Rattle.mdp_print.specs.Texts.{last_line}
@@ -20,7 +23,9 @@ use Rattle.mdp_crew.specs.declared.arbiter.Standing.{Standing}
 use Rattle.mdp_crew.specs.declared.batch.Batch.{Batch}
 use Rattle.mdp_crew.specs.declared.stop.Stop.{Stop}
 use Rattle.mdp_crew.specs.Batches.{HasTakenMore, all_events, batch_events, events_taken}
-use Rattle.mdp_crew.specs.Running.{HasShown, HasShownAll}
+use Rattle.mdp_crew.specs.Publishing.{published_on}
+use Rattle.mdp_crew.specs.Running.{HasPublished, HasPublishedSome, HasShown, HasShownAll}
+use Rattle.mdp_crew.proofs.Boards.{published_nothing}
 use Rattle.mdp_crew.specs.Stops.{FailsByStop}
 use Rattle.mdp_pipeline.specs.declared.reader.ReaderOutcome.{ReaderOutcome}
 use Rattle.mdp_pipeline.specs.declared.summary.RunFault.{RunFault}
@@ -28,12 +33,13 @@ use Rattle.mdp_pipeline.specs.declared.summary.Summary.{Summary}
 use Rattle.mdp_pipeline.specs.Taken.{HasReadFor, tagged_as, tagged_taken}
 use Rattle.mdp_pipeline.specs.Merge.{arrivals}
 use Rattle.mdp_pipeline.specs.Merging.{Tagged, IsMerge, events_from, events_in, is_from}
-use Rattle.mdp_pipeline.specs.Output.{Begins, BeginsMerge, Prints, PrintsMerge, end_lines, is_lost_after, moves_of, next_after, shown_output}
+use Rattle.mdp_pipeline.specs.Output.{Begins, BeginsToPublish, BeginsToPublishMerge, Prints, PublishesMerge, end_lines, is_lost_after, moves_of, next_after, shown_output}
 use Rattle.mdp_pipeline.specs.Reading.{Reading, Readings, AreReadingsOf, events_of, refusals_text}
 use Rattle.mdp_pipeline.specs.Readers.{HasRead}
 use Rattle.mdp_pipeline.specs.RefusalTexts.{RefusalTexts}
 use Rattle.mdp_pipeline.specs.Running.{EndsAs, EndsEarly, joined_texts}
 use Rattle.mdp_pipeline.proofs.Beginnings.{readings_exist}
+use Rattle.mdp_pipeline.proofs.OnBoards.{begins_steps, publishes, some_on_board}
 use Rattle.mdp_pipeline.proofs.Ending.{early_behind, early_shown, ends_behind, told_as}
 
 -- ---- one feed's events among those with feeds
@@ -110,9 +116,10 @@ from_s a b s =
     ∙ ap (λ (t : List Event). t ++ events_from feeds.S (tagged_as feeds.S s)) (from_all feeds.S feeds.B b false refl)
     ∙ from_all feeds.S feeds.S s true refl
 
--- whatever the records say, nothing of its text went out
-pub begins_nothing : (listed : List Instrument) (room : ℕ) (a b s : List RecordContent) (start : List ℕ) → BeginsMerge listed room a b s start start
-begins_nothing listed room a b s start =
+-- whatever the records say, nothing of its text went out, and nothing was published
+pub begins_nothing : (listed : List Instrument) (room : ℕ) (a b s : List RecordContent) (start : List ℕ) (board : Option Published)
+    → (steps : List Step) × (board ≡ published_on board steps) × BeginsToPublishMerge listed room a b s start start steps
+begins_nothing listed room a b s start board =
     let read_a = readings_exist (arrivals feeds.A a) in
     let read_b = readings_exist (arrivals feeds.B b) in
     let read_s = readings_exist (arrivals feeds.S s) in
@@ -121,7 +128,10 @@ begins_nothing listed room a b s start =
     let es = events_of read_s.0 in
     let readings : Readings = record { a = read_a.0; b = read_b.0; s = read_s.0 } in
     let merge = rests ea eb es in
-    let text = shown_output listed room (refusals_text readings) (events_in merge) in (
+    let text = shown_output listed room (refusals_text readings) (events_in merge) in
+    let steps = board_steps listed (moves_of listed room (events_in merge)) in (
+      [],
+      published_nothing board,
       merge,
       record {
         text = text;
@@ -141,6 +151,7 @@ begins_nothing listed room a b s start =
         taken_is = sym (append-nil start);
         whole = refl;
       },
+      record { steps = steps; publishes = publishes listed room (events_in merge); rest = steps; whole = refl },
     )
 
 -- ---- results
@@ -256,10 +267,14 @@ module _ {A : Type 0} where
         owed = λ feed honest. ap (λ (t : List ℕ). t ++ end_lines listed room (refusals_text (readings_in joined)) es) (shows_what_is_owed listed feed (moves_of listed room es) honest.complete (honest_moves_agree listed feed room es honest));
       }
 
-  pub begins_merge : (receiver : IntakeReceiverView (Batch A)) (a b s : List RecordContent) (left_a left_b left_s : ReaderOutcome A) (joined : Joined receiver a b s left_a left_b left_s) (listed : List Instrument) (room : ℕ) (start taken : List ℕ)
-      → EndsEarly listed room (events_taken receiver.taken ++ rest_in joined) (refusals_text (readings_in joined)) start taken → BeginsMerge listed room a b s start taken
-  begins_merge receiver a b s left_a left_b left_s joined listed room start taken ends =
-      let es = events_in (merge_in joined) in (
+  pub begins_merge : (receiver : IntakeReceiverView (Batch A)) (a b s : List RecordContent) (left_a left_b left_s : ReaderOutcome A) (joined : Joined receiver a b s left_a left_b left_s) (listed : List Instrument) (room : ℕ) (start taken : List ℕ) (was now : Option Published)
+      → EndsEarly listed room (events_taken receiver.taken ++ rest_in joined) (refusals_text (readings_in joined)) start taken → HasPublishedSome listed room (events_taken receiver.taken) was now
+      → (steps : List Step) × (now ≡ published_on was steps) × BeginsToPublishMerge listed room a b s start taken steps
+  begins_merge receiver a b s left_a left_b left_s joined listed room start taken was now ends published =
+      let es = events_in (merge_in joined) in
+      let all = merge_events receiver a b s left_a left_b left_s joined in (
+        published.steps,
+        published.board_is,
         merge_in joined,
         record {
           text = shown_output listed room (refusals_text (readings_in joined)) es;
@@ -269,21 +284,25 @@ module _ {A : Type 0} where
           sent = ends.sent;
           rest = ends.rest;
           taken_is = ends.taken_is;
-          whole = ap (shown_output listed room (refusals_text (readings_in joined))) (merge_events receiver a b s left_a left_b left_s joined) ∙ ends.whole;
+          whole = ap (shown_output listed room (refusals_text (readings_in joined))) all ∙ ends.whole;
         },
+        subst (λ (events : List Event). BeginsToPublish listed room events published.steps) (sym all) (begins_steps listed room (events_taken receiver.taken) (rest_in joined) was now published),
       )
 
-  pub prints_merge : (receiver : IntakeReceiverView (Batch A)) (a b s : List RecordContent) (left_a left_b left_s : ReaderOutcome A) (joined : Joined receiver a b s left_a left_b left_s) (listed : List Instrument) (room : ℕ) (refusals start taken : List ℕ) (next : ℕ) (lost : Bool)
+  pub prints_merge : (receiver : IntakeReceiverView (Batch A)) (a b s : List RecordContent) (left_a left_b left_s : ReaderOutcome A) (joined : Joined receiver a b s left_a left_b left_s) (listed : List Instrument) (room : ℕ) (refusals start taken : List ℕ) (next : ℕ) (lost : Bool) (was now : Option Published)
       → rest_in joined ≡ [] → refusals ≡ refusals_text (readings_in joined) → EndsAs listed room (events_taken receiver.taken) refusals start taken next lost
-      → (text : List ℕ) × (taken ≡ start ++ text) × PrintsMerge listed room a b s text next lost
+      → now ≡ published_on was (board_steps listed (moves_of listed room (events_taken receiver.taken)))
+      → (text : List ℕ) × (steps : List Step) × (taken ≡ start ++ text) × (now ≡ published_on was steps) × PublishesMerge listed room a b s text next lost steps
   unfolding prints
-  prints_merge receiver a b s left_a left_b left_s joined listed room refusals start taken next lost none told ends =
+  prints_merge receiver a b s left_a left_b left_s joined listed room refusals start taken next lost was now none told ends published =
       let es = events_in (merge_in joined) in
       let all : events_taken receiver.taken ≡ es = sym (append-nil (events_taken receiver.taken)) ∙ ap (λ (t : List Event). events_taken receiver.taken ++ t) (sym none) ∙ sym (merge_events receiver a b s left_a left_b left_s joined) in
       let is = prints receiver a b s left_a left_b left_s joined listed room in
       let text_is : ends.text ≡ shown_output listed room (refusals_text (readings_in joined)) es = ends.shown ∙ ap (λ (r : List ℕ). shown_output listed room r (events_taken receiver.taken)) told ∙ ap (shown_output listed room (refusals_text (readings_in joined))) all in (
         ends.text,
+        board_steps listed (moves_of listed room es),
         ends.taken_is,
+        published ∙ ap (λ (events : List Event). published_on was (board_steps listed (moves_of listed room events))) all,
         (
           merge_in joined,
           record {
@@ -295,6 +314,7 @@ module _ {A : Type 0} where
             shown = text_is;
             owed = λ feed honest. text_is ∙ is.owed feed honest;
           },
+          publishes listed room es,
         ),
       )
 
@@ -312,35 +332,41 @@ module _ {A : Type 0} where
       (taken after : List ℕ) (outcome : Result Standing Stop) (standing : Standing) (refusals : RefusalTexts) (result : Result Summary RunFault)
       → outcome ≡ Ok standing → rest_in joined ≡ [] → joined_texts refusals ≡ refusals_text (readings_in joined)
       → IfOk result (λ (summary : Summary). (summary.next ≡ standing.next) × (summary.lost ≡ standing.lost)) → OnOk result (after ≡ taken ++ (joined_texts refusals ++ last_line standing.next standing.lost))
-      → IfOk result (λ (summary : Summary). (listed : List Instrument) (room : ℕ) (start : List ℕ) → HasShown listed room (events_taken receiver.taken) start taken outcome
-      → (text : List ℕ) × (after ≡ start ++ text) × PrintsMerge listed room a b s text summary.next summary.lost)
-  ends_well receiver a b s left_a left_b left_s joined taken after outcome standing refusals (Ok summary) is none told tells went = λ listed room start shown.
+      → IfOk result (λ (summary : Summary). (listed : List Instrument) (room : ℕ) (start : List ℕ) (was now : Option Published) → HasShown listed room (events_taken receiver.taken) start taken outcome
+      → HasPublished listed room (events_taken receiver.taken) was now outcome
+      → (text : List ℕ) × (steps : List Step) × (after ≡ start ++ text) × (now ≡ published_on was steps) × PublishesMerge listed room a b s text summary.next summary.lost steps)
+  ends_well receiver a b s left_a left_b left_s joined taken after outcome standing refusals (Ok summary) is none told tells went = λ listed room start was now shown published.
       let events = events_taken receiver.taken in
       let all = subst (λ (o : Result Standing Stop). IfOk o (λ (st : Standing). HasShownAll listed room events start taken st)) is shown.all in
-      prints_merge receiver a b s left_a left_b left_s joined listed room (joined_texts refusals) start after summary.next summary.lost none told
-      (told_as listed room events (joined_texts refusals) start after standing.next summary.next standing.lost summary.lost tells.0 tells.1 (ends_behind listed room events start taken after standing refusals went all))
+      let posted = subst (λ (o : Result Standing Stop). OnOk o (now ≡ published_on was (board_steps listed (moves_of listed room events)))) is published.all in
+      prints_merge receiver a b s left_a left_b left_s joined listed room (joined_texts refusals) start after summary.next summary.lost was now none told
+      (told_as listed room events (joined_texts refusals) start after standing.next summary.next standing.lost summary.lost tells.0 tells.1 (ends_behind listed room events start taken after standing refusals went all)) posted
   ends_well receiver a b s left_a left_b left_s joined taken after outcome standing refusals (Err fault) is none told tells went = tt
 
   pub ends_early : (receiver : IntakeReceiverView (Batch A)) (a b s : List RecordContent) (left_a left_b left_s : ReaderOutcome A) (joined : Joined receiver a b s left_a left_b left_s)
       (taken after : List ℕ) (outcome : Result Standing Stop) (standing : Standing) (refusals : RefusalTexts) (result : Result Summary RunFault)
       → outcome ≡ Ok standing → rest_in joined ≡ [] → joined_texts refusals ≡ refusals_text (readings_in joined)
       → IfErr result (λ (fault : RunFault). (n : ℕ) × (after ≡ taken ++ take n (joined_texts refusals ++ last_line standing.next standing.lost)))
-      → IfErr result (λ (fault : RunFault). (listed : List Instrument) (room : ℕ) (start : List ℕ) → HasShown listed room (events_taken receiver.taken) start taken outcome → BeginsMerge listed room a b s start after)
+      → IfErr result (λ (fault : RunFault). (listed : List Instrument) (room : ℕ) (start : List ℕ) (was now : Option Published) → HasShown listed room (events_taken receiver.taken) start taken outcome
+      → HasPublished listed room (events_taken receiver.taken) was now outcome → (steps : List Step) × (now ≡ published_on was steps) × BeginsToPublishMerge listed room a b s start after steps)
   ends_early receiver a b s left_a left_b left_s joined taken after outcome standing refusals (Ok summary) is none told begins = tt
-  ends_early receiver a b s left_a left_b left_s joined taken after outcome standing refusals (Err fault) is none told begins = λ listed room start shown.
+  ends_early receiver a b s left_a left_b left_s joined taken after outcome standing refusals (Err fault) is none told begins = λ listed room start was now shown published.
       let events = events_taken receiver.taken in
       let all = subst (λ (o : Result Standing Stop). IfOk o (λ (st : Standing). HasShownAll listed room events start taken st)) is shown.all in
-      begins_merge receiver a b s left_a left_b left_s joined listed room start after
+      begins_merge receiver a b s left_a left_b left_s joined listed room start after was now
       (subst (λ (r : List ℕ). EndsEarly listed room (events ++ rest_in joined) r start after) told
       (subst (λ (es : List Event). EndsEarly listed room es (joined_texts refusals) start after) (sym (append-nil events) ∙ ap (λ (t : List Event). events ++ t) (sym none))
       (early_behind listed room events start taken after standing refusals begins.0 begins.1 all)))
+      (some_on_board listed room events was now outcome published)
 
   -- the crew stopped early, or a reader met want of memory
   pub ends_short : (receiver : IntakeReceiverView (Batch A)) (a b s : List RecordContent) (left_a left_b left_s : ReaderOutcome A) → Joined receiver a b s left_a left_b left_s
-      → (taken : List ℕ) (outcome : Result Standing Stop) (listed : List Instrument) (room : ℕ) (start : List ℕ) → HasShown listed room (events_taken receiver.taken) start taken outcome → BeginsMerge listed room a b s start taken
-  ends_short receiver a b s left_a left_b left_s joined taken outcome listed room start shown =
-      begins_merge receiver a b s left_a left_b left_s joined listed room start taken
+      → (taken : List ℕ) (outcome : Result Standing Stop) (listed : List Instrument) (room : ℕ) (start : List ℕ) (was now : Option Published) → HasShown listed room (events_taken receiver.taken) start taken outcome
+      → HasPublished listed room (events_taken receiver.taken) was now outcome → (steps : List Step) × (now ≡ published_on was steps) × BeginsToPublishMerge listed room a b s start taken steps
+  ends_short receiver a b s left_a left_b left_s joined taken outcome listed room start was now shown published =
+      begins_merge receiver a b s left_a left_b left_s joined listed room start taken was now
       (early_shown listed room (events_taken receiver.taken) (rest_in joined) (refusals_text (readings_in joined)) start taken outcome shown)
+      (some_on_board listed room (events_taken receiver.taken) was now outcome published)
 
 -- a run that has not stopped early met no failed write
 pub none_failed : (outcome : Result Standing Stop) (before after most : ℕ) → before < most → FailsByStop outcome before after → IfOk outcome (λ (standing : Standing). after < most)

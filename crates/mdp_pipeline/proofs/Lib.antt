@@ -5,4 +5,5 @@ pub mod Beginnings
 pub mod Merges
 pub mod HandingOver
 pub mod Ending
+pub mod OnBoards
 pub mod Joining

@@ -1,4 +1,4 @@
--- What a run over the records of a channel's feeds prints, and what a complete feed that agrees with them has to do with it.
+-- What a run over the records of a channel's feeds prints and publishes, and what a complete feed that agrees with them has to do with it.
 use Rattle.std.specs.Prelude.{◌≡◌, ℕ, List, ◌++◌, Bool}
 use Rattle.mdp_templates.specs.Packet.{PacketContent}
 use Rattle.mdp_templates.specs.declared.instrument.Instrument.{Instrument}
@@ -10,6 +10,8 @@ use Rattle.mdp_arbiter.specs.Channel.{channel_of}
 use Rattle.mdp_desks.specs.Shown.{shown_lines}
 use Rattle.mdp_engine.specs.Honest.{IsHonest}
 use Rattle.mdp_engine.specs.Owed.{lines, steps_of}
+use Rattle.mdp_lanes.specs.declared.step.Step.{Step}
+use Rattle.mdp_reports.specs.BoardSteps.{board_steps, owed_board_steps}
 use Rattle.mdp_pipeline.specs.Reading.{Readings, AreReadingsOf, refusals_text}
 use Rattle.mdp_pipeline.specs.Merging.{Tagged, IsMerge, IsByLine, events_in}
 
@@ -74,3 +76,25 @@ PrintsByLine listed room a b s text next lost = (merge : List Tagged) × IsByLin
 
 abbrev pub BeginsByLine : List Instrument → ℕ → List RecordContent → List RecordContent → List RecordContent → List ℕ → List ℕ → Type 0
 BeginsByLine listed room a b s start taken = (merge : List Tagged) × IsByLine a b s merge × Begins listed room a b s merge start taken
+
+-- ---- a run that publishes on a board
+
+-- The steps for these events: those that the moves themselves show. They are those of every complete feed that agrees with the events.
+pub record Publishes (listed : List Instrument) (room : ℕ) (events : List Event) (steps : List Step) : Type 0 where
+  pub shown : steps ≡ board_steps listed (moves_of listed room events)
+  pub owed : (feed : List PacketContent) → IsHonest listed feed events → steps ≡ owed_board_steps listed feed (steps_of (moves_of listed room events))
+
+-- what was published before an early end is a beginning of the steps for these events
+pub record BeginsToPublish (listed : List Instrument) (room : ℕ) (events : List Event) (sent : List Step) : Type 0 where
+  pub steps : List Step
+  pub publishes : Publishes listed room events steps
+  pub rest : List Step
+  pub whole : steps ≡ sent ++ rest
+
+-- the text and the steps are those of one merge
+abbrev pub PublishesMerge : List Instrument → ℕ → List RecordContent → List RecordContent → List RecordContent → List ℕ → ℕ → Bool → List Step → Type 0
+PublishesMerge listed room a b s text next lost steps = (merge : List Tagged) × Prints listed room a b s merge text next lost × Publishes listed room (events_in merge) steps
+
+-- what went out and what was published are beginnings of those of one merge
+abbrev pub BeginsToPublishMerge : List Instrument → ℕ → List RecordContent → List RecordContent → List RecordContent → List ℕ → List ℕ → List Step → Type 0
+BeginsToPublishMerge listed room a b s start taken sent = (merge : List Tagged) × Begins listed room a b s merge start taken × BeginsToPublish listed room (events_in merge) sent

@@ -1,5 +1,5 @@
-//! Runs over the records of a channel's feeds: what is printed is what the recovery machine's moves show, and what every
-//! complete feed defines that agrees with the records.
+//! Runs over the records of a channel's feeds: what is printed, and what is published on a board, is what the recovery machine's moves
+//! show, and what every complete feed defines that agrees with the records.
 #![tactic(auto)]
 
 mod decoding;
@@ -18,4 +18,4 @@ mod threads;
 pub use decoding::{Decoded, read_record};
 pub use in_order::run_in_order;
 pub use summary::{RunFault, Summary};
-pub use threads::run;
+pub use threads::{run, run_published};

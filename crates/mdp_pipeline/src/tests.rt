@@ -1,4 +1,7 @@
-//! Runs over threads: the text of a capture that any merge gives, readers and workers that run at once, and each start refused.
+//! Runs over threads: the text of a capture that any merge gives, readers and workers that run at once, each start refused, and what is
+//! published on a board.
+
+mod on_board;
 
 ghost use Rattle.std.specs.Prelude.{◌≡◌, ◌≤◌};
 
@@ -189,6 +192,7 @@ where
         return None;
     };
     let mut kept = Kept::new(alloc);
+    let mut board = None;
     let outcome = run_where(
         rt,
         starts,
@@ -200,8 +204,12 @@ where
         workers,
         4,
         gate,
+        &mut board,
         &mut kept,
     );
+    if let Some(publisher) = board {
+        publisher.end(rt);
+    }
     Some((outcome, kept.bytes))
 }
 

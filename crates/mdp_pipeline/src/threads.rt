@@ -3,12 +3,14 @@
 ghost use Rattle.std.specs.Prelude.{◌≡◌, ◌≤◌, ◌<◌, ◌^◌, ◌-◌, ◌++◌, ℕ, List, IfErr, IfOk, MatchResult, false};
 ghost use Rattle.mdp_capture.specs.Record.{RecordContent};
 ghost use Rattle.mdp_lanes.specs.Queues.{IntakeSenderView};
+ghost use Rattle.mdp_lanes.specs.declared.step.Step.{Step};
 ghost use Rattle.mdp_templates.specs.Instrument.{AreFit};
 ghost use Rattle.mdp_crew.specs.declared.batch.Batch.{Batch};
 ghost use Rattle.mdp_crew.specs.Counted.{HasCounted};
+ghost use Rattle.mdp_crew.specs.Publishing.{published_on};
 ghost use Rattle.mdp_pipeline.specs.Counted.{written_before};
 ghost use Rattle.mdp_pipeline.specs.Faults.{FailsBy};
-ghost use Rattle.mdp_pipeline.specs.Output.{BeginsMerge, PrintsMerge};
+ghost use Rattle.mdp_pipeline.specs.Output.{BeginsMerge, BeginsToPublishMerge, PrintsMerge, PublishesMerge};
 ghost use Rattle.mdp_pipeline.specs.Readers.{HasRead, has_ended};
 
 use crate::pace::Pace;
@@ -17,7 +19,7 @@ use crate::settling::{Readers, settle_and_finish};
 use crate::summary::{RunFault, Summary};
 use mdp_capture::Record;
 use mdp_crew::{Always, Batch, Gate, Starts, run_crew};
-use mdp_lanes::{Intake, IntakeSender};
+use mdp_lanes::{Intake, IntakeSender, Publisher};
 use mdp_print::CountedWrite;
 use mdp_templates::{Feed, Instrument};
 use std::alloc::Allocator;
@@ -119,6 +121,7 @@ fn run_in<'s, E, R, S, G, W, A>(
     workers: u16,
     window: u32,
     gate: &'s G,
+    board: &mut Option<Publisher<A>>,
     writer: &mut W,
 ) -> Result<Summary, RunFault>
 where
@@ -133,9 +136,11 @@ where
     requires some { 1 ≤ workers }
     requires least { 1 ≤ window }
     requires most { window ≤ 65536 }
-    ensures text { IfOk result (λ summary. (text : List ℕ) × (W.taken writer.new ≡ W.taken writer.old ++ text)
-        × PrintsMerge instruments.entry.now window a.entry.now b.entry.now s.entry.now text summary.next summary.lost) }
-    ensures begins { IfErr result (λ _. BeginsMerge instruments.entry.now window a.entry.now b.entry.now s.entry.now (W.taken writer.old) (W.taken writer.new)) }
+    ensures text { IfOk result (λ summary. (text : List ℕ) × (steps : List Step)
+        × (W.taken writer.new ≡ W.taken writer.old ++ text) × (board.new ≡ published_on board.old steps)
+        × PublishesMerge instruments.entry.now window a.entry.now b.entry.now s.entry.now text summary.next summary.lost steps) }
+    ensures begins { IfErr result (λ _. (steps : List Step) × (board.new ≡ published_on board.old steps)
+        × BeginsToPublishMerge instruments.entry.now window a.entry.now b.entry.now s.entry.now (W.taken writer.old) (W.taken writer.new) steps) }
     ensures written { IfOk result (λ summary. HasCounted (W.taken writer.old) (W.taken writer.new) summary.written) }
     ensures told { IfErr result (λ fault. HasCounted (W.taken writer.old) (W.taken writer.new) (written_before fault)) }
     ensures failed { FailsBy result (W.failed writer.old) (W.failed writer.new) }
@@ -157,6 +162,7 @@ where
         workers,
         window,
         receiver,
+        board,
         writer,
     );
     let readers = Readers {
@@ -167,7 +173,7 @@ where
     settle_and_finish(writer, crew, readers, a, b, s)
 }
 
-/// Runs as [`run`] does; a thread that may not start is one that can't be started.
+/// Runs as [`run_published`] does where there is a board, and else as [`run`]; a thread that may not start is one that can't be started.
 pub(crate) fn run_where<R, S, G, W, A>(
     rt: &R,
     starts: &S,
@@ -179,6 +185,7 @@ pub(crate) fn run_where<R, S, G, W, A>(
     workers: u16,
     window: u32,
     gate: &G,
+    board: &mut Option<Publisher<A>>,
     writer: &mut W,
 ) -> Result<Summary, RunFault>
 where
@@ -192,27 +199,31 @@ where
     requires some { 1 ≤ workers }
     requires least { 1 ≤ window }
     requires most { window ≤ 65536 }
-    ensures text { IfOk result (λ summary. (text : List ℕ) × (W.taken writer.new ≡ W.taken writer.old ++ text)
-        × PrintsMerge instruments.now window a.now b.now s.now text summary.next summary.lost) }
-    ensures begins { IfErr result (λ _. BeginsMerge instruments.now window a.now b.now s.now (W.taken writer.old) (W.taken writer.new)) }
+    ensures text { IfOk result (λ summary. (text : List ℕ) × (steps : List Step)
+        × (W.taken writer.new ≡ W.taken writer.old ++ text) × (board.new ≡ published_on board.old steps)
+        × PublishesMerge instruments.now window a.now b.now s.now text summary.next summary.lost steps) }
+    ensures begins { IfErr result (λ _. (steps : List Step) × (board.new ≡ published_on board.old steps)
+        × BeginsToPublishMerge instruments.now window a.now b.now s.now (W.taken writer.old) (W.taken writer.new) steps) }
     ensures written { IfOk result (λ summary. HasCounted (W.taken writer.old) (W.taken writer.new) summary.written) }
     ensures told { IfErr result (λ fault. HasCounted (W.taken writer.old) (W.taken writer.new) (written_before fault)) }
     ensures failed { FailsBy result (W.failed writer.old) (W.failed writer.new) }
 {
     let paced = Pace::new(window, s);
     let pace = &paced;
-    let (back, outcome) = thread::scope(
+    let (back, board_back, outcome) = thread::scope(
         thread::scope_env(),
         rt,
-        move |scope| -> (&mut W, Result<Summary, RunFault>)
+        move |scope| -> (&mut W, &mut Option<Publisher<A>>, Result<Summary, RunFault>)
             requires { (W.failed writer.now < 2 ^ 64 - 1) × AreFit instruments.now × (1 ≤ workers) × (1 ≤ window) × (window ≤ 65536) }
-            ensures same { result.0.ghost_name ≡ writer.entry.ghost_name }
-            ensures text { IfOk result.1 (λ summary. (text : List ℕ) × (W.taken result.0.now ≡ W.taken writer.entry.now ++ text)
-                × PrintsMerge instruments.entry.now window a.entry.now b.entry.now s.entry.now text summary.next summary.lost) }
-            ensures begins { IfErr result.1 (λ _. BeginsMerge instruments.entry.now window a.entry.now b.entry.now s.entry.now (W.taken writer.entry.now) (W.taken result.0.now)) }
-            ensures written { IfOk result.1 (λ summary. HasCounted (W.taken writer.entry.now) (W.taken result.0.now) summary.written) }
-            ensures told { IfErr result.1 (λ fault. HasCounted (W.taken writer.entry.now) (W.taken result.0.now) (written_before fault)) }
-            ensures failed { FailsBy result.1 (W.failed writer.entry.now) (W.failed result.0.now) }
+            ensures same { (result.0.ghost_name ≡ writer.entry.ghost_name) × (result.1.ghost_name ≡ board.entry.ghost_name) }
+            ensures text { IfOk result.2 (λ summary. (text : List ℕ) × (steps : List Step)
+                × (W.taken result.0.now ≡ W.taken writer.entry.now ++ text) × (result.1.now ≡ published_on board.entry.now steps)
+                × PublishesMerge instruments.entry.now window a.entry.now b.entry.now s.entry.now text summary.next summary.lost steps) }
+            ensures begins { IfErr result.2 (λ _. (steps : List Step) × (result.1.now ≡ published_on board.entry.now steps)
+                × BeginsToPublishMerge instruments.entry.now window a.entry.now b.entry.now s.entry.now (W.taken writer.entry.now) (W.taken result.0.now) steps) }
+            ensures written { IfOk result.2 (λ summary. HasCounted (W.taken writer.entry.now) (W.taken result.0.now) summary.written) }
+            ensures told { IfErr result.2 (λ fault. HasCounted (W.taken writer.entry.now) (W.taken result.0.now) (written_before fault)) }
+            ensures failed { FailsBy result.2 (W.failed writer.entry.now) (W.failed result.0.now) }
         {
             let outcome = run_in(
                 rt,
@@ -227,12 +238,14 @@ where
                 workers,
                 window,
                 gate,
+                board,
                 writer,
             );
-            (writer, outcome)
+            (writer, board, outcome)
         },
     );
     let _ = &*back;
+    let _ = &*board_back;
     outcome
 }
 
@@ -276,7 +289,8 @@ where
     ensures told { IfErr result (λ fault. HasCounted (W.taken writer.old) (W.taken writer.new) (written_before fault)) }
     ensures failed { FailsBy result (W.failed writer.old) (W.failed writer.new) }
 {
-    run_where(
+    let mut board = None;
+    let outcome = run_where(
         rt,
         &Always,
         alloc,
@@ -287,6 +301,72 @@ where
         workers,
         window,
         gate,
+        &mut board,
         writer,
-    )
+    );
+    if let Some(publisher) = board {
+        publisher.end(rt);
+    }
+    outcome
+}
+
+/// Runs as [`run`] does, and publishes on a board of the same securities, each in its slot: behind the text of some event ends and jumps
+/// one step for each, with the rows of what is printed there. It hands the publisher back, also with an error.
+///
+/// # Errors
+///
+/// As `run`. What was published before is a beginning of what the whole run publishes, for the same merge.
+pub fn run_published<R, G, W, A>(
+    rt: &R,
+    alloc: A,
+    instruments: &[Instrument],
+    a: &[Record<A>],
+    b: &[Record<A>],
+    s: &[Record<A>],
+    workers: u16,
+    window: u32,
+    gate: &G,
+    publisher: Publisher<A>,
+    writer: &mut W,
+) -> (Publisher<A>, Result<Summary, RunFault>)
+where
+    R: Threads + Wait + Sync,
+    G: Gate + Sync,
+    W: CountedWrite,
+    A: Allocator + Copy + Send + Sync,
+    requires sound { W.failed writer.old < 2 ^ 64 - 1 }
+    requires fit { AreFit instruments.now }
+    requires least { 1 ≤ window }
+    requires most { window ≤ 65536 }
+    requires some_workers { 1 ≤ workers }
+    requires most_workers { workers ≤ 16 }
+    ensures board { result.0.board ≡ publisher.board }
+    ensures text { IfOk result.1 (λ summary. (text : List ℕ) × (steps : List Step)
+        × (W.taken writer.new ≡ W.taken writer.old ++ text) × (result.0 ≡ record publisher { steps = publisher.steps ++ steps })
+        × PublishesMerge instruments.now window a.now b.now s.now text summary.next summary.lost steps) }
+    ensures begins { IfErr result.1 (λ _. (steps : List Step) × (result.0 ≡ record publisher { steps = publisher.steps ++ steps })
+        × BeginsToPublishMerge instruments.now window a.now b.now s.now (W.taken writer.old) (W.taken writer.new) steps) }
+    ensures written { IfOk result.1 (λ summary. HasCounted (W.taken writer.old) (W.taken writer.new) summary.written) }
+    ensures told { IfErr result.1 (λ fault. HasCounted (W.taken writer.old) (W.taken writer.new) (written_before fault)) }
+    ensures failed { FailsBy result.1 (W.failed writer.old) (W.failed writer.new) }
+{
+    let mut board = Some(publisher);
+    let outcome = run_where(
+        rt,
+        &Always,
+        alloc,
+        instruments,
+        a,
+        b,
+        s,
+        workers,
+        window,
+        gate,
+        &mut board,
+        writer,
+    );
+    let Some(publisher) = board else {
+        unreachable!()
+    };
+    (publisher, outcome)
 }

@@ -1,10 +1,12 @@
 //! The consolidation of a book.
 
-ghost use Rattle.std.specs.Prelude.{◌≡◌, ◌≤◌, ◌+◌, ◌++◌, length};
+ghost use Rattle.std.specs.Prelude.{◌≡◌, ◌≤◌, ◌+◌, ◌++◌, length, slice_get};
 ghost use Rattle.mdp_books.specs.Side.{HaveSizes};
 ghost use Rattle.mdp_quotes.specs.Computed.{consolidated_side};
 ghost use Rattle.mdp_quotes.specs.Entering.{most_levels};
+ghost use Rattle.mdp_quotes.specs.Top.{top_of_quotes};
 
+use crate::top::TopOfBook;
 use crate::total::{MOST_LEVELS, Total, Way, enter_all};
 use arrayvec::ArrayVec;
 use mdp_books::{Book, Sides};
@@ -37,6 +39,13 @@ fn side_of(way: Way, direct: &[Level], implied: &[Level]) -> ArrayVec<Total, MOS
     enter_all(&mut totals, way, direct);
     enter_all(&mut totals, way, implied);
     totals
+}
+
+// The first total, if any.
+fn first(totals: &[Total]) -> Option<Total>
+    ensures { result ≡ slice_get totals.now 0 }
+{
+    totals.first().copied()
 }
 
 impl Consolidated {
@@ -83,5 +92,15 @@ impl Consolidated {
         ensures { result.now ≡ self.now.offers }
     {
         self.offers.as_slice()
+    }
+
+    /// The first total of each side, where the side has one.
+    pub fn top(&self) -> TopOfBook
+        ensures { result ≡ top_of_quotes self.now }
+    {
+        TopOfBook {
+            bid: first(self.bids()),
+            offer: first(self.offers()),
+        }
     }
 }

@@ -8,6 +8,7 @@ mod laws;
 mod live;
 #[cfg(test)]
 mod tests;
+mod top;
 mod total;
 mod verdict;
 
@@ -15,5 +16,6 @@ pub use best::Best;
 pub use consolidated::Consolidated;
 pub use laws::{consolidation_is_computed, one_consolidation};
 pub use live::Live;
+pub use top::TopOfBook;
 pub use total::{Total, Way};
 pub use verdict::{Implied, Verdict, audit};

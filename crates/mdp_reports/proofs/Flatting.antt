@@ -3,6 +3,7 @@ use Rattle.std.proofs.Common.{◌≡◌, ◌≤◌, ◌+◌, ◌-◌, ℕ, List,
 use Rattle.std.specs.List.{slice_range, AllByRecursion}
 use Rattle.std.proofs.lemmas.List.{length-map, length-append, length-drop, map-append, take-map, drop-map, take-append-le, drop-append-le, take_all}
 use Rattle.mdp_quotes.specs.declared.best.Best.{Best}
+use Rattle.mdp_quotes.specs.declared.top.TopOfBook.{TopOfBook}
 use Rattle.mdp_desks.specs.Reports.{Told, Report, tells, leaps}
 use Rattle.mdp_reports.specs.declared.row.Row.{Row}
 use Rattle.mdp_reports.specs.declared.row.Mark.{Mark}
@@ -40,7 +41,7 @@ slice-map f xs from to = ap (take (to - from)) (drop-map f from xs) ∙ take-map
 -- ---- more bytes
 
 told_same : (bytes more : List ℕ) (r : Row) → IsRowIn (length bytes) r → told_of_row bytes r ≡ told_of_row (bytes ++ more) r
-told_same bytes more r is = ap (λ (l : List ℕ). record { slot = r.slot; lines = l; best = r.best }) (sym (slice_front bytes more r.from r.to is.order is.within))
+told_same bytes more r is = ap (λ (l : List ℕ). record { slot = r.slot; lines = l; best = r.best; top = r.top }) (sym (slice_front bytes more r.from r.to is.order is.within))
 
 tolds_same : (bytes more : List ℕ) (rows : List Row) → AllByRecursion (IsRowIn (length bytes)) rows → told_of_rows bytes rows ≡ told_of_rows (bytes ++ more) rows
 tolds_same bytes more [] all = refl
@@ -48,18 +49,18 @@ tolds_same bytes more (r ∷ rows) all =
     ap (λ (t : Told). t ∷ told_of_rows bytes rows) (told_same bytes more r all.0)
     ∙ ap (λ (l : List Told). told_of_row (bytes ++ more) r ∷ l) (tolds_same bytes more rows all.1)
 
-abbrev pub row_of : ℕ → ℕ → ℕ → Option Best → Row
-row_of slot from to best = record { slot = slot; from = from; to = to; best = best }
+abbrev pub row_of : ℕ → ℕ → ℕ → Option Best → Option TopOfBook → Row
+row_of slot from to best top = record { slot = slot; from = from; to = to; best = best; top = top }
 
-abbrev pub told_with : ℕ → List ℕ → Option Best → Told
-told_with slot lines best = record { slot = slot; lines = lines; best = best }
+abbrev pub told_with : ℕ → List ℕ → Option Best → Option TopOfBook → Told
+told_with slot lines best top = record { slot = slot; lines = lines; best = best; top = top }
 
-tolds_more : (bytes more : List ℕ) (rows : List Row) (slot : ℕ) (best : Option Best) → AllByRecursion (IsRowIn (length bytes)) rows
-    → told_of_rows (bytes ++ more) (rows ++ row_of slot (length bytes) (length (bytes ++ more)) best ∷ []) ≡ told_of_rows bytes rows ++ told_with slot more best ∷ []
-tolds_more bytes more rows slot best all =
-    map-append (told_of_row (bytes ++ more)) rows (row_of slot (length bytes) (length (bytes ++ more)) best ∷ [])
-    ∙ ap (λ (l : List Told). l ++ told_of_row (bytes ++ more) (row_of slot (length bytes) (length (bytes ++ more)) best) ∷ []) (sym (tolds_same bytes more rows all))
-    ∙ ap (λ (l : List ℕ). told_of_rows bytes rows ++ told_with slot l best ∷ []) (slice_behind bytes more)
+tolds_more : (bytes more : List ℕ) (rows : List Row) (slot : ℕ) (best : Option Best) (top : Option TopOfBook) → AllByRecursion (IsRowIn (length bytes)) rows
+    → told_of_rows (bytes ++ more) (rows ++ row_of slot (length bytes) (length (bytes ++ more)) best top ∷ []) ≡ told_of_rows bytes rows ++ told_with slot more best top ∷ []
+tolds_more bytes more rows slot best top all =
+    map-append (told_of_row (bytes ++ more)) rows (row_of slot (length bytes) (length (bytes ++ more)) best top ∷ [])
+    ∙ ap (λ (l : List Told). l ++ told_of_row (bytes ++ more) (row_of slot (length bytes) (length (bytes ++ more)) best top) ∷ []) (sym (tolds_same bytes more rows all))
+    ∙ ap (λ (l : List ℕ). told_of_rows bytes rows ++ told_with slot l best top ∷ []) (slice_behind bytes more)
 
 -- ---- one row more
 
@@ -120,24 +121,24 @@ rows-push count [] r all is = (is, tt)
 rows-push count (x ∷ rows) r all is = (all.0, rows-push count rows r all.1 is)
 
 -- a row more, where the last event end is marks_to to it
-pub put_flat : (bytes new_bytes more : List ℕ) (rows new_rows : List Row) (marks new_marks : List Mark) (slot : ℕ) (best : Option Best) → AreFlat bytes rows marks
-    → new_bytes ≡ bytes ++ more → new_rows ≡ rows ++ row_of slot (length bytes) (length new_bytes) best ∷ [] → new_marks ≡ marks_to (length new_rows) marks
-    → AreFlat new_bytes new_rows new_marks × (reports_of_marks new_bytes new_rows new_marks ≡ reports_with (told_with slot more best) (reports_of_marks bytes rows marks))
-put_flat bytes new_bytes more rows new_rows marks new_marks slot best flat bytes_are rows_are marks_are =
+pub put_flat : (bytes new_bytes more : List ℕ) (rows new_rows : List Row) (marks new_marks : List Mark) (slot : ℕ) (best : Option Best) (top : Option TopOfBook) → AreFlat bytes rows marks
+    → new_bytes ≡ bytes ++ more → new_rows ≡ rows ++ row_of slot (length bytes) (length new_bytes) best top ∷ [] → new_marks ≡ marks_to (length new_rows) marks
+    → AreFlat new_bytes new_rows new_marks × (reports_of_marks new_bytes new_rows new_marks ≡ reports_with (told_with slot more best top) (reports_of_marks bytes rows marks))
+put_flat bytes new_bytes more rows new_rows marks new_marks slot best top flat bytes_are rows_are marks_are =
     let long : length new_bytes ≡ length bytes + length more = ap length bytes_are ∙ length-append bytes more in
-    let many : length new_rows ≡ length rows + 1 = ap length rows_are ∙ length-append rows (row_of slot (length bytes) (length new_bytes) best ∷ []) in
+    let many : length new_rows ≡ length rows + 1 = ap length rows_are ∙ length-append rows (row_of slot (length bytes) (length new_bytes) best top ∷ []) in
     let same : new_marks ≡ marks_to (length rows + 1) marks = marks_are ∙ ap (λ (n : ℕ). marks_to n marks) many in
     let ts = told_of_rows bytes rows in
-    let told : told_of_rows new_bytes new_rows ≡ ts ++ told_with slot more best ∷ [] =
-    ap (told_of_rows new_bytes) rows_are ∙ ap (λ (l : List ℕ). told_of_rows l (rows ++ row_of slot (length bytes) (length l) best ∷ [])) bytes_are ∙ tolds_more bytes more rows slot best flat.rows_in in
+    let told : told_of_rows new_bytes new_rows ≡ ts ++ told_with slot more best top ∷ [] =
+    ap (told_of_rows new_bytes) rows_are ∙ ap (λ (l : List ℕ). told_of_rows l (rows ++ row_of slot (length bytes) (length l) best top ∷ [])) bytes_are ∙ tolds_more bytes more rows slot best top flat.rows_in in
     let count : length ts ≡ length rows = length-map rows (told_of_row bytes) in
     let here : AreMarks (length ts) marks = subst (λ (n : ℕ). AreMarks n marks) (sym count) flat.marks_in in (
       record {
         rows_in = subst (λ (l : List Row). AllByRecursion (IsRowIn (length new_bytes)) l) (sym rows_are)
-            (rows-push (length new_bytes) rows (row_of slot (length bytes) (length new_bytes) best) (rows_wider (length bytes) (length new_bytes) rows (omega (arith, long)) flat.rows_in) (record { order = omega (arith, long); within = omega arith }));
+            (rows-push (length new_bytes) rows (row_of slot (length bytes) (length new_bytes) best top) (rows_wider (length bytes) (length new_bytes) rows (omega (arith, long)) flat.rows_in) (record { order = omega (arith, long); within = omega arith }));
         marks_in = subst (λ (n : ℕ). AreMarks n new_marks) (sym many) (subst (λ (l : List Mark). AreMarks (length rows + 1) l) (sym same) (marks_more (length rows) marks flat.marks_in));
       },
       ap (λ (l : List Told). map (report_of_mark l) new_marks) told
-          ∙ ap (map (report_of_mark (ts ++ told_with slot more best ∷ []))) (same ∙ ap (λ (n : ℕ). marks_to (n + 1) marks) (sym count))
-          ∙ sym (told_more ts (told_with slot more best) marks here),
+          ∙ ap (map (report_of_mark (ts ++ told_with slot more best top ∷ []))) (same ∙ ap (λ (n : ℕ). marks_to (n + 1) marks) (sym count))
+          ∙ sym (told_more ts (told_with slot more best top) marks here),
     )

@@ -7,3 +7,5 @@ pub mod Telling
 pub mod Moves
 pub mod Owning
 pub mod Full
+pub mod Stepping
+pub mod Boarding

@@ -8,6 +8,9 @@ use Rattle.mdp_desks.specs.Reports.{Told, Report, tells, leaps}
 use Rattle.mdp_engine.specs.Rounds.{by_slot, all_by_slot, told_in, round_text, kept_after_round, text_from, heads, tail, rounds_behind, rounds_in}
 use Rattle.mdp_reports.specs.declared.row.Heading.{Heading}
 use Rattle.mdp_reports.specs.Contents.{told_at, heading_of, heading_at}
+use Rattle.mdp_lanes.specs.declared.step.Step.{Step}
+use Rattle.mdp_reports.specs.BoardSteps.{step_of_round, steps_in}
+use Rattle.mdp_reports.specs.Steps.{step_under}
 use Rattle.mdp_reports.specs.Taking.{View, text_under, kept_under, rounds_left, first_list, kept_after_rounds}
 
 tail_drop : (n : ℕ) (xs : List Report) → tail (drop n xs) ≡ drop (suc n) xs
@@ -55,11 +58,16 @@ by_kept : (kept : List (Option Best)) (r : Report) (rest : List Report) → kept
 by_kept kept (tells k j ts) rest = refl
 by_kept kept (leaps old new) rest = refl
 
+by_step : (r : Report) (rest : List Report) → step_of_round (r ∷ rest) ≡ step_under (heading_of r) (by_slot (told_in r) (all_by_slot (map told_in rest))) ∷ []
+by_step (tells k j ts) rest = refl
+by_step (leaps old new) rest = refl
+
 -- the next round, by what is read of it
 pub record IsRound (n : ℕ) (lists : List (List Report)) (h : Heading) : Type 0 where
   pub round : List Report
   pub next : rounds_left n lists ≡ round ∷ rounds_left (n + 1) lists
   pub text : (listed : List Instrument) (kept : List (Option Best)) → round_text listed kept round ≡ text_under h listed kept (all_by_slot (map (told_at n) lists))
+  pub step : step_of_round round ≡ step_under h (all_by_slot (map (told_at n) lists)) ∷ []
   pub kept : (kept : List (Option Best)) → kept_after_round kept round ≡ kept_under h kept (all_by_slot (map (told_at n) lists))
 
 pub is_round : (n : ℕ) (lists : List (List Report)) (h : Heading) → heading_at n (first_list lists) ≡ Some h → IsRound n lists h
@@ -77,6 +85,7 @@ is_round n (first ∷ others) h is =
           ∙ ap (λ (l : List (List Report)). (at.report ∷ rest) ∷ rounds_behind (drop (suc n) first) l) (tails_drop n others)
           ∙ ap (λ (m : ℕ). (at.report ∷ rest) ∷ rounds_behind (drop m first) (map (drop m) others)) one;
       text = λ listed kept. by_text listed kept at.report rest ∙ ap (λ (x : Heading). text_under x listed kept (by_slot (told_in at.report) (all_by_slot (map told_in rest)))) at.heading ∙ ap (text_under h listed kept) all;
+      step = by_step at.report rest ∙ ap (λ (x : Heading). step_under x (by_slot (told_in at.report) (all_by_slot (map told_in rest))) ∷ []) at.heading ∙ ap (λ (ts : List Told). step_under h ts ∷ []) all;
       kept = λ kept. by_kept kept at.report rest ∙ ap (λ (x : Heading). kept_under x kept (by_slot (told_in at.report) (all_by_slot (map told_in rest)))) at.heading ∙ ap (kept_under h kept) all;
     }
 
@@ -109,6 +118,16 @@ took n lists h ts old new out grown is are text kept =
           ∙ ap (λ (l : List (List Report)). out ++ text_from old.listed old.kept l) (sym r.next),
       ap (λ (k : List (Option Best)). kept_after_rounds k later) kept_is ∙ ap (kept_after_rounds old.kept) (sym r.next),
     )
+
+pub stepped : (n : ℕ) (lists : List (List Report)) (h : Heading) (ts : List (List Told)) (steps grown : List Step) → heading_at n (first_list lists) ≡ Some h → ts ≡ map (told_at n) lists
+    → grown ≡ steps ++ step_under h (all_by_slot ts) ∷ [] → grown ++ steps_in (rounds_left (n + 1) lists) ≡ steps ++ steps_in (rounds_left n lists)
+stepped n lists h ts steps grown is are step =
+    let r = is_round n lists h is in
+    let later = steps_in (rounds_left (n + 1) lists) in
+    let same : step_under h (all_by_slot ts) ∷ [] ≡ step_of_round r.round = ap (λ (l : List (List Told)). step_under h (all_by_slot l) ∷ []) are ∙ sym r.step in
+    ap (λ (l : List Step). l ++ later) (step ∙ ap (λ (l : List Step). steps ++ l) same)
+    ∙ append_assoc steps (step_of_round r.round) later
+    ∙ ap (λ (l : List (List Report)). steps ++ steps_in l) (sym r.next)
 
 pub seen_as : (v : View) (listed : List Instrument) (kept same : List (Option Best)) → v.listed ≡ listed → v.kept ≡ kept → kept ≡ same → v ≡ record { listed = listed; kept = same }
 seen_as v listed kept same listed_is kept_is is =

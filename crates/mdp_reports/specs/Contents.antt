@@ -25,7 +25,7 @@ told_at zero (r ∷ reports) = told_in r
 told_at (suc n) (r ∷ reports) = told_at n reports
 
 abbrev pub told_line : Line → Told
-told_line l = record { slot = l.slot; lines = l.lines.now; best = l.best }
+told_line l = record { slot = l.slot; lines = l.lines.now; best = l.best; top = l.top }
 
 abbrev pub slot_first : List Told → Option ℕ
 slot_first [] = None

@@ -3,6 +3,7 @@ use Rattle.std.specs.Prelude.{◌≡◌, ◌≤◌, ℕ, List, [], ◌∷◌, �
 use Rattle.std.specs.List.{slice_range, AllByRecursion}
 use Rattle.mdp_books.specs.declared.book.Book.{Book}
 use Rattle.mdp_quotes.specs.Best.{best_of}
+use Rattle.mdp_quotes.specs.Top.{top_of_book}
 use Rattle.mdp_desks.specs.Lines.{book_lines}
 use Rattle.mdp_desks.specs.Reports.{Told, Report, tells, leaps}
 use Rattle.mdp_reports.specs.declared.row.Row.{Row}
@@ -11,7 +12,7 @@ use Rattle.mdp_reports.specs.declared.row.Mark.TheVariants.{Ended, Leapt}
 
 -- a row with its lines
 abbrev pub told_of_row : List ℕ → Row → Told
-told_of_row bytes r = record { slot = r.slot; lines = slice_range bytes r.from r.to; best = r.best }
+told_of_row bytes r = record { slot = r.slot; lines = slice_range bytes r.from r.to; best = r.best; top = r.top }
 
 abbrev pub told_of_rows : List ℕ → List Row → List Told
 told_of_rows bytes rows = map (told_of_row bytes) rows
@@ -66,4 +67,4 @@ reports_with t (r ∷ s ∷ reports) = r ∷ reports_with t (s ∷ reports)
 
 -- what is told of a security with this book, where message `message` of packet `packet` ends an event
 abbrev pub told_of_book : ℕ → ℕ → ℕ → List ℕ → Book → Told
-told_of_book packet message slot name book = record { slot = slot; lines = book_lines packet message name book; best = best_of book }
+told_of_book packet message slot name book = record { slot = slot; lines = book_lines packet message name book; best = best_of book; top = top_of_book book }

@@ -6,4 +6,7 @@ pub mod FromAnswers
 pub mod Taking
 pub mod Reporting
 pub mod ReportLaw
+pub mod BoardSteps
+pub mod BoardLaws
+pub mod Steps
 pub mod Worker

@@ -1,17 +1,20 @@
 //! The collector: what it makes of the answers of all workers.
 
-ghost use Rattle.std.specs.Prelude.{◌≡◌, ◌≢◌, ◌++◌, AllPairs, length, map, IfOk, OnOk};
+ghost use Rattle.std.specs.Prelude.{◌≡◌, ◌≢◌, ◌++◌, ◌∷◌, [], AllPairs, length, map, IfOk, OnOk};
 ghost use Rattle.mdp_arbiter.specs.Channel.{ids_of};
 ghost use Rattle.mdp_books.specs.Book.{empty_book};
 ghost use Rattle.mdp_engine.specs.Rounds.{all_by_slot, kept_after, kept_at_start, rounds_in, text_from, told_text};
 ghost use Rattle.mdp_engine.specs.Spreads.{spreads_from};
 ghost use Rattle.mdp_quotes.specs.Best.{best_of};
+ghost use Rattle.mdp_reports.specs.BoardSteps.{step_telling, steps_in};
 ghost use Rattle.mdp_reports.specs.Contents.{heading_at, told_at};
 ghost use Rattle.mdp_reports.specs.FromAnswers.{told_in_answer};
+ghost use Rattle.mdp_reports.specs.Steps.{step_under};
 ghost use Rattle.mdp_reports.specs.Taking.{first_list, kept_after_rounds, kept_under, text_under};
 
 use crate::answer::Answer;
 use crate::audits::put_audits;
+use crate::board_steps::BoardSteps;
 use crate::kept::{clear, forget, put_all_told};
 use crate::rest::Rest;
 use crate::row::Heading;
@@ -61,9 +64,10 @@ fn kept_for<A: Allocator + Copy>(
     Ok(kept)
 }
 
-// Appends the lines of an event end.
-fn put_event<A: Allocator>(
+// Appends the lines of an event end, and its step.
+fn put_event<A: Allocator + Copy>(
     out: &mut Vec<u8, A>,
+    steps: &mut BoardSteps<A>,
     packet: u32,
     message: u64,
     listed: &[Instrument],
@@ -75,12 +79,14 @@ fn put_event<A: Allocator>(
     requires spreads { spreads.now ≡ spreads_from 0 (ids_of listed.now) listed.now }
     requires long { length marks.old ≡ length listed.now }
     ensures text { OnOk result (out.new.items ≡ out.old.items ++ told_text packet message listed.now (all_by_slot left.old) (kept_after (all_by_slot left.old) kept.old)) }
+    ensures steps { OnOk result (steps.new ≡ steps.old ++ step_telling packet message (all_by_slot left.old) ∷ []) }
     ensures kept { OnOk result (kept.new ≡ kept_after (all_by_slot left.old) kept.old) }
     ensures kept_long { length kept.new ≡ length kept.old }
     ensures marks_long { length marks.new ≡ length marks.old }
 {
     clear(marks);
-    put_all_told(left, out, kept, marks)?;
+    steps.begin()?;
+    put_all_told(packet, message, left, out, steps, kept, marks)?;
     put_audits(out, packet, message, listed, spreads, kept, marks)?;
     Ok(())
 }
@@ -157,19 +163,22 @@ impl<'a, A: Allocator + Copy> Collector<'a, A> {
         })
     }
 
-    // Appends the lines of a moment.
+    // Appends the lines of a moment, and its step.
     fn put_moment(
         &mut self,
         heading: Heading,
         left: &mut [Rest],
         out: &mut Vec<u8, A>,
+        steps: &mut BoardSteps<A>,
     ) -> Result<(), Memory>
         ensures text { OnOk result (out.new.items ≡ out.old.items ++ text_under heading self.old.listed self.old.kept (all_by_slot left.old)) }
+        ensures steps { OnOk result (steps.new ≡ steps.old ++ step_under heading (all_by_slot left.old) ∷ []) }
         ensures kept { OnOk result (self.new ≡ record { listed = self.old.listed; kept = kept_under heading self.old.kept (all_by_slot left.old) }) }
     {
         match heading {
             Heading::Event { packet, message } => put_event(
                 out,
+                steps,
                 packet,
                 message,
                 self.listed,
@@ -180,13 +189,15 @@ impl<'a, A: Allocator + Copy> Collector<'a, A> {
             ),
             Heading::Jump { old, new } => {
                 put_jump(out, old, new)?;
+                steps.jump()?;
                 forget(&mut self.kept);
                 Ok(())
             }
         }
     }
 
-    /// Takes one answer of each worker, all to the same batch, and appends the lines of its moments.
+    /// Takes one answer of each worker, all to the same batch, and appends the lines of its moments, and for each moment the step
+    /// that is published of it: at an event end the rows of all that is printed there, which may be none.
     ///
     /// # Errors
     ///
@@ -196,8 +207,10 @@ impl<'a, A: Allocator + Copy> Collector<'a, A> {
         alloc: A,
         round: &[Answer<A>],
         out: &mut Vec<u8, A>,
+        steps: &mut BoardSteps<A>,
     ) -> Result<(), Memory>
         ensures text { OnOk result (out.new.items ≡ out.old.items ++ text_from self.old.listed self.old.kept (rounds_in (map told_in_answer round.now))) }
+        ensures steps { OnOk result (steps.new ≡ steps.old ++ steps_in (rounds_in (map told_in_answer round.now))) }
         ensures kept { OnOk result (self.new ≡ record { listed = self.old.listed; kept = kept_after_rounds self.old.kept (rounds_in (map told_in_answer round.now)) }) }
     {
         let mut left = Vec::with_capacity(alloc, round.len())?;
@@ -206,7 +219,7 @@ impl<'a, A: Allocator + Copy> Collector<'a, A> {
                 return Ok(());
             };
             fill(round, n, &mut left)?;
-            self.put_moment(heading, &mut left, out)?;
+            self.put_moment(heading, &mut left, out, steps)?;
         }
         Ok(())
     }

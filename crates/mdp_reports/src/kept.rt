@@ -1,12 +1,16 @@
-//! What is kept of what a moment tells: the best levels of each security, and a mark for each that is told of.
+//! What is made of all that a moment tells: lines, rows of a board, the best levels that are kept, and a mark for each security.
 
 ghost use Rattle.std.specs.Prelude.{◌≡◌, ◌++◌, OnOk, None, set, map, length, true, false};
 ghost use Rattle.mdp_engine.specs.Rounds.{all_by_slot, kept_after};
+ghost use Rattle.mdp_reports.specs.BoardSteps.{row_with};
+ghost use Rattle.mdp_reports.specs.Steps.{steps_with_told};
 ghost use Rattle.mdp_reports.specs.Taking.{lines_told, marks_after};
 
+use crate::board_steps::BoardSteps;
 use crate::merge::take_next;
 use crate::rest::Rest;
-use mdp_quotes::Best;
+use mdp_lanes::Row;
+use mdp_quotes::{Best, TopOfBook};
 use mdp_templates::Memory;
 use std::alloc::Allocator;
 
@@ -30,14 +34,33 @@ fn mark(marks: &mut [bool], slot: u16)
     }
 }
 
-/// Appends the lines of all that is told, in slot order, keeps its best levels, and marks its slots.
-pub(crate) fn put_all_told<A: Allocator>(
+// The row of a security whose book has this top; none is a fault.
+fn row_with(packet: u32, message: u64, top: Option<TopOfBook>) -> Row
+    ensures { result ≡ row_with packet message top }
+{
+    match top {
+        Some(top) => Row::Top {
+            packet,
+            message,
+            bid: top.bid,
+            offer: top.offer,
+        },
+        None => Row::Fault { packet, message },
+    }
+}
+
+/// Appends the lines of all that is told, in slot order, and its rows to the last step, keeps its best levels, and marks its slots.
+pub(crate) fn put_all_told<A: Allocator + Copy>(
+    packet: u32,
+    message: u64,
     left: &mut [Rest],
     out: &mut Vec<u8, A>,
+    steps: &mut BoardSteps<A>,
     kept: &mut [Option<Best>],
     marks: &mut [bool],
 ) -> Result<(), Memory>
     ensures text { OnOk result (out.new.items ≡ out.old.items ++ lines_told (all_by_slot left.old)) }
+    ensures steps { OnOk result (steps.new ≡ steps_with_told packet message (all_by_slot left.old) steps.old) }
     ensures kept { OnOk result (kept.new ≡ kept_after (all_by_slot left.old) kept.old) }
     ensures marks { OnOk result (marks.new ≡ marks_after (all_by_slot left.old) marks.old) }
     ensures kept_long { length kept.new ≡ length kept.old }
@@ -45,6 +68,7 @@ pub(crate) fn put_all_told<A: Allocator>(
 {
     while let Some(line) = take_next(left) {
         out.extend_from_slice(line.lines)?;
+        steps.put(line.slot, row_with(packet, message, line.top))?;
         keep(kept, line.slot, line.best);
         mark(marks, line.slot);
     }

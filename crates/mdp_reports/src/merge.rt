@@ -1,6 +1,6 @@
 //! Which security goes next of all that several reports tell of.
 
-ghost use Rattle.std.specs.Prelude.{◌≡◌, [], ◌∷◌, MatchOption};
+ghost use Rattle.std.specs.Prelude.{◌≡◌, [], ◌∷◌, IfNone, MatchOption};
 ghost use Rattle.mdp_engine.specs.Rounds.{all_by_slot};
 ghost use Rattle.mdp_reports.specs.Contents.{told_line};
 ghost use Rattle.mdp_reports.specs.Next.{IsNext, least_of, lesser};
@@ -50,7 +50,8 @@ fn place_of_next(left: &[Rest]) -> Option<usize>
 
 /// Takes what goes next of all lists, by slot.
 pub(crate) fn take_next<'a>(left: &mut [Rest<'a>]) -> Option<Line<'a>>
-    ensures { MatchOption result (all_by_slot left.old ≡ []) (λ line. all_by_slot left.old ≡ told_line line ∷ all_by_slot left.new) }
+    ensures next { MatchOption result (all_by_slot left.old ≡ []) (λ line. all_by_slot left.old ≡ told_line line ∷ all_by_slot left.new) }
+    ensures stays { IfNone result (left.new ≡ left.old) }
 {
     let Some(n) = place_of_next(left) else {
         return None;

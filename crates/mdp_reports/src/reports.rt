@@ -73,17 +73,18 @@ fn put_told<A: Allocator>(
     live: &Live,
 ) -> Result<(), Memory>
     ensures bytes { OnOk result (bytes.new.items ≡ bytes.old.items ++ (told_of_book packet message slot name.now live.now).lines) }
-    ensures rows { OnOk result (rows.new.items ≡ rows.old.items ++ record { slot = slot; from = length bytes.old.items; to = length bytes.new.items; best = (told_of_book packet message slot name.now live.now).best } ∷ []) }
+    ensures rows { OnOk result (rows.new.items ≡ rows.old.items ++ record { slot = slot; from = length bytes.old.items; to = length bytes.new.items; best = (told_of_book packet message slot name.now live.now).best; top = (told_of_book packet message slot name.now live.now).top } ∷ []) }
     ensures marks { OnOk result (marks.new.items ≡ marks_to (length rows.new.items) marks.old.items) }
 {
     let from = bytes.len();
-    put_book(bytes, packet, message, name, live)?;
+    let top = put_book(bytes, packet, message, name, live)?;
     let best = Best::of(live.book());
     rows.push(Row {
         slot,
         from,
         to: bytes.len(),
         best,
+        top,
     })?;
     widen(marks, rows.len())
 }
@@ -139,7 +140,7 @@ impl<A: Allocator + Copy> Reports<A> {
     }
 
     /// Tells in the last report, where that is of an event end, of one more security: its slot among all listed ones, the lines of its
-    /// book in message `message` of packet `packet`, and its best levels.
+    /// book in message `message` of packet `packet`, its best levels and the top of its consolidated book.
     ///
     /// # Errors
     ///

@@ -1,6 +1,6 @@
 //! What is left to take of what a report tells.
 
-ghost use Rattle.std.specs.Prelude.{◌≡◌, ◌∷◌, [], length, MatchOption};
+ghost use Rattle.std.specs.Prelude.{◌≡◌, ◌∷◌, [], length, IfNone, MatchOption};
 ghost use Rattle.std.specs.List.{AllByRecursion};
 ghost use Rattle.mdp_reports.specs.Contents.{slot_first, told_line};
 ghost use Rattle.mdp_reports.specs.Flat.{told_of_rows, IsRowIn};
@@ -62,7 +62,8 @@ impl<'a> Rest<'a> {
 
     /// Takes what is told of the next security, if one is left.
     pub fn take(&mut self) -> Option<Line<'a>>
-        ensures { MatchOption result (self.old ≡ []) (λ line. self.old ≡ told_line line ∷ self.new) }
+        ensures next { MatchOption result (self.old ≡ []) (λ line. self.old ≡ told_line line ∷ self.new) }
+        ensures stays { IfNone result (self.new ≡ self.old) }
     {
         match self.rows.split_first() {
             Some((row, rest)) => {
@@ -70,6 +71,7 @@ impl<'a> Rest<'a> {
                     slot: row.slot,
                     lines: &self.bytes[row.from..row.to],
                     best: row.best,
+                    top: row.top,
                 };
                 self.rows = rest;
                 Some(line)

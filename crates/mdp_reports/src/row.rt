@@ -1,15 +1,16 @@
 //! The parts of reports.
 
-use mdp_quotes::Best;
+use mdp_quotes::{Best, TopOfBook};
 
-/// A security that is printed at an event end: its slot, where its lines stand among the bytes (from `from` on and before `to`), and
-/// its best levels, none of a faulty book.
+/// A security that is printed at an event end: its slot, where its lines stand among the bytes (from `from` on and before `to`), its
+/// best levels, and the top of its consolidated book; of a faulty book there is neither.
 #[derive(Clone, Copy)]
 pub struct Row {
     pub slot: u16,
     pub from: usize,
     pub to: usize,
     pub best: Option<Best>,
+    pub top: Option<TopOfBook>,
 }
 
 /// A moment: an event end, with the place of its rows among all rows (from `from` on and before `to`), or a jump.
@@ -36,6 +37,8 @@ pub struct Line<'a> {
     pub lines: &'a [u8],
     /// Its best levels; none of a faulty book.
     pub best: Option<Best>,
+    /// The top of its consolidated book; none of a faulty book.
+    pub top: Option<TopOfBook>,
 }
 
 /// The moment that a report is of.

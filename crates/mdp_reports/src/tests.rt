@@ -1,15 +1,17 @@
-//! Workers and a collector in one thread: the text of known captures, whatever the number of workers and wherever the turns are cut into
-//! batches, and each allocation refused in turn.
+//! Workers and a collector in one thread: the text and the board's steps of known captures, whatever the number of workers and wherever
+//! the turns are cut into batches, and each allocation refused in turn.
 
 mod channel;
+mod expected;
 
 ghost use Rattle.std.specs.Prelude.{◌<◌};
 ghost use Rattle.mdp_templates.specs.Instrument.{AreFit};
 
 use crate::tests::channel::{
-    Came, PLAIN, PLAIN_TEXT, RECOVERED, RECOVERED_TEXT, events_of, listed,
+    Came, FAULTY, FAULTY_TEXT, PLAIN, PLAIN_TEXT, RECOVERED, RECOVERED_TEXT, events_of, listed,
 };
-use crate::{Answer, Collector, Reports, Worker};
+use crate::tests::expected::{FAULTY_STEPS, PLAIN_STEPS, RECOVERED_STEPS};
+use crate::{Answer, BoardSteps, Collector, Posting, Reports, Worker};
 use mdp_arbiter::Arbiter;
 use mdp_engine::replay;
 use mdp_steps::{Turn, feed_all};
@@ -65,40 +67,69 @@ fn turns_of<A: Allocator + Copy>(
     Ok(turns)
 }
 
-/// Appends what the collector makes of the workers' answers to a batch of turns.
+/// Appends the text and the steps that the collector makes of the workers' answers to a batch of turns.
 fn collect<A: Allocator + Copy>(
     alloc: A,
     workers: &mut [Worker<A>],
     turns: &[Turn<A>],
     collector: &mut Collector<A>,
     text: &mut Vec<u8, A>,
+    steps: &mut BoardSteps<A>,
 ) -> Result<(), Memory> {
     let answers = answers_of(alloc, workers, turns)?;
-    collector.take(alloc, &answers, text)?;
+    collector.take(alloc, &answers, text, steps)?;
     Ok(())
 }
 
-/// The text that so many workers and a collector make of turns, which are cut into two batches.
-fn text_of<A: Allocator + Copy>(
+/// The text and the steps that so many workers and a collector make of turns, which are cut into two batches.
+fn run_of<A: Allocator + Copy>(
     alloc: A,
     listed: &[Instrument],
     turns: &[Turn<A>],
     count: u16,
     cut: usize,
-) -> Result<Vec<u8, A>, Memory>
+) -> Result<(Vec<u8, A>, BoardSteps<A>), Memory>
     requires fit { AreFit listed.now }
     requires some { 0 < count }
 {
     let mut workers = workers_of(alloc, listed, count)?;
     let mut collector = Collector::new(alloc, listed)?;
     let mut text = Vec::new(alloc);
+    let mut steps = BoardSteps::new(alloc);
     let (first, second) = turns.split_at(turns.len().min(cut));
-    collect(alloc, &mut workers, first, &mut collector, &mut text)?;
-    collect(alloc, &mut workers, second, &mut collector, &mut text)?;
-    Ok(text)
+    collect(
+        alloc,
+        &mut workers,
+        first,
+        &mut collector,
+        &mut text,
+        &mut steps,
+    )?;
+    collect(
+        alloc,
+        &mut workers,
+        second,
+        &mut collector,
+        &mut text,
+        &mut steps,
+    )?;
+    Ok((text, steps))
 }
 
-/// So many workers print the text, wherever the turns are cut.
+/// These are the steps.
+fn are_steps<A: Allocator + Copy>(
+    rt: &impl Abort,
+    steps: &BoardSteps<A>,
+    expected: &[Posting<'static>],
+) {
+    assert_eq!(rt; steps.len(), expected.len());
+    for n in 0..expected.len() {
+        assert_eq!(rt; steps.at(n), Some(expected[n]));
+    }
+    assert!(rt; steps.at(expected.len()).is_none());
+}
+
+/// So many workers give the text and the steps, wherever the turns are cut.
 fn workers_print(
     rt: &impl Abort,
     alloc: Global,
@@ -106,20 +137,28 @@ fn workers_print(
     count: u16,
     came: &[Came],
     text: &[u8],
+    steps: &[Posting<'static>],
 ) -> Result<(), Fail>
     requires fit { AreFit listed.now }
     requires some { 0 < count }
 {
     let turns = turns_of(alloc, listed, came)?;
     for cut in 0..6usize {
-        let made = text_of(alloc, listed, &turns, count, cut)?;
+        let (made, made_steps) = run_of(alloc, listed, &turns, count, cut)?;
         assert_eq!(rt; made.as_slice(), text);
+        are_steps(rt, &made_steps, steps);
     }
     Ok(())
 }
 
-/// The engine prints the text, and so do 1, 2, 3 and 16 workers.
-fn all_print(rt: &impl Abort, alloc: Global, came: &[Came], text: &[u8]) -> Result<(), Fail> {
+/// The engine prints the text, and 1, 2, 3 and 16 workers give the text and the steps.
+fn all_print(
+    rt: &impl Abort,
+    alloc: Global,
+    came: &[Came],
+    text: &[u8],
+    steps: &[Posting<'static>],
+) -> Result<(), Fail> {
     let listed = listed()?;
     let replayed = replay(
         alloc,
@@ -128,26 +167,34 @@ fn all_print(rt: &impl Abort, alloc: Global, came: &[Came], text: &[u8]) -> Resu
         MapWindow::new(alloc, 4),
     )?;
     assert_eq!(rt; replayed.as_slice(), text);
-    workers_print(rt, alloc, &listed, 1, came, text)?;
-    workers_print(rt, alloc, &listed, 2, came, text)?;
-    workers_print(rt, alloc, &listed, 3, came, text)?;
-    workers_print(rt, alloc, &listed, 16, came, text)
+    workers_print(rt, alloc, &listed, 1, came, text, steps)?;
+    workers_print(rt, alloc, &listed, 2, came, text, steps)?;
+    workers_print(rt, alloc, &listed, 3, came, text, steps)?;
+    workers_print(rt, alloc, &listed, 16, came, text, steps)
 }
 
 #[test]
 fn any_number_of_workers_prints_what_the_engine_prints(rt: HostRuntime) -> Result<(), Fail> {
-    all_print(&rt, rt.alloc(), &PLAIN, PLAIN_TEXT)?;
-    all_print(&rt, rt.alloc(), &RECOVERED, RECOVERED_TEXT)?;
-    all_print(&rt, rt.alloc(), &[], b"")
+    all_print(&rt, rt.alloc(), &PLAIN, PLAIN_TEXT, &PLAIN_STEPS)?;
+    all_print(
+        &rt,
+        rt.alloc(),
+        &RECOVERED,
+        RECOVERED_TEXT,
+        &RECOVERED_STEPS,
+    )?;
+    all_print(&rt, rt.alloc(), &FAULTY, FAULTY_TEXT, &FAULTY_STEPS)?;
+    all_print(&rt, rt.alloc(), &[], b"", &[])
 }
 
-/// Two workers print the text behind a jump, by memory from this heap.
+/// Two workers give the text and the steps behind a jump, by memory from this heap.
 fn two_print(rt: &impl Abort, heap: &Refusing<Global>, listed: &[Instrument]) -> Result<(), Memory>
     requires { AreFit listed.now }
 {
     let turns = turns_of(heap, listed, &RECOVERED)?;
-    let text = text_of(heap, listed, &turns, 2, 2)?;
+    let (text, steps) = run_of(heap, listed, &turns, 2, 2)?;
     assert_eq!(rt; text.as_slice(), RECOVERED_TEXT);
+    are_steps(rt, &steps, &RECOVERED_STEPS);
     Ok(())
 }
 

@@ -49,13 +49,17 @@ where
     }
     let (_a, _b, _s, receiver) = handed_over(rt, alloc, came)?;
     let go = OnceLock::new();
+    let mut board = None;
     let CrewOutcome {
         receiver: _receiver,
         standing,
         written,
     } = run_crew(
-        rt, scope, &go, starts, alloc, gate, listed, workers, 4, receiver, &mut kept,
+        rt, scope, &go, starts, alloc, gate, listed, workers, 4, receiver, &mut board, &mut kept,
     );
+    if let Some(publisher) = board {
+        publisher.end(rt);
+    }
     Ok(InThreads {
         standing,
         bytes: kept.bytes,

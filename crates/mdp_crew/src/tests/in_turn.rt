@@ -14,7 +14,7 @@ use crate::tests::writer::Kept;
 use crate::worker::work;
 use mdp_arbiter::Arbiter;
 use mdp_lanes::{Lane, LaneReceiver, LaneSender};
-use mdp_reports::Collector;
+use mdp_reports::{BoardSteps, Collector};
 use mdp_templates::{Instrument, Memory, are_fit};
 use mdp_window::RingWindow;
 use std::alloc::Global;
@@ -118,7 +118,9 @@ fn collect_all<'s, R: Threads + Wait>(
     let mut collector = Collector::new(alloc, listed)?;
     let mut round = Vec::with_capacity(alloc, posts.len())?;
     let mut text = Vec::new(alloc);
+    let mut steps = BoardSteps::new(alloc);
     let mut written = 0;
+    let mut board = None;
     let mut kept = Kept::new(alloc, 0);
     let collected = collect(
         rt,
@@ -127,9 +129,14 @@ fn collect_all<'s, R: Threads + Wait>(
         &mut collector,
         &mut round,
         &mut text,
+        &mut steps,
         &mut written,
+        &mut board,
         &mut kept,
     );
+    if let Some(publisher) = board {
+        publisher.end(rt);
+    }
     Ok(InTurn {
         collected,
         bytes: kept.bytes,

@@ -79,6 +79,21 @@ pub const RECOVERED: [Came; 7] = [
 pub const RECOVERED_TEXT: &[u8] =
     b"J 1 3\nD 3.1 NEAR B 101x2 100x5 O 103x4\nI 3.1 NEAR B O\nC 3.1 NEAR B 101x2 100x5 O 103x4\nD 4.1 NEAR B 101x9 100x5 O 103x4\nI 4.1 NEAR B O\nC 4.1 NEAR B 101x9 100x5 O 103x4\nD 4.1 CAL B O\nI 4.1 CAL B O\nC 4.1 CAL B O\nD 5.1 NEAR B 101x9 O 103x4\nI 5.1 NEAR B O\nC 5.1 NEAR B 101x9 O 103x4\nD 5.1 FAR B O 90x3\nI 5.1 FAR B O\nC 5.1 FAR B O 90x3\nA 5.1 CAL bid missing offer none\n";
 
+/// An event end that shows nothing, since its entry is of a security that isn't listed; a book that is faulty at once, and stays so; and
+/// beside it one that isn't.
+pub const FAULTY: [Came; 3] = [
+    Came::Packet(1, (9, Kind::Bid, Action::New, 1, 100, 5), None),
+    Came::Packet(2, (NEAR, Kind::Bid, Action::Delete, 1, 0, 0), None),
+    Came::Packet(
+        3,
+        (FAR, Kind::Offer, Action::New, 1, 90, 3),
+        Some((NEAR, Kind::Bid, Action::New, 1, 100, 5)),
+    ),
+];
+
+pub const FAULTY_TEXT: &[u8] =
+    b"F 2.1 NEAR 2.1.1\nF 3.1 NEAR 2.1.1\nD 3.1 FAR B O 90x3\nI 3.1 FAR B O\nC 3.1 FAR B O 90x3\n";
+
 fn instrument(id: i32, name: &str, kind: InstrumentKind) -> Result<Instrument, Fail> {
     let mut text = ArrayString::new();
     if text.try_push_str(name).is_err() {

@@ -1,0 +1,276 @@
+//! Runs that publish on a board: what a reader sees that was told of all that was published.
+
+ghost use Rattle.std.specs.Prelude.{◌≤◌};
+
+use crate::summary::{RunFault, Summary};
+use crate::tests::Kept;
+use crate::threads::run_published;
+use mdp_capture::{CountingReader, read_capture};
+use mdp_crew::Open;
+use mdp_lanes::{Board, Row};
+use mdp_quotes::Total;
+use refusing::Refusing;
+use std::alloc::{Allocator, Global};
+use std::process::Abort;
+use std::sync::Wait;
+use std::test::Fail;
+use std::thread::Threads;
+
+/// Packets 1 to 5 on feed A, and three of them on feed B too: five event ends.
+const TWO_LEGS: &[u8] = b"I 1 NEAR O
+I 2 FAR O
+I 3 CAL C 1 2
+A 01000000000000000000000038000b002e000100090000000000000000008000002000016400000000000000050000000100000000000000010000000100300000000000
+A 02000000000000000000000038000b002e000100090000000000000000008000002000016500000000000000020000000100000000000000010000000100300000000000
+A 03000000000000000000000038000b002e000100090000000000000000008000002000016700000000000000040000000100000000000000010000000100310000000000
+A 04000000000000000000000058000b002e0001000900000000000000000080000020000265000000000000000900000001000000000000000100000001013000000000005a00000000000000030000000200000000000000010000000100310000000000
+A 05000000000000000000000038000b002e000100090000000000000000008000002000010000000000000000000000000100000000000000010000000202300000000000
+B 01000000000000000000000038000b002e000100090000000000000000008000002000016400000000000000050000000100000000000000010000000100300000000000
+B 03000000000000000000000038000b002e000100090000000000000000008000002000016700000000000000040000000100000000000000010000000100310000000000
+B 05000000000000000000000038000b002e000100090000000000000000008000002000010000000000000000000000000100000000000000010000000202300000000000
+";
+
+const TWO_LEGS_TEXT: &[u8] = b"D 1.1 NEAR B 100x5 O
+I 1.1 NEAR B O
+C 1.1 NEAR B 100x5 O
+A 1.1 CAL bid none offer none
+D 2.1 NEAR B 101x2 100x5 O
+I 2.1 NEAR B O
+C 2.1 NEAR B 101x2 100x5 O
+A 2.1 CAL bid none offer none
+D 3.1 NEAR B 101x2 100x5 O 103x4
+I 3.1 NEAR B O
+C 3.1 NEAR B 101x2 100x5 O 103x4
+A 3.1 CAL bid none offer none
+D 4.1 NEAR B 101x9 100x5 O 103x4
+I 4.1 NEAR B O
+C 4.1 NEAR B 101x9 100x5 O 103x4
+D 4.1 FAR B O 90x3
+I 4.1 FAR B O
+C 4.1 FAR B O 90x3
+A 4.1 CAL bid missing offer none
+D 5.1 NEAR B 101x9 O 103x4
+I 5.1 NEAR B O
+C 5.1 NEAR B 101x9 O 103x4
+A 5.1 CAL bid missing offer none
+Z 6 live
+";
+
+/// Packet 1 never comes, and the snapshots bring the books back at packets 2, 3 and 4: a jump, and three event ends.
+const RECOVERY: &[u8] = b"I 1 NEAR O
+I 2 FAR O
+I 3 CAL C 1 2
+A 02000000000000000000000038000b002e000100090000000000000000008000002000016500000000000000020000000100000000000000010000000100300000000000
+A 03000000000000000000000038000b002e000100090000000000000000008000002000016700000000000000040000000100000000000000010000000100310000000000
+A 04000000000000000000000058000b002e0001000900000000000000000080000020000265000000000000000900000001000000000000000100000001013000000000005a00000000000000030000000200000000000000010000000100310000000000
+A 05000000000000000000000038000b002e000100090000000000000000008000002000010000000000000000000000000100000000000000010000000202300000000000
+S 0100000000000000000000004900100034000100090002000000000000000100000000000000160002650000000000000002000000010000000100000000306400000000000000050000000100000002000000003033001000340001000900040000000000000002000000000000001600015a0000000000000003000000010000000100000000311d00100034000100090003000000000000000300000000000000160000
+";
+
+const RECOVERY_TEXT: &[u8] = b"J 1 3
+D 3.1 NEAR B 101x2 100x5 O 103x4
+I 3.1 NEAR B O
+C 3.1 NEAR B 101x2 100x5 O 103x4
+D 4.1 NEAR B 101x9 100x5 O 103x4
+I 4.1 NEAR B O
+C 4.1 NEAR B 101x9 100x5 O 103x4
+D 4.1 CAL B O
+I 4.1 CAL B O
+C 4.1 CAL B O
+D 5.1 NEAR B 101x9 O 103x4
+I 5.1 NEAR B O
+C 5.1 NEAR B 101x9 O 103x4
+D 5.1 FAR B O 90x3
+I 5.1 FAR B O
+C 5.1 FAR B O 90x3
+A 5.1 CAL bid missing offer none
+Z 6 live
+";
+
+/// The rows of all three securities.
+type Rows = [Row; 3];
+
+fn total(price: i64, size: i64) -> Option<Total> {
+    Some(Total { price, size })
+}
+
+fn top(packet: u32, bid: Option<Total>, offer: Option<Total>) -> Row {
+    Row::Top {
+        packet,
+        message: 1,
+        bid,
+        offer,
+    }
+}
+
+/// The rows after so many steps of the run over `TWO_LEGS`.
+fn rows_after(length: u64) -> Rows {
+    let far = top(4, None, total(90, 3));
+    match length {
+        0 => [Row::Never; 3],
+        1 => [top(1, total(100, 5), None), Row::Never, Row::Never],
+        2 => [top(2, total(101, 2), None), Row::Never, Row::Never],
+        3 => [top(3, total(101, 2), total(103, 4)), Row::Never, Row::Never],
+        4 => [top(4, total(101, 9), total(103, 4)), far, Row::Never],
+        _ => [top(5, total(101, 9), total(103, 4)), far, Row::Never],
+    }
+}
+
+/// What a run came to, the bytes that it wrote, and what a reader then sees: the length of the front and its rows.
+#[derive(Drop)]
+struct Shown {
+    outcome: Result<Summary, RunFault>,
+    bytes: Vec<u8>,
+    length: Option<u64>,
+    rows: Rows,
+}
+
+// What a run over this capture shows on a board of its own; nothing where there was no memory for the capture and the board.
+fn publish_over<R, A>(
+    rt: &R,
+    alloc: Global,
+    heap: A,
+    bytes: &[u8],
+    workers: u16,
+    window: u32,
+) -> Option<Shown>
+where
+    R: Threads + Wait + Sync,
+    A: Allocator + Copy + Send + Sync,
+    requires some { 1 ≤ workers }
+    requires most_workers { workers ≤ 16 }
+    requires least { 1 ≤ window }
+    requires most { window ≤ 65536 }
+{
+    let mut text = CountingReader::new(bytes);
+    let Ok(capture) = read_capture(heap, &mut text) else {
+        return None;
+    };
+    let Ok((publisher, mut readers)) = Board::new(heap, rt, 3, 1) else {
+        return None;
+    };
+    let Some(mut reader) = readers.pop() else {
+        publisher.end(rt);
+        return None;
+    };
+    let mut kept = Kept::new(alloc);
+    let (mut publisher, outcome) = run_published(
+        rt,
+        heap,
+        capture.instruments(),
+        capture.a(),
+        capture.b(),
+        capture.s(),
+        workers,
+        window,
+        &Open,
+        publisher,
+        &mut kept,
+    );
+    reader.learn(publisher.tell());
+    let mut rows = [Row::Never; 3];
+    let length = reader.read(&[0, 1, 2], &mut rows);
+    publisher.end(rt);
+    Some(Shown {
+        outcome,
+        bytes: kept.bytes,
+        length,
+        rows,
+    })
+}
+
+/// Sees what a whole run over this capture prints and publishes.
+fn shows<R: Threads + Wait + Abort + Sync>(
+    rt: &R,
+    alloc: Global,
+    capture: &[u8],
+    workers: u16,
+    window: u32,
+    text: &[u8],
+    steps: u64,
+    rows: Rows,
+)
+    requires some { 1 ≤ workers }
+    requires most_workers { workers ≤ 16 }
+    requires least { 1 ≤ window }
+    requires most { window ≤ 65536 }
+{
+    let Some(shown) = publish_over(rt, alloc, alloc, capture, workers, window) else {
+        panic!(rt; "no memory");
+    };
+    assert!(rt; shown.outcome.is_ok());
+    assert_eq!(rt; shown.bytes.as_slice(), text);
+    assert_eq!(rt; shown.length, Some(steps));
+    assert_eq!(rt; shown.rows, rows);
+}
+
+#[test]
+fn publishes_each_event_end(rt: HostRuntime) -> Result<(), Fail> {
+    for workers in [1, 2, 3, 16] {
+        shows(
+            &rt,
+            rt.alloc(),
+            TWO_LEGS,
+            workers,
+            1024,
+            TWO_LEGS_TEXT,
+            5,
+            rows_after(5),
+        );
+    }
+    Ok(())
+}
+
+#[test]
+fn publishes_a_jump(rt: HostRuntime) -> Result<(), Fail> {
+    let near = top(5, total(101, 9), total(103, 4));
+    let far = top(5, None, total(90, 3));
+    let spread = top(4, None, None);
+    for workers in [1, 2, 3, 16] {
+        shows(
+            &rt,
+            rt.alloc(),
+            RECOVERY,
+            workers,
+            4,
+            RECOVERY_TEXT,
+            4,
+            [near, far, spread],
+        );
+    }
+    Ok(())
+}
+
+/// Whether two workers print the text, by memory from this heap; whatever comes, a reader sees a front of the steps.
+fn two_publish<R: Threads + Wait + Abort + Sync>(
+    rt: &R,
+    plain: Global,
+    heap: &Refusing<Global>,
+) -> bool {
+    let Some(shown) = publish_over(rt, plain, heap, TWO_LEGS, 2, 1024) else {
+        return false;
+    };
+    let Some(length) = shown.length else {
+        panic!(rt; "nothing was read");
+    };
+    assert!(rt; length <= 5);
+    assert_eq!(rt; shown.rows, rows_after(length));
+    assert!(rt; TWO_LEGS_TEXT.starts_with(&shown.bytes));
+    shown.outcome.is_ok()
+}
+
+#[test]
+fn each_allocation_refused_beside_a_board(rt: HostRuntime) -> Result<(), Fail> {
+    let mut refused = 0u64;
+    for number in 1..10000u64 {
+        let heap = Refusing::new(rt.alloc(), number);
+        let printed = two_publish(&rt, rt.alloc(), &heap);
+        assert_eq!(rt; printed, !heap.has_refused());
+        if printed {
+            break;
+        }
+        refused = number;
+    }
+    assert!(rt; refused > 40);
+    Ok(())
+}
