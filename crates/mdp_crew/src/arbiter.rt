@@ -9,6 +9,7 @@ ghost use Rattle.mdp_crew.specs.Arbitrating.{HasBegun, HasSent, SendsMore, Stops
 ghost use Rattle.mdp_crew.specs.Batches.{HasTakenMore, events_taken};
 
 use crate::batch::Batch;
+use crate::last_orders::LastOrders;
 use crate::order::{Order, send_done, send_steps};
 use mdp_arbiter::Arbiter;
 use mdp_engine::Event;
@@ -46,6 +47,7 @@ fn send_on<R: Wait, A: Allocator + Copy>(
     arbiter: &mut Arbiter<A, Ring<A>>,
     events: Vec<Event<A>, A>,
     senders: &mut [LaneSender<Order<A>, A>],
+    last: &mut LastOrders<A>,
 ) -> Result<(), Memory>
     ensures sends { OnOk result ((before : List Accepted)
         → SendsMore before senders.old arbiter.old (before ++ map event_of events.items) senders.new arbiter.new) }
@@ -57,7 +59,7 @@ fn send_on<R: Wait, A: Allocator + Copy>(
     if turns.is_empty() {
         return Ok(());
     }
-    send_steps(rt, alloc, senders, turns)
+    send_steps(rt, alloc, senders, turns, last)
 }
 
 // Takes a batch, and sends what its events make possible.
@@ -67,13 +69,14 @@ fn take_batch<R: Wait, A: Allocator + Copy>(
     arbiter: &mut Arbiter<A, Ring<A>>,
     receiver: &mut IntakeReceiver<Batch<A>, A>,
     senders: &mut [LaneSender<Order<A>, A>],
+    last: &mut LastOrders<A>,
 ) -> Result<(), Memory>
     ensures takes { HasTakenMore receiver.old receiver.new }
     ensures sends { OnOk result (SendsMore (events_taken receiver.old.taken) senders.old arbiter.old (events_taken receiver.new.taken) senders.new arbiter.new) }
     ensures stops { IfErr result (λ _. StopsWithin (events_taken receiver.old.taken) senders.old arbiter.old (events_taken receiver.new.taken) senders.new) }
 {
     let (_, batch) = receiver.take(rt);
-    send_on(rt, alloc, arbiter, batch.events, senders)
+    send_on(rt, alloc, arbiter, batch.events, senders, last)
 }
 
 // Takes all batches, up to the last of each reader, and sends what they make possible.
@@ -89,11 +92,12 @@ fn take_all<R: Wait, A: Allocator + Copy>(
     ensures sends { OnOk result (SendsMore (events_taken receiver.old.taken) senders.old arbiter.old (events_taken receiver.new.taken) senders.new arbiter.new) }
     ensures stops { IfErr result (λ _. StopsWithin (events_taken receiver.old.taken) senders.old arbiter.old (events_taken receiver.new.taken) senders.new) }
 {
+    let mut last = LastOrders::new();
     for _ in rt.forever() {
         if receiver.ends() == 3 {
             return Ok(());
         }
-        take_batch(rt, alloc, arbiter, receiver, senders)?;
+        take_batch(rt, alloc, arbiter, receiver, senders, &mut last)?;
     }
     Err(Memory)
 }

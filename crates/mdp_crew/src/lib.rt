@@ -7,6 +7,7 @@ mod batch;
 mod collector;
 mod crew;
 mod gate;
+mod last_orders;
 mod order;
 mod publishing;
 mod running;

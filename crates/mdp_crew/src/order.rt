@@ -4,6 +4,7 @@ ghost use Rattle.std.specs.Prelude.{◌≡◌, [], ◌∷◌, IfErr, IfOk, OnOk,
 ghost use Rattle.mdp_crew.specs.Orders.{and_sent};
 ghost use Rattle.mdp_steps.specs.Moves.{move_of};
 
+use crate::last_orders::LastOrders;
 use mdp_lanes::LaneSender;
 use mdp_steps::{Steps, Turn};
 use mdp_templates::Memory;
@@ -61,7 +62,7 @@ fn send_shares<R: Wait, A: Allocator + Copy>(
     }
 }
 
-/// Sends the turns to each worker. All memory that this takes is taken before the first is sent to.
+/// Sends the turns to each worker, and holds a share of them. All memory that this takes is taken before the first is sent to.
 ///
 /// # Errors
 ///
@@ -71,6 +72,7 @@ pub fn send_steps<R: Wait, A: Allocator + Copy>(
     alloc: A,
     senders: &mut [LaneSender<Order<A>, A>],
     turns: Vec<Turn<A>, A>,
+    last: &mut LastOrders<A>,
 ) -> Result<(), Memory>
     ensures sends { OnOk result (senders.new ≡ map (and_sent (Order.Take (map move_of turns.items) ∷ [])) senders.old) }
     ensures stays { IfErr result (λ _. senders.new ≡ senders.old) }
@@ -78,5 +80,6 @@ pub fn send_steps<R: Wait, A: Allocator + Copy>(
     let steps = Steps::new(alloc, turns)?;
     let shares = share_out(alloc, &steps, senders.len())?;
     send_shares(rt, senders, &steps, shares);
+    last.hold(steps);
     Ok(())
 }

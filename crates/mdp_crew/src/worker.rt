@@ -10,7 +10,7 @@ ghost use Rattle.mdp_crew.specs.Work.{HasAnswered};
 use crate::gate::Gate;
 use crate::order::Order;
 use mdp_lanes::{LaneReceiver, LaneSender};
-use mdp_reports::{Answer, Reports, Worker};
+use mdp_reports::{Answer, Reports, Room, Worker};
 use mdp_steps::Turn;
 use mdp_templates::{Instrument, Memory};
 use std::alloc::Allocator;
@@ -23,24 +23,27 @@ pub struct WorkerOutcome<A: Allocator + Copy> {
     pub answers: LaneSender<Answer<A>, A>,
 }
 
-// Makes these steps, and reports them. The gate is told of each before, and they are counted on.
+// Makes these steps, and reports them, with room for as much as was reported last. The gate is told of each step before, and they are
+// counted on.
 fn report<G: Gate, A: Allocator + Copy>(
     gate: &G,
     alloc: A,
     number: u16,
     worker: &mut Worker<A>,
     step: &mut u64,
+    room: &mut Room,
     turns: &[Turn<A>],
 ) -> Result<Reports<A>, Memory>
     ensures worker { OnOk result (worker.new ≡ record worker.old { desks = desks_after_moves worker.old.slots (map move_of turns.now) worker.old.desks }) }
     ensures reports { IfOk result (λ reports. reports ≡ reports_of_moves worker.old.slots (map move_of turns.now) worker.old.desks) }
 {
-    let mut reports = Reports::new(alloc);
+    let mut reports = Reports::with_room(alloc, *room)?;
     for turn in turns {
         *step = step.saturating_add(1);
         gate.arrive(usize::from(number), *step);
         worker.report_turn(alloc, turn, &mut reports)?;
     }
+    *room = reports.room();
     Ok(reports)
 }
 
@@ -64,13 +67,14 @@ fn answer_one<R: Wait, G: Gate, A: Allocator + Copy>(
     number: u16,
     worker: &mut Worker<A>,
     step: &mut u64,
+    room: &mut Room,
     orders: &mut LaneReceiver<Order<A>, A>,
     answers: &mut LaneSender<Answer<A>, A>,
 ) -> bool
     ensures { AnswersOne worker.old worker.new orders.old orders.new answers.old answers.new result }
 {
     match orders.take(rt) {
-        Order::Take(steps) => match report(gate, alloc, number, worker, step, steps.turns()) {
+        Order::Take(steps) => match report(gate, alloc, number, worker, step, room, steps.turns()) {
             Ok(reports) => {
                 answers.put(rt, Answer::Tells(reports));
                 true
@@ -112,6 +116,7 @@ pub fn work<R: Wait, G: Gate, A: Allocator + Copy>(
         return WorkerOutcome { orders, answers };
     };
     let mut step = 0;
+    let mut room = Room::none();
     for _ in rt.forever() {
         if !answer_one(
             rt,
@@ -120,6 +125,7 @@ pub fn work<R: Wait, G: Gate, A: Allocator + Copy>(
             number,
             &mut worker,
             &mut step,
+            &mut room,
             &mut orders,
             &mut answers,
         ) {

@@ -26,7 +26,7 @@ pub use laws::{
     law_of_more_steps, law_of_owed_steps, law_of_reports, law_of_step_fronts,
 };
 pub use reporting::report;
-pub use reports::Reports;
+pub use reports::{Reports, Room};
 pub use rest::Rest;
 pub use row::{Heading, Line};
 pub use worker::Worker;

@@ -1,7 +1,7 @@
 //! The reports of several moments.
 
 ghost use Rattle.std.specs.List.{slice_range};
-ghost use Rattle.std.specs.Prelude.{◌≡◌, ◌++◌, ◌∷◌, [], ◌≤◌, length, OnOk, IfErr};
+ghost use Rattle.std.specs.Prelude.{◌≡◌, ◌++◌, ◌∷◌, [], ◌≤◌, length, OnOk, IfErr, IfOk};
 ghost use Rattle.mdp_desks.specs.Reports.{tells, leaps};
 ghost use Rattle.mdp_reports.specs.Contents.{heading_at, place_at, told_at};
 ghost use Rattle.mdp_reports.specs.Flat.{told_of_book, marks_to, reports_with};
@@ -13,6 +13,25 @@ use mdp_quotes::{Best, Live};
 use mdp_templates::Memory;
 use std::alloc::Allocator;
 use std::marker::Model;
+
+/// How much reports hold, so that the next ones can be made with room for as much.
+#[derive(Clone, Copy)]
+pub struct Room {
+    bytes: usize,
+    rows: usize,
+    marks: usize,
+}
+
+impl Room {
+    /// Room for nothing.
+    pub fn none() -> Room {
+        Room {
+            bytes: 0,
+            rows: 0,
+            marks: 0,
+        }
+    }
+}
 
 /// What a worker reports of moments, one after another, seen as the list of its reports.
 #[derive(Drop)]
@@ -117,6 +136,30 @@ impl<A: Allocator + Copy> Reports<A> {
             bytes: Vec::new(alloc),
             rows: Vec::new(alloc),
             marks: Vec::new(alloc),
+        }
+    }
+
+    /// Makes a list with no reports, with room for as much as others held, and a quarter more of bytes.
+    ///
+    /// # Errors
+    ///
+    /// Memory ran out.
+    pub fn with_room(alloc: A, room: Room) -> Result<Reports<A>, Memory>
+        ensures { IfOk result (λ reports. reports ≡ []) }
+    {
+        Ok(Reports {
+            bytes: Vec::with_capacity(alloc, room.bytes.saturating_add(room.bytes / 4))?,
+            rows: Vec::with_capacity(alloc, room.rows)?,
+            marks: Vec::with_capacity(alloc, room.marks)?,
+        })
+    }
+
+    /// How much these reports hold.
+    pub fn room(&self) -> Room {
+        Room {
+            bytes: self.bytes.len(),
+            rows: self.rows.len(),
+            marks: self.marks.len(),
         }
     }
 
