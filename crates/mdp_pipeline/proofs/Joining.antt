@@ -132,26 +132,28 @@ begins_nothing listed room a b s start board =
     let steps = board_steps listed (moves_of listed room (events_in merge)) in (
       [],
       published_nothing board,
-      merge,
-      record {
-        text = text;
-        next = next_after listed room (events_in merge);
-        lost = is_lost_after listed room (events_in merge);
-        prints = record {
-          readings = readings;
-          are = record { a_are = read_a.1; b_are = read_b.1; s_are = read_s.1 };
-          merges = record { a = from_a ea eb es; b = from_b ea eb es; s = from_s ea eb es };
-          next_is = refl;
-          lost_is = refl;
-          shown = refl;
-          owed = λ feed honest. ap (λ (t : List ℕ). t ++ end_lines listed room (refusals_text readings) (events_in merge)) (shows_what_is_owed listed feed (moves_of listed room (events_in merge)) honest.complete (honest_moves_agree listed feed room (events_in merge) honest));
-        };
-        sent = [];
-        rest = text;
-        taken_is = sym (append-nil start);
-        whole = refl;
-      },
-      record { steps = steps; publishes = publishes listed room (events_in merge); rest = steps; whole = refl },
+      (
+        merge,
+        record {
+          text = text;
+          next = next_after listed room (events_in merge);
+          lost = is_lost_after listed room (events_in merge);
+          prints = record {
+            readings = readings;
+            are = record { a_are = read_a.1; b_are = read_b.1; s_are = read_s.1 };
+            merges = record { a = from_a ea eb es; b = from_b ea eb es; s = from_s ea eb es };
+            next_is = refl;
+            lost_is = refl;
+            shown = refl;
+            owed = λ feed honest. ap (λ (t : List ℕ). t ++ end_lines listed room (refusals_text readings) (events_in merge)) (shows_what_is_owed listed feed (moves_of listed room (events_in merge)) honest.complete (honest_moves_agree listed feed room (events_in merge) honest));
+          };
+          sent = [];
+          rest = text;
+          taken_is = sym (append-nil start);
+          whole = refl;
+        },
+        record { steps = steps; publishes = publishes listed room (events_in merge); rest = steps; whole = refl },
+      ),
     )
 
 -- ---- results
@@ -275,18 +277,20 @@ module _ {A : Type 0} where
       let all = merge_events receiver a b s left_a left_b left_s joined in (
         published.steps,
         published.board_is,
-        merge_in joined,
-        record {
-          text = shown_output listed room (refusals_text (readings_in joined)) es;
-          next = next_after listed room es;
-          lost = is_lost_after listed room es;
-          prints = prints receiver a b s left_a left_b left_s joined listed room;
-          sent = ends.sent;
-          rest = ends.rest;
-          taken_is = ends.taken_is;
-          whole = ap (shown_output listed room (refusals_text (readings_in joined))) all ∙ ends.whole;
-        },
-        subst (λ (events : List Event). BeginsToPublish listed room events published.steps) (sym all) (begins_steps listed room (events_taken receiver.taken) (rest_in joined) was now published),
+        (
+          merge_in joined,
+          record {
+            text = shown_output listed room (refusals_text (readings_in joined)) es;
+            next = next_after listed room es;
+            lost = is_lost_after listed room es;
+            prints = prints receiver a b s left_a left_b left_s joined listed room;
+            sent = ends.sent;
+            rest = ends.rest;
+            taken_is = ends.taken_is;
+            whole = ap (shown_output listed room (refusals_text (readings_in joined))) all ∙ ends.whole;
+          },
+          subst (λ (events : List Event). BeginsToPublish listed room events published.steps) (sym all) (begins_steps listed room (events_taken receiver.taken) (rest_in joined) was now published),
+        ),
       )
 
   pub prints_merge : (receiver : IntakeReceiverView (Batch A)) (a b s : List RecordContent) (left_a left_b left_s : ReaderOutcome A) (joined : Joined receiver a b s left_a left_b left_s) (listed : List Instrument) (room : ℕ) (refusals start taken : List ℕ) (next : ℕ) (lost : Bool) (was now : Option Published)

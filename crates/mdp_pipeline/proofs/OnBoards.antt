@@ -1,5 +1,5 @@
 -- What a run has published of the events that it took.
-use Rattle.std.proofs.Common.{◌≡◌, ℕ, List, ◌++◌, refl, sym, ◌∙◌}
+use Rattle.std.proofs.Common.{◌≡◌, ℕ, List, ◌++◌, refl, sym, ap, ◌∙◌}
 use Rattle.std.specs.Prelude.{Option, Some, None, Result, Ok, Err, IfOk, IfErr}
 use Rattle.mdp_templates.specs.declared.instrument.Instrument.{Instrument}
 use Rattle.mdp_capture.specs.Record.{RecordContent}
@@ -45,24 +45,29 @@ module _ (listed : List Instrument) (room : ℕ) (a b s : List RecordContent) (s
   -- the text alone
   pub prints_alone : (was now : Option Published) (summary : Summary) → SaysAll listed room a b s start taken was now summary
       → (text : List ℕ) × (taken ≡ start ++ text) × PrintsMerge listed room a b s text summary.next summary.lost
-  prints_alone was now summary (text, steps, taken_is, board_is, merge, prints, publishes) = (text, taken_is, merge, prints)
+  prints_alone was now summary says = (says.0, says.2, (says.4.0, says.4.1))
 
   pub begins_alone : (was now : Option Published) → SaysSome listed room a b s start taken was now → BeginsMerge listed room a b s start taken
-  begins_alone was now (steps, board_is, merge, begins, publishes) = (merge, begins)
+  begins_alone was now says = (says.2.0, says.2.1)
 
   -- a board that was there is there
-  same_board : (p q : Published) (steps : List Step) → Some q ≡ published_on (Some p) steps → q ≡ record p { steps = p.steps ++ steps }
-  same_board p q steps is = cc
+  same_board : (p q : Published) (now : Option Published) (steps : List Step) → now ≡ Some q → now ≡ published_on (Some p) steps → q ≡ record p { steps = p.steps ++ steps }
+  same_board p q now steps some is = let same : Some q ≡ Some (record p { steps = p.steps ++ steps }) = sym some ∙ is in cc
 
   pub prints_on_board : (p q : Published) (now : Option Published) (summary : Summary) → now ≡ Some q → SaysAll listed room a b s start taken (Some p) now summary
       → (text : List ℕ) × (steps : List Step) × (taken ≡ start ++ text) × (q ≡ record p { steps = p.steps ++ steps }) × PublishesMerge listed room a b s text summary.next summary.lost steps
-  prints_on_board p q now summary some (text, steps, taken_is, board_is, merges) = (text, steps, taken_is, same_board p q steps (sym some ∙ board_is), merges)
+  prints_on_board p q now summary some says = (says.0, says.1, says.2, same_board p q now says.1 some says.3, says.4)
 
   pub begins_on_board : (p q : Published) (now : Option Published) → now ≡ Some q → SaysSome listed room a b s start taken (Some p) now
       → (steps : List Step) × (q ≡ record p { steps = p.steps ++ steps }) × BeginsToPublishMerge listed room a b s start taken steps
-  begins_on_board p q now some (steps, board_is, merges) = (steps, same_board p q steps (sym some ∙ board_is), merges)
+  begins_on_board p q now some says = (says.0, same_board p q now says.0 some says.1, says.2)
 
-  pub board_stays : (p : Published) (now : Option Published) (outcome : Result Summary RunFault) → IfOk outcome (SaysAll listed room a b s start taken (Some p) now) → IfErr outcome (λ (fault : RunFault). SaysSome listed room a b s start taken (Some p) now)
-      → (q : Published) × (now ≡ Some q) × (q.board ≡ p.board)
-  board_stays p now (Ok summary) (text, steps, taken_is, board_is, merges) some = (record p { steps = p.steps ++ steps }, board_is, refl)
-  board_stays p now (Err fault) all (steps, board_is, merges) = (record p { steps = p.steps ++ steps }, board_is, refl)
+  pub board_stays : (p q : Published) (now : Option Published) (outcome : Result Summary RunFault) → now ≡ Some q → IfOk outcome (SaysAll listed room a b s start taken (Some p) now)
+      → IfErr outcome (λ (fault : RunFault). SaysSome listed room a b s start taken (Some p) now) → q.board ≡ p.board
+  board_stays p q now (Ok summary) some all begun = ap (λ (r : Published). r.board) (same_board p q now all.1 some all.3)
+  board_stays p q now (Err fault) some all begun = ap (λ (r : Published). r.board) (same_board p q now begun.0 some begun.1)
+
+  pub board_is_there : (p : Published) (now : Option Published) (outcome : Result Summary RunFault) → now ≡ None → IfOk outcome (SaysAll listed room a b s start taken (Some p) now)
+      → IfErr outcome (λ (fault : RunFault). SaysSome listed room a b s start taken (Some p) now) → ⊥
+  board_is_there p now (Ok summary) none all begun = let same : None ≡ published_on (Some p) all.1 = sym none ∙ all.3 in cc
+  board_is_there p now (Err fault) none all begun = let same : None ≡ published_on (Some p) begun.0 = sym none ∙ begun.1 in cc
