@@ -58,7 +58,8 @@ answers_of() {
                 print $1, before "ff" behind, $3, "255", place
             }
         }' >"$scratch/changes"
-    { echo; cat "$scratch/changes"; } | "$reader" >"$scratch/answers" || echo "READER ended with a fault" >>"$scratch/answers"
+    # Where READER ends with a fault there is no answer.
+    { echo; cat "$scratch/changes"; } | "$reader" >"$scratch/answers" || : >"$scratch/answers"
     paste "$scratch/changes" "$scratch/answers"
 }
 
@@ -106,15 +107,16 @@ faults_of_answers() {
             return sprintf("ok packet %.0f", number) rest
         }
 
-        # Whether the answer is one that there is, and begins with a text.
-        function is_answer(answer, wanted) {
-            if (answer ~ /^ok/) {
-                if (what == "packet" && answer !~ /^ok packet [1-9][0-9]*( \(|$)/) return 0
-                if (what == "snapshot" && answer !~ /^ok snapshots [0-9]+( \(|$)/) return 0
-            } else if (!(answer in refusals)) {
-                return 0
-            }
-            return index(answer, wanted) == 1
+        # Whether there is such an answer.
+        function is_answer(answer) {
+            if (answer in refusals) return 1
+            return answer ~ (what == "packet" ? "^ok packet [1-9][0-9]*( [(]|$)" : "^ok snapshots [0-9]+( [(]|$)")
+        }
+
+        # Whether it is the wanted one, where one is: of a good packet that is cut it is a beginning of what the whole one answers.
+        function is_wanted(answer, wanted) {
+            if (wanted == "ok") return answer ~ /^ok/ && (what == "snapshot" || index(whole, answer) == 1)
+            return wanted == "" || answer == wanted
         }
 
         {
@@ -128,7 +130,7 @@ faults_of_answers() {
             } else if ($5 < 12) {
                 wanted = answer_of_header($2)
             }
-            if (!is_answer($6, wanted)) print $3 "\t" $4 " " $5 " answers " $6 ", wanted " wanted
+            if (!is_answer($6) || !is_wanted($6, wanted)) print $3 "\t" $4 " " $5 " answers " $6 ", wanted " wanted
         }'
 }
 
