@@ -1,6 +1,6 @@
 //! A run on one thread, and a run over threads.
 
-ghost use Rattle.std.specs.Prelude.{◌≡◌, ◌≤◌, ◌<◌, ◌-◌, ◌^◌};
+ghost use Rattle.std.specs.Prelude.{◌<◌, ◌-◌, ◌^◌};
 
 use crate::in_order::run_in_order;
 use crate::summary::{RunFault, Summary};
