@@ -7,6 +7,7 @@ mod in_turn;
 mod on_board;
 mod writer;
 
+use crate::Standing;
 use crate::gate::{Gate, Open};
 use crate::starts::{Always, Starts};
 use crate::stop::Stop;
@@ -24,6 +25,19 @@ use std::test::Fail;
 use std::thread;
 use std::thread::Threads;
 
+/// What went out is the text, and all packets up to the next have passed.
+fn printed_all<R: Abort>(rt: &R, bytes: &[u8], written: u64, standing: Option<Standing>) {
+    assert_eq!(rt; bytes, TEXT);
+    assert_eq!(rt; written, TEXT.len() as u64);
+    match standing {
+        Some(standing) => {
+            assert_eq!(rt; standing.next, NEXT);
+            assert!(rt; !standing.lost);
+        }
+        None => panic!(rt; "the crew ended early"),
+    }
+}
+
 /// So many workers print the text in one thread.
 fn in_turn_prints<R: Threads + Wait + Abort + Sync>(
     rt: &R,
@@ -33,15 +47,7 @@ fn in_turn_prints<R: Threads + Wait + Abort + Sync>(
 ) -> Result<(), Fail> {
     let came = run_in_turn(rt, alloc, listed, workers)?;
     assert!(rt; came.collected.is_ok());
-    assert_eq!(rt; came.bytes.as_slice(), TEXT);
-    assert_eq!(rt; came.written, TEXT.len() as u64);
-    match came.standing {
-        Ok(standing) => {
-            assert_eq!(rt; standing.next, NEXT);
-            assert!(rt; !standing.lost);
-        }
-        Err(_) => panic!(rt; "no memory"),
-    }
+    printed_all(rt, &came.bytes, came.written, came.standing.ok());
     Ok(())
 }
 
@@ -73,15 +79,7 @@ fn threads_print<R: Threads + Wait + Abort + Sync>(
         0,
     )?;
     assert_eq!(rt; came.go, Some(true));
-    assert_eq!(rt; came.bytes.as_slice(), TEXT);
-    assert_eq!(rt; came.written, TEXT.len() as u64);
-    match came.standing {
-        Ok(standing) => {
-            assert_eq!(rt; standing.next, NEXT);
-            assert!(rt; !standing.lost);
-        }
-        Err(_) => panic!(rt; "stopped"),
-    }
+    printed_all(rt, &came.bytes, came.written, came.standing.ok());
     Ok(())
 }
 

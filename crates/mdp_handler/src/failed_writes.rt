@@ -1,8 +1,6 @@
 //! Each write of a run failing in turn, in each way, alone and where memory runs out too.
 
-use crate::captures::{RECOVERY, RECOVERY_TEXT, SPREAD, SPREAD_TEXT};
 use crate::program::program;
-use crate::tests::{Failure, Kept};
 use mdp_capture::CountingReader;
 use refusing::Refusing;
 use std::alloc::Global;
@@ -11,6 +9,7 @@ use std::process::Abort;
 use std::sync::Wait;
 use std::test::Fail;
 use std::thread::Threads;
+use worked_runs::{Failure, Kept, RECOVERY, RECOVERY_TEXT, SPREAD, SPREAD_TEXT};
 
 /// How many bytes the writer takes a call.
 const PIECE: usize = 64;

@@ -2,8 +2,6 @@
 #![tactic(auto)]
 
 #[cfg(test)]
-mod captures;
-#[cfg(test)]
 mod failed_writes;
 mod faults;
 mod program;

@@ -1,8 +1,6 @@
 //! Each allocation of a run refused in turn: what went out is a beginning of the run's text.
 
-use crate::captures::{RECOVERY, RECOVERY_TEXT, REFUSED, REFUSED_TEXT, SPREAD, SPREAD_TEXT};
 use crate::program::program;
-use crate::tests::Kept;
 use mdp_capture::CountingReader;
 use refusing::Refusing;
 use std::alloc::Global;
@@ -10,6 +8,7 @@ use std::process::Abort;
 use std::sync::Wait;
 use std::test::Fail;
 use std::thread::Threads;
+use worked_runs::{Kept, RECOVERY, RECOVERY_TEXT, REFUSED, REFUSED_TEXT, SPREAD, SPREAD_TEXT};
 
 // Runs with each allocation refused in turn, until none is, and answers how many were.
 fn refuse_each<R: Threads + Wait + Sync + Abort>(

@@ -1,12 +1,11 @@
 //! Reads and writes that fail, memory that runs out, and the help.
 
-ghost use Rattle.std.specs.Prelude.{◌≡◌, ◌<◌, ◌-◌, ◌^◌};
+ghost use Rattle.std.specs.Prelude.{◌<◌, ◌-◌, ◌^◌};
 
 use crate::program::program;
 use crate::settings::{Settings, read_settings};
 use clap::error::ErrorKind as ClapKind;
 use mdp_capture::{CountedRead, CountingReader};
-use mdp_print::CountedWrite;
 use refusing::Refusing;
 use std::alloc::Global;
 use std::io;
@@ -15,6 +14,7 @@ use std::process::Abort;
 use std::sync::Wait;
 use std::test::Fail;
 use std::thread::Threads;
+use worked_runs::{Failure, Kept};
 
 const CAPTURE: &[u8] =
     b"I 1 NEAR O\nA 01000000000000000000000038000b002e000100090000000000000000008000002000016400000000000000050000000100000000000000010000000100300000000000\n";
@@ -25,86 +25,6 @@ const WORDS: &[&str] = &["mdp_handler", "--in-order"];
 
 // A run on one thread, and one over threads.
 const RUNS: [&[&str]; 2] = [WORDS, &["mdp_handler"]];
-
-// How a write fails: by an error of this kind, or by taking no byte.
-#[derive(Clone, Copy)]
-pub(crate) enum Failure {
-    Error(ErrorKind),
-    NoByte,
-}
-
-// Keeps what it takes, at most so many bytes a call, and fails at one call.
-#[derive(Drop)]
-pub(crate) struct Kept {
-    pub(crate) bytes: Vec<u8>,
-    most: usize,
-    pub(crate) calls: u64,
-    fail_at: u64,
-    failure: Failure,
-    pub(crate) failures: u64,
-    error: Option<ErrorKind>,
-}
-
-impl Kept {
-    // Takes all bytes of a call, and never fails.
-    pub(crate) fn new(alloc: Global) -> Kept
-        ensures { result.failures ≡ 0 }
-    {
-        Kept::slow(alloc, usize::MAX, 0, Failure::NoByte)
-    }
-
-    // Takes at most so many bytes of a call, and fails at the call of this number, from 1; at 0 it never does.
-    pub(crate) fn slow(alloc: Global, most: usize, fail_at: u64, failure: Failure) -> Kept
-        ensures { result.failures ≡ 0 }
-    {
-        Kept {
-            bytes: Vec::new(alloc),
-            most,
-            calls: 0,
-            fail_at,
-            failure,
-            failures: 0,
-            error: None,
-        }
-    }
-}
-
-impl CountedWrite for Kept {
-    ghost taken = { λ w. w.bytes.items };
-
-    ghost failed = { λ w. w.failures };
-
-    ghost error = { λ w. w.error };
-
-    fn write(&mut self, bytes: &[u8]) -> io::Result<usize> {
-        self.calls = self.calls.saturating_add(1);
-        let mut count = bytes.len().min(self.most);
-        if self.calls == self.fail_at {
-            match self.failure {
-                Failure::Error(kind) => {
-                    self.failures += 1;
-                    self.error = Some(kind);
-                    return Err(io::Error::from(kind));
-                }
-                Failure::NoByte => count = 0,
-            }
-        }
-        if self.bytes.extend_from_slice(&bytes[..count]).is_err() {
-            self.failures += 1;
-            self.error = Some(ErrorKind::Other);
-            return Err(io::Error::from(ErrorKind::Other));
-        }
-        if count == 0 {
-            self.failures += 1;
-            self.error = None;
-        }
-        Ok(count)
-    }
-
-    fn failures(&self) -> u64 {
-        self.failures
-    }
-}
 
 // Gives at most so many bytes a call, and fails at one call.
 #[derive(Drop)]

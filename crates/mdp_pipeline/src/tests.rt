@@ -1,24 +1,26 @@
-//! Runs over threads: the text of a capture that any merge gives, readers and workers that run at once, each start refused, and what is
-//! published on a board.
+//! Runs over threads: the text of a capture that any merge gives, readers and workers that run at once, and each start refused; what is
+//! published on a board; and each allocation and each write refused, also on one thread.
 
+mod failed_writes;
 mod on_board;
+mod refused_allocations;
+mod ways;
 
-ghost use Rattle.std.specs.Prelude.{◌≡◌, ◌≤◌};
+ghost use Rattle.std.specs.Prelude.{◌≤◌};
 
 use crate::summary::{RunFault, Summary};
 use crate::threads::run_where;
 use mdp_capture::{CountingReader, read_capture};
 use mdp_crew::{Always, Gate, Open, Starts};
-use mdp_print::CountedWrite;
 use refusing::Refusing;
 use std::alloc::{Allocator, Global};
-use std::io::ErrorKind;
 use std::process::Abort;
 use std::sync::Wait;
 use std::sync::atomic::{AtomicU64, Ordering};
 use std::test::Fail;
+use std::thread;
 use std::thread::Threads;
-use std::{io, thread};
+use worked_runs::Kept;
 
 /// Packets 1 and 3 on feed A and packet 2 on feed B: whatever comes first, they pass in number order.
 const CAPTURE: &[u8] = b"I 1 NEAR O
@@ -38,51 +40,6 @@ I 3.1 NEAR B O
 C 3.1 NEAR B 101x2 100x5 O 103x4
 Z 4 live
 ";
-
-// Keeps what it takes.
-#[derive(Drop)]
-struct Kept {
-    bytes: Vec<u8>,
-    failures: u64,
-    error: Option<ErrorKind>,
-}
-
-impl Kept {
-    fn new(alloc: Global) -> Kept
-        ensures { result.failures ≡ 0 }
-    {
-        Kept {
-            bytes: Vec::new(alloc),
-            failures: 0,
-            error: None,
-        }
-    }
-}
-
-impl CountedWrite for Kept {
-    ghost taken = { λ w. w.bytes.items };
-
-    ghost failed = { λ w. w.failures };
-
-    ghost error = { λ w. w.error };
-
-    fn write(&mut self, bytes: &[u8]) -> io::Result<usize> {
-        if self.bytes.extend_from_slice(bytes).is_err() {
-            self.failures += 1;
-            self.error = Some(ErrorKind::Other);
-            return Err(io::Error::from(ErrorKind::Other));
-        }
-        if bytes.is_empty() {
-            self.failures += 1;
-            self.error = None;
-        }
-        Ok(bytes.len())
-    }
-
-    fn failures(&self) -> u64 {
-        self.failures
-    }
-}
 
 // Keeps a reader or a worker waiting until so many have come, and counts those that waited in vain.
 #[derive(Drop)]

@@ -7,13 +7,14 @@ use crate::running::run_crew;
 use crate::starts::Starts;
 use crate::stop::Stop;
 use crate::tests::channel::{Came, handed_over};
-use crate::tests::writer::Kept;
+use crate::tests::writer::slow_writer;
 use crate::{CrewOutcome, Standing};
 use mdp_templates::{Instrument, Memory, are_fit};
 use std::alloc::{Allocator, Global};
 use std::sync::{OnceLock, Wait};
 use std::thread;
 use std::thread::{Scope, Threads};
+use worked_runs::Kept;
 
 /// What a crew in threads comes to: what it says, the bytes that it wrote with their number, and what it told the readers.
 #[derive(Drop)]
@@ -98,7 +99,7 @@ where
             listed,
             workers,
             came,
-            Kept::new(plain, fail_at),
+            slow_writer(plain, fail_at),
         ),
     )
 }

@@ -10,7 +10,7 @@ use crate::gate::Open;
 use crate::order::Order;
 use crate::stop::Stop;
 use crate::tests::channel::{Came, handed_over};
-use crate::tests::writer::Kept;
+use crate::tests::writer::slow_writer;
 use crate::worker::work;
 use mdp_arbiter::Arbiter;
 use mdp_lanes::{Lane, LaneReceiver, LaneSender};
@@ -121,7 +121,7 @@ fn collect_all<'s, R: Threads + Wait>(
     let mut steps = BoardSteps::new(alloc);
     let mut written = 0;
     let mut board = None;
-    let mut kept = Kept::new(alloc, 0);
+    let mut kept = slow_writer(alloc, 0);
     let collected = collect(
         rt,
         alloc,

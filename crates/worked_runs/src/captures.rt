@@ -1,7 +1,7 @@
-//! Captures of the tests, and what is printed of each.
+//! Captures, and what is printed of each.
 
-/// Snapshots of different numbers for three securities, after a loss on both feeds.
-pub(crate) const RECOVERY: &[u8] = b"\
+/// Snapshots of different numbers for three securities, after a loss on both feeds; for a window of 4.
+pub const RECOVERY: &[u8] = b"\
 I 1 NEAR O\n\
 I 2 FAR O\n\
 I 3 CAL C 1 2\n\
@@ -20,7 +20,8 @@ S 010000000000000000000000\
     34000100090003000000000000000300000000000000160000\n\
 ";
 
-pub(crate) const RECOVERY_TEXT: &[u8] = b"\
+/// What is printed of [`RECOVERY`].
+pub const RECOVERY_TEXT: &[u8] = b"\
 J 1 3\n\
 D 3.1 NEAR B 101x2 100x5 O 103x4\n\
 I 3.1 NEAR B O\n\
@@ -42,7 +43,7 @@ Z 6 live\n\
 ";
 
 /// Datagrams that are refused beside a good one.
-pub(crate) const REFUSED: &[u8] = b"\
+pub const REFUSED: &[u8] = b"\
 I 1 NEAR O\n\
 A 010000000000000000000000\
     39000b002e000100090000000000000000008000002000016400000000000000050000000100000000000000010000000100300000000000\n\
@@ -60,7 +61,8 @@ B 010000000000000000000000\
     38000b002e000100090000000000000000008000002000016400000000000000050000000100000000000000010000000100300000000000\n\
 ";
 
-pub(crate) const REFUSED_TEXT: &[u8] = b"\
+/// What is printed of [`REFUSED`].
+pub const REFUSED_TEXT: &[u8] = b"\
 D 1.1 NEAR B 100x5 O\n\
 I 1.1 NEAR B O\n\
 C 1.1 NEAR B 100x5 O\n\
@@ -74,7 +76,7 @@ Z 2 live\n\
 ";
 
 /// Two legs and their spread on two feeds.
-pub(crate) const SPREAD: &[u8] = b"\
+pub const SPREAD: &[u8] = b"\
 I 1 NEAR O\n\
 I 2 FAR O\n\
 I 3 CAL C 1 2\n\
@@ -97,7 +99,8 @@ B 050000000000000000000000\
     38000b002e000100090000000000000000008000002000010000000000000000000000000100000000000000010000000202300000000000\n\
 ";
 
-pub(crate) const SPREAD_TEXT: &[u8] = b"\
+/// What is printed of [`SPREAD`].
+pub const SPREAD_TEXT: &[u8] = b"\
 D 1.1 NEAR B 100x5 O\n\
 I 1.1 NEAR B O\n\
 C 1.1 NEAR B 100x5 O\n\

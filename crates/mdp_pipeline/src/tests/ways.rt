@@ -1,0 +1,101 @@
+//! A run on one thread, and a run over threads.
+
+ghost use Rattle.std.specs.Prelude.{◌<◌, ◌-◌, ◌^◌};
+
+use crate::in_order::run_in_order;
+use crate::summary::{RunFault, Summary};
+use crate::threads::run;
+use mdp_capture::{CountingReader, read_capture};
+use mdp_crew::Open;
+use std::alloc::Allocator;
+use std::sync::Wait;
+use std::thread::Threads;
+use worked_runs::{Kept, RECOVERY, RECOVERY_TEXT, REFUSED, REFUSED_TEXT, SPREAD, SPREAD_TEXT};
+
+/// A capture, the window of its run, and the text, which is the same for every merge of the feeds.
+#[derive(Clone, Copy)]
+pub struct Row {
+    capture: &'static [u8],
+    window: u32,
+    pub text: &'static [u8],
+}
+
+pub const ROWS: [Row; 3] = [
+    Row {
+        capture: RECOVERY,
+        window: 4,
+        text: RECOVERY_TEXT,
+    },
+    Row {
+        capture: REFUSED,
+        window: 4,
+        text: REFUSED_TEXT,
+    },
+    Row {
+        capture: SPREAD,
+        window: 1024,
+        text: SPREAD_TEXT,
+    },
+];
+
+/// How a run is made.
+#[derive(Clone, Copy)]
+pub enum Way {
+    InOrder,
+    /// With so many workers, 1 to 16.
+    Threads(u16),
+}
+
+pub const WAYS: [Way; 4] = [
+    Way::InOrder,
+    Way::Threads(1),
+    Way::Threads(2),
+    Way::Threads(3),
+];
+
+/// Runs over a row, and answers what came of it; nothing where there was no memory for the capture.
+pub fn run_by<R, A>(
+    rt: &R,
+    alloc: A,
+    way: Way,
+    row: Row,
+    kept: &mut Kept,
+) -> Option<Result<Summary, RunFault>>
+where
+    R: Threads + Wait + Sync,
+    A: Allocator + Copy + Send + Sync,
+    requires { kept.old.failures < 2 ^ 64 - 1 }
+{
+    if row.window == 0 || row.window > 65536 {
+        return None;
+    }
+    let mut input = CountingReader::new(row.capture);
+    let Ok(capture) = read_capture(alloc, &mut input) else {
+        return None;
+    };
+    let instruments = capture.instruments();
+    match way {
+        Way::InOrder => Some(run_in_order(
+            alloc,
+            instruments,
+            capture.a(),
+            capture.b(),
+            capture.s(),
+            row.window,
+            kept,
+        )),
+        Way::Threads(workers) if workers >= 1 && workers <= 16 => Some(run(
+            rt,
+            alloc,
+            instruments,
+            capture.a(),
+            capture.b(),
+            capture.s(),
+            workers,
+            row.window,
+            &Open,
+            kept,
+        )),
+        Way::Threads(_) => None,
+    }
+}
