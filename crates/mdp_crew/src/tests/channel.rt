@@ -115,15 +115,21 @@ fn side(level: Option<Level>) -> ArrayVec<Level, 10> {
 }
 
 /// A snapshot that includes packet 3.
-fn snapshot<A: Allocator>(security: i32, bid: Option<Level>, offer: Option<Level>) -> Event<A> {
-    Event::Snapshot(Snapshot::new(
+fn snapshot<A: Allocator>(
+    alloc: A,
+    security: i32,
+    bid: Option<Level>,
+    offer: Option<Level>,
+) -> Result<Event<A>, Memory> {
+    let snapshot = Snapshot::new(
         security,
         3,
         side(bid),
         side(offer),
         ArrayVec::new(),
         ArrayVec::new(),
-    ))
+    );
+    Event::snapshot(alloc, snapshot)
 }
 
 /// A reader's only batch: the snapshots of all three securities.
@@ -134,9 +140,9 @@ fn snapshots<A: Allocator + Copy>(alloc: A) -> Result<Batch<A>, Memory> {
     };
     let offer = Level { price: 90, size: 3 };
     let mut events = Vec::new(alloc);
-    events.push(snapshot(NEAR, Some(bid), None))?;
-    events.push(snapshot(FAR, None, Some(offer)))?;
-    events.push(snapshot(SPREAD, None, None))?;
+    events.push(snapshot(alloc, NEAR, Some(bid), None)?)?;
+    events.push(snapshot(alloc, FAR, None, Some(offer))?)?;
+    events.push(snapshot(alloc, SPREAD, None, None)?)?;
     Ok(Batch {
         events,
         is_last: true,

@@ -5,7 +5,7 @@ use crate::gate::Open;
 use crate::running::run_crew;
 use crate::starts::Always;
 use crate::tests::channel::{Came, handed_over};
-use crate::tests::writer::Kept;
+use crate::tests::writer::slow_writer;
 use mdp_lanes::{Board, Row};
 use mdp_quotes::Total;
 use mdp_templates::{Instrument, Memory, are_fit};
@@ -106,7 +106,7 @@ where
     };
     let reader = readers.pop();
     let mut board = Some(publisher);
-    let mut kept = Kept::new(plain, fail_at);
+    let mut kept = slow_writer(plain, fail_at);
     let go = OnceLock::new();
     let CrewOutcome {
         receiver: _receiver,

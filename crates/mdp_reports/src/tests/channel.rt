@@ -183,9 +183,9 @@ fn event<A: Allocator + Copy>(alloc: A, came: Came) -> Result<Event<A>, Memory> 
         Came::Packet(number, first, second) => {
             Ok(Event::Packet(packet(alloc, number, first, second)?))
         }
-        Came::Near => Ok(Event::Snapshot(snapshot(NEAR, 2, &NEAR_BIDS, &[]))),
-        Came::Far => Ok(Event::Snapshot(snapshot(FAR, 4, &[], &FAR_OFFERS))),
-        Came::Spread => Ok(Event::Snapshot(snapshot(3, 3, &[], &[]))),
+        Came::Near => Event::snapshot(alloc, snapshot(NEAR, 2, &NEAR_BIDS, &[])),
+        Came::Far => Event::snapshot(alloc, snapshot(FAR, 4, &[], &FAR_OFFERS)),
+        Came::Spread => Event::snapshot(alloc, snapshot(3, 3, &[], &[])),
     }
 }
 
