@@ -77,6 +77,9 @@ impl<A: Allocator + Copy> Reader<A> {
         ensures refusals { OnOk result (self.new.refusals.items ≡ self.old.refusals.items ++ refusal_text feed line (said_of decoded)) }
         ensures sender { self.new.sender ≡ self.old.sender }
     {
+        if self.events.is_empty() {
+            self.events.reserve(self.size)?;
+        }
         match decoded {
             Decoded::Packet(packet) => self.events.push(Event::Packet(packet))?,
             Decoded::Snapshots(snapshots) => push_all(alloc, &mut self.events, &snapshots)?,

@@ -3,6 +3,7 @@
 
 mod failed_writes;
 mod on_board;
+mod pace;
 mod refused_allocations;
 mod ways;
 
