@@ -62,6 +62,14 @@ fn one_price_is_listed_once(rt: HostRuntime) -> Result<(), Fail> {
     ];
     assert_eq!(rt; quotes.bids(), bids.as_slice());
     assert_eq!(rt; quotes.offers(), [].as_slice());
+    let top = TopOfBook {
+        bid: Some(Total {
+            price: 101,
+            size: 0,
+        }),
+        offer: None,
+    };
+    assert_eq!(rt; quotes.top(), top);
     Ok(())
 }
 
@@ -98,6 +106,11 @@ fn offers_rise_and_a_gone_price_is_gone(rt: HostRuntime) -> Result<(), Fail> {
         Total { price: 8, size: 3 },
     ];
     assert_eq!(rt; quotes.offers(), before.as_slice());
+    let top = TopOfBook {
+        bid: None,
+        offer: Some(Total { price: 6, size: 4 }),
+    };
+    assert_eq!(rt; quotes.top(), top);
     let mut gone = new(Kind::Offer, 2, 0, 0);
     gone.action = Action::Delete;
     live.apply(place(1), &gone);

@@ -65,6 +65,7 @@ fn kept_for<A: Allocator + Copy>(
 }
 
 // Appends the lines of an event end, and its step.
+#[tactic(auto, using(crate::proofs::Stepping::all_told))]
 fn put_event<A: Allocator + Copy>(
     out: &mut Vec<u8, A>,
     steps: &mut BoardSteps<A>,

@@ -5,10 +5,8 @@ use Rattle.std.proofs.lemmas.List.{length-map}
 use Rattle.mdp_quotes.specs.declared.best.Best.{Best}
 use Rattle.mdp_engine.specs.Spreads.{IsUnder}
 use Rattle.mdp_engine.specs.Rounds.{all_by_slot, kept_after, kept_line}
-use Rattle.mdp_reports.specs.Steps.{steps_with_told}
 use Rattle.mdp_reports.specs.Taking.{lines_told, marked_line, marks_after}
 use Rattle.mdp_reports.proofs.Marking.{all_under, all_lines}
-use Rattle.mdp_reports.proofs.Stepping.{all_told}
 use Rattle.mdp_reports.proofs.collector.put_event.Goals as goal
 
 pub put_audits-requires : goal.put_audits-requires
@@ -16,13 +14,6 @@ put_audits-requires g c =
     let long : length c.put_all_told.new.marks ≡ length c.args.listed.now =
     c.in_ok-put_all_told.ensures.marks_long ∙ ap length c.clear.ensures ∙ length-map c.args.marks.now (λ (b : Bool). false) ∙ c.requires.long in
     subst (λ (n : ℕ). AllByRecursion (IsUnder n) c.args.spreads.now) (sym long) (all_under c.args.listed.now c.args.spreads.now c.requires.spreads)
-
-pub returns-clause-steps : goal.returns-clause-steps
-returns-clause-steps g c =
-    let ts = all_by_slot c.args.left.now in
-    c.in_ok-put_all_told.ensures.steps
-    ∙ ap (steps_with_told c.args.packet c.args.message ts) c.in_ok-begin.ensures
-    ∙ all_told c.args.packet c.args.message ts c.args.steps.now
 
 pub returns-clause-text : goal.returns-clause-text
 returns-clause-text g c =
