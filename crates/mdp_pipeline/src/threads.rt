@@ -255,7 +255,8 @@ where
 /// as the readers' pace leaves it to them: none hands over more than a quarter of the window, in lines, ahead of the slowest, and none
 /// passes the line of the first close before all that stands before it was handed over. Of that pace no clause speaks.
 ///
-/// The gate is told of each record before its reader reads it, and of each batch of steps before a worker works on it.
+/// The gate is told of each record before its reader reads it, and of each step before a worker works on it. A gate that holds a reader
+/// holds the others too, once they are as far ahead as they may be.
 ///
 /// # Errors
 ///
