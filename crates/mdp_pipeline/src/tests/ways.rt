@@ -1,12 +1,14 @@
-//! A run on one thread, and a run over threads.
+//! A run on one thread, a run over threads, and one that publishes on a board.
 
-ghost use Rattle.std.specs.Prelude.{◌<◌, ◌-◌, ◌^◌};
+ghost use Rattle.std.specs.Prelude.{◌<◌, ◌≤◌, ◌-◌, ◌^◌};
+ghost use Rattle.mdp_templates.specs.Instrument.{AreFit};
 
 use crate::in_order::run_in_order;
 use crate::summary::{RunFault, Summary};
-use crate::threads::run;
-use mdp_capture::{CountingReader, read_capture};
+use crate::threads::{run, run_published};
+use mdp_capture::{Capture, CountingReader, read_capture};
 use mdp_crew::Open;
+use mdp_lanes::Board;
 use std::alloc::Allocator;
 use std::sync::Wait;
 use std::thread::Threads;
@@ -44,16 +46,62 @@ pub enum Way {
     InOrder,
     /// With so many workers, 1 to 16.
     Threads(u16),
+    /// With so many workers, 1 to 16, and a board.
+    Published(u16),
 }
 
-pub const WAYS: [Way; 4] = [
+pub const WAYS: [Way; 5] = [
     Way::InOrder,
     Way::Threads(1),
     Way::Threads(2),
     Way::Threads(3),
+    Way::Published(2),
 ];
 
-/// Runs over a row, and answers what came of it; nothing where there was no memory for the capture.
+// Runs over a capture on a board of its own; nothing where there was no memory for the board.
+fn run_on_board<R, A>(
+    rt: &R,
+    alloc: A,
+    capture: &Capture<A>,
+    workers: u16,
+    window: u32,
+    kept: &mut Kept,
+) -> Option<Result<Summary, RunFault>>
+where
+    R: Threads + Wait + Sync,
+    A: Allocator + Copy + Send + Sync,
+    requires sound { kept.old.failures < 2 ^ 64 - 1 }
+    requires fit { AreFit capture.now.instruments }
+    requires least { 1 ≤ window }
+    requires most { window ≤ 65536 }
+    requires some_workers { 1 ≤ workers }
+    requires most_workers { workers ≤ 16 }
+{
+    let instruments = capture.instruments();
+    if instruments.is_empty() || instruments.len() > 512 {
+        return None;
+    }
+    let Ok((publisher, _readers)) = Board::new(alloc, rt, instruments.len(), 1) else {
+        return None;
+    };
+    let (publisher, outcome) = run_published(
+        rt,
+        alloc,
+        instruments,
+        capture.a(),
+        capture.b(),
+        capture.s(),
+        workers,
+        window,
+        &Open,
+        publisher,
+        kept,
+    );
+    publisher.end(rt);
+    Some(outcome)
+}
+
+/// Runs over a row, and answers what came of it; nothing where there was no memory for the capture or the board.
 pub fn run_by<R, A>(
     rt: &R,
     alloc: A,
@@ -96,6 +144,10 @@ where
             &Open,
             kept,
         )),
+        Way::Published(workers) if workers >= 1 && workers <= 16 => {
+            run_on_board(rt, alloc, &capture, workers, row.window, kept)
+        }
         Way::Threads(_) => None,
+        Way::Published(_) => None,
     }
 }
