@@ -29,7 +29,7 @@ enum Measure {
     EventBesideReaders,
 }
 
-/// The rows of an event.
+// The rows of an event.
 fn rows_of(message: u64) -> [(u16, Row); 2] {
     let level = Some(Total {
         price: 101,
@@ -44,7 +44,7 @@ fn rows_of(message: u64) -> [(u16, Row); 2] {
     [(0, row), (1, row)]
 }
 
-/// The ends of a board.
+// The ends of a board.
 fn board<R: Wait>(
     rt: &R,
     alloc: Global,

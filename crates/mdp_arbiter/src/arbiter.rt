@@ -167,7 +167,7 @@ impl<A: Allocator + Copy, W: Window<Packet<A>> + Drop> Arbiter<A, W> {
         self.take_step()
     }
 
-    /// Puts a packet into the window, unless the channel was closed.
+    // Puts a packet into the window, unless the channel was closed.
     fn receive(&mut self, packet: Packet<A>) -> Put<Packet<A>>
         ensures { Receives W.ALLOCATES packet self.old self.new result }
     {
@@ -182,7 +182,7 @@ impl<A: Allocator + Copy, W: Window<Packet<A>> + Drop> Arbiter<A, W> {
         answer
     }
 
-    /// Puts a snapshot in the place of an older one of its security.
+    // Puts a snapshot in the place of an older one of its security.
     fn renew(&mut self, snapshot: Snapshot) -> Option<Snapshot>
         ensures { Renews snapshot self.old self.new result }
     {
@@ -199,7 +199,7 @@ impl<A: Allocator + Copy, W: Window<Packet<A>> + Drop> Arbiter<A, W> {
         None
     }
 
-    /// Makes the move that is seen.
+    // Makes the move that is seen.
     fn take_step(&mut self) -> Option<Step<A>>
         ensures answers { Answers (seen_move self.old) result }
         ensures moves { Moves (seen_move self.old) self.old self.new }

@@ -31,7 +31,7 @@ pub(crate) fn renews(so_far: &Option<Snapshot>, snapshot: &Snapshot) -> bool
     }
 }
 
-/// Whether a snapshot is there and includes every packet that is given up.
+// Whether a snapshot is there and includes every packet that is given up.
 fn is_fresh_enough(snapshot: &Option<Snapshot>, top: u64, room: u64) -> bool
     requires { room ≤ 65536 }
     ensures { result ≡ is_fresh room top snapshot.now }
@@ -55,7 +55,7 @@ pub(crate) fn are_all_fresh(newest: &[Option<Snapshot>], top: u64, room: u64) ->
     true
 }
 
-/// The lesser of the number so far and that of a snapshot.
+// The lesser of the number so far and that of a snapshot.
 fn lesser_number(so_far: Option<u32>, snapshot: &Snapshot) -> u32
     ensures { Some result ≡ lesser so_far snapshot.now }
 {
@@ -78,7 +78,7 @@ pub(crate) fn least_number(newest: &[Option<Snapshot>]) -> Option<u32>
     least
 }
 
-/// An equal snapshot.
+// An equal snapshot.
 fn copy_of(snapshot: &Option<Snapshot>) -> Option<Snapshot>
     ensures { result ≡ snapshot.now }
 {

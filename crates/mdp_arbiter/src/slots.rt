@@ -28,7 +28,7 @@ impl<A: Allocator> Model for Slots<A> {
     ghost invariant = { λ s. AllPairs (λ earlier later. earlier ≢ later) s.ids.keys };
 }
 
-/// Puts an instrument's id behind the others, if it is new.
+// Puts an instrument's id behind the others, if it is new.
 fn enter<A: Allocator + Copy>(
     ids: &mut IndexSet<i32, BuildHasherDefault<FoldHasher>, A>,
     instrument: &Instrument,

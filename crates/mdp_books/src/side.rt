@@ -93,6 +93,7 @@ impl<const DEPTH: usize> Side<DEPTH> {
         true
     }
 
+    // Puts a level in the place of the one at a position, counted from 1; false and unchanged where there is none.
     fn change(&mut self, position: usize, with: Level) -> bool
         ensures after { after_change position with self.old ≡ (if result then Some self.new else None) }
         ensures same { OnFalse result (self.new ≡ self.old) }
@@ -104,6 +105,7 @@ impl<const DEPTH: usize> Side<DEPTH> {
         true
     }
 
+    // Takes the level at a position, counted from 1, out, so that those behind it move up; false and unchanged where there is none.
     fn delete(&mut self, position: usize) -> bool
         ensures after { after_delete position self.old ≡ (if result then Some self.new else None) }
         ensures same { OnFalse result (self.new ≡ self.old) }

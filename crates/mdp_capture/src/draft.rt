@@ -25,7 +25,7 @@ use std::hash::{BuildHasherDefault, FoldHasher};
 /// What kind of instrument each id is.
 type Kinds<A> = IndexMap<i32, InstrumentKind, BuildHasherDefault<FoldHasher>, A>;
 
-/// A capture as far as its lines were read, with the number of its next line.
+/// A capture under construction, with the number of its next line.
 #[derive(Drop)]
 pub(crate) struct Draft<A: Allocator> {
     pub(crate) line: u32,
@@ -73,6 +73,7 @@ impl<A: Allocator + Copy> Draft<A> {
         Ok(())
     }
 
+    // Takes in what a line says, and does not count it.
     fn add(&mut self, line: Line<A>) -> Result<(), CaptureFault>
         requires { IsIndexed self.old }
         ensures capture { OnOk result (add_line self.old.line (content_of line) (capture_so_far self.old) ≡ Ok (capture_so_far self.new)) }
@@ -90,6 +91,7 @@ impl<A: Allocator + Copy> Draft<A> {
         }
     }
 
+    // Appends a record to its feed's list.
     fn add_record(&mut self, feed: Feed, entry: Record<A>) -> Result<(), CaptureFault>
         requires { IsIndexed self.old }
         ensures capture { OnOk result (add_record feed entry (capture_so_far self.old) ≡ capture_so_far self.new) }
@@ -116,6 +118,7 @@ impl<A: Allocator + Copy> Draft<A> {
         }
     }
 
+    // Notes that this line is skipped, and why.
     fn skip_line(&mut self, skip: Skip) -> Result<(), CaptureFault>
         requires { IsIndexed self.old }
         ensures capture { OnOk result (add_line self.old.line (Skipped skip) (capture_so_far self.old) ≡ Ok (capture_so_far self.new)) }
@@ -128,6 +131,7 @@ impl<A: Allocator + Copy> Draft<A> {
         Ok(())
     }
 
+    // Lists an instrument, or refuses the capture.
     fn add_instrument(&mut self, instrument: Instrument) -> Result<(), CaptureFault>
         requires { IsIndexed self.old }
         ensures capture { OnOk result (add_instrument self.old.line instrument (capture_so_far self.old) ≡ Ok (capture_so_far self.new)) }
@@ -145,6 +149,7 @@ impl<A: Allocator + Copy> Draft<A> {
         Ok(())
     }
 
+    // Why an instrument on this line refuses the capture, if it does; the first reason that holds.
     fn refusal_of(&self, instrument: &Instrument) -> Option<CaptureRefusal>
         requires { IsIndexed self.now }
         ensures { result ≡ refusal_of (capture_so_far self.now) instrument.now }
@@ -162,12 +167,14 @@ impl<A: Allocator + Copy> Draft<A> {
         }
     }
 
+    // Whether a feed has a record.
     fn has_record(&self) -> bool
         ensures { result ≡ has_record (capture_so_far self.now) }
     {
         !self.a.is_empty() || !self.b.is_empty() || !self.s.is_empty()
     }
 
+    // Whether an instrument with this id or this name is listed.
     fn is_listed(&self, instrument: &Instrument) -> bool
         requires { IsIndexed self.now }
         ensures { result ≡ is_listed self.now.instruments.items instrument.now }
@@ -176,6 +183,7 @@ impl<A: Allocator + Copy> Draft<A> {
             || has_name(self.instruments.as_slice(), instrument.name.as_str())
     }
 
+    // Whether the legs are listed that this kind of instrument asks for.
     fn has_legs(&self, kind: InstrumentKind) -> bool
         requires { IsIndexed self.now }
         ensures { result ≡ has_legs self.now.instruments.items kind }
@@ -186,6 +194,7 @@ impl<A: Allocator + Copy> Draft<A> {
         }
     }
 
+    // Whether two ids are those of two different outrights that are listed.
     fn are_legs(&self, leg1: i32, leg2: i32) -> bool
         requires { IsIndexed self.now }
         ensures { result ≡ are_legs self.now.instruments.items leg1 leg2 }
@@ -193,6 +202,7 @@ impl<A: Allocator + Copy> Draft<A> {
         leg1 != leg2 && self.has_outright(leg1) && self.has_outright(leg2)
     }
 
+    // Whether an outright with this id is listed.
     fn has_outright(&self, id: i32) -> bool
         requires { IsIndexed self.now }
         ensures { result ≡ is_outright (kind_with_id self.now.instruments.items id) }
@@ -204,6 +214,7 @@ impl<A: Allocator + Copy> Draft<A> {
         }
     }
 
+    // The kind of the instrument that has this id, if one is listed.
     fn kind_with_id(&self, id: i32) -> Option<InstrumentKind>
         requires { IsIndexed self.now }
         ensures { result ≡ kind_with_id self.now.instruments.items id }
@@ -228,6 +239,7 @@ impl<A: Allocator + Copy> Draft<A> {
     }
 }
 
+// Notes an instrument's kind under its id.
 fn index<A: Allocator + Copy>(
     kinds: &mut Kinds<A>,
     instrument: &Instrument,
@@ -240,6 +252,7 @@ fn index<A: Allocator + Copy>(
     Ok(())
 }
 
+// The bytes of the last record, where it is a datagram.
 fn newest_of<A: Allocator>(records: &[Record<A>]) -> Option<&[u8]>
     ensures { IfSome result (λ bytes. newest_of records.now ≡ Some bytes.now) }
 {
@@ -249,6 +262,7 @@ fn newest_of<A: Allocator>(records: &[Record<A>]) -> Option<&[u8]>
     }
 }
 
+// Whether an instrument with this name is listed.
 fn has_name(instruments: &[Instrument], name: &str) -> bool
     ensures { result ≡ list_any (λ other. bytes_eq other.name name.now) instruments.now }
 {

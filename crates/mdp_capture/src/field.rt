@@ -46,7 +46,7 @@ pub(crate) fn id_of(field: &[u8]) -> Option<i32>
     if id == 0 { None } else { Some(id as i32) }
 }
 
-/// Whether a field has decimal digits alone and no leading zero.
+// Whether a field has decimal digits alone and no leading zero.
 fn is_number(field: &[u8]) -> bool
     ensures { result ≡ is_number field.now }
 {
@@ -56,6 +56,7 @@ fn is_number(field: &[u8]) -> bool
     }
 }
 
+// Whether each byte of a field is a decimal digit.
 fn has_digits_alone(field: &[u8]) -> bool
     ensures { result ≡ list_all is_digit field.now }
 {
@@ -74,13 +75,14 @@ pub(crate) fn name_of(field: &[u8]) -> Option<Name>
     Some(Name::new(text))
 }
 
-/// Whether a field has 1 to 20 bytes, each from 33 to 126.
+// Whether a field has 1 to 20 bytes, each from 33 to 126.
 fn is_name(field: &[u8]) -> bool
     ensures { result ≡ is_name field.now }
 {
     !field.is_empty() && field.len() <= 20 && is_graphic(field)
 }
 
+// Whether each byte of a field is a visible ASCII character, 33 to 126.
 fn is_graphic(field: &[u8]) -> bool
     ensures { result ≡ list_all is_graphic field.now }
 {

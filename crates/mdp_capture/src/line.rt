@@ -53,6 +53,7 @@ pub(crate) fn line_of<A: Allocator>(alloc: A, text: &[u8]) -> Result<Line<A>, Al
     }
 }
 
+// What a line says that begins with `I`.
 fn listing_of<A: Allocator>(rest: Option<&[u8]>) -> Line<A>
     ensures { content_of result ≡ listing (instrument_of (fields_left rest.entry)) }
 {
@@ -62,6 +63,7 @@ fn listing_of<A: Allocator>(rest: Option<&[u8]>) -> Line<A>
     }
 }
 
+// The instrument that the fields behind the letter describe, if they do.
 fn instrument_of(rest: Option<&[u8]>) -> Option<Instrument>
     ensures { result ≡ instrument_of (fields_left rest.entry) }
 {
@@ -73,6 +75,7 @@ fn instrument_of(rest: Option<&[u8]>) -> Option<Instrument>
     Some(Instrument { id, name, kind })
 }
 
+// The kind of instrument that the last fields say, if they do.
 fn kind_of(rest: Option<&[u8]>) -> Option<InstrumentKind>
     ensures { result ≡ kind_of (fields_left rest.entry) }
 {
@@ -83,6 +86,7 @@ fn kind_of(rest: Option<&[u8]>) -> Option<InstrumentKind>
     }
 }
 
+// The calendar spread of two legs, if there are two ids and nothing else.
 fn calendar_of(legs: &[u8]) -> Option<InstrumentKind>
     ensures { result ≡ calendar_of_fields (fields legs.now) }
 {
@@ -96,6 +100,7 @@ fn calendar_of(legs: &[u8]) -> Option<InstrumentKind>
     Some(InstrumentKind::Calendar { leg1, leg2 })
 }
 
+// What a line of a feed says: its datagram, or why it is skipped.
 fn packet_of<A: Allocator>(alloc: A, feed: Feed, rest: Option<&[u8]>) -> Result<Line<A>, AllocError>
     ensures { IfOk result (λ line. content_of line ≡ packet_of feed (fields_left rest.entry)) }
 {
@@ -146,6 +151,7 @@ fn skip_of(digits: &[u8]) -> Skip
     }
 }
 
+// What a line says that begins with `X`.
 fn closing_of<A: Allocator>(rest: Option<&[u8]>) -> Line<A>
     ensures { content_of result ≡ closing_of (fields_left rest.entry) }
 {

@@ -52,6 +52,7 @@ pub fn read_capture<R: CountedRead, A: Allocator + Copy>(
 /// How many bytes are read at once.
 const PIECE: usize = 65536;
 
+// Room for a piece, all zeros.
 fn room_for_a_piece<A: Allocator>(alloc: A) -> Result<Vec<u8, A>, AllocError>
     ensures { IfOk result (λ piece. vec_len piece ≡ PIECE) }
 {
@@ -128,6 +129,7 @@ impl<A: Allocator + Copy> Reading<A> {
         Ok(feed)
     }
 
+    // Takes in the line that is pending, which a line feed ended.
     fn end_line(&mut self, alloc: A) -> Result<(), CaptureFault>
         requires { IsSound self.old }
         ensures capture { OnOk result ((text : List ℕ) → capture_with self.old (10 ∷ text) ≡ capture_with self.new text) }
@@ -155,6 +157,7 @@ impl<A: Allocator + Copy> Reading<A> {
         draft.finish()
     }
 
+    // Takes in the last line, where it had no line feed.
     fn end_text(&mut self, alloc: A) -> Result<(), CaptureFault>
         requires { IsSound self.old }
         ensures capture { OnOk result (capture_with self.old [] ≡ needs_instrument (Ok (capture_so_far self.new.draft))) }
@@ -171,6 +174,7 @@ impl<A: Allocator + Copy> Reading<A> {
     }
 }
 
+// The line without a carriage return at its end.
 fn without_carriage_return(line: &[u8]) -> &[u8]
     ensures { result.now ≡ strip_carriage_return line.now }
 {

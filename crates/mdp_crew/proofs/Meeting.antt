@@ -1,17 +1,17 @@
 -- What the collector makes of the rounds of all workers is what the moves show.
 use Rattle.std.proofs.Common.{◌≡◌, ◌≢◌, ◌≤◌, ℕ, List, [], ◌∷◌, ◌++◌, map, refl, sym, ap, ◌∙◌, append_assoc}
 use Rattle.std.specs.Prelude.{Option}
-use Rattle.std.specs.List.{AllPairs, flat_map}
+use Rattle.std.specs.List.{AllPairs}
 use Rattle.mdp_templates.specs.declared.instrument.Instrument.{Instrument}
 use Rattle.mdp_quotes.specs.declared.best.Best.{Best}
 use Rattle.mdp_arbiter.specs.Channel.{ids_of}
 use Rattle.mdp_arbiter.specs.Machine.{Move}
 use Rattle.mdp_arbiter.specs.Machine.Move.{passed, jumped}
-use Rattle.mdp_desks.specs.Moments.{Moment, moments, moments_by}
+use Rattle.mdp_desks.specs.Moments.{Moment, moments_by}
 use Rattle.mdp_desks.specs.Reports.{Report}
 use Rattle.mdp_desks.specs.Shown.{shown_lines}
 use Rattle.mdp_engine.specs.RoundLaws.{Ascend}
-use Rattle.mdp_engine.specs.Rounds.{all_rounds_in, batch_of, collected_text, kept_after_round, kept_at_start, round_of, round_text, rounds_in, text_from}
+use Rattle.mdp_engine.specs.Rounds.{all_rounds_in, collected_text, kept_after_round, kept_at_start, round_of, round_text, rounds_in, text_from}
 use Rattle.mdp_engine.proofs.Batching.{law_of_batches, law_of_cuts}
 use Rattle.mdp_engine.proofs.Collecting.{law_of_workers}
 use Rattle.mdp_steps.specs.Sent.{moves_sent}

@@ -1,6 +1,6 @@
 -- Where all threads are joined and all lanes settled, the rounds that were taken are those of a beginning of the batches.
-use Rattle.std.proofs.Common.{◌≡◌, ◌≤◌, ◌<◌, ℕ, ◌+◌, zero, suc, Bool, true, false, List, [], ◌∷◌, ◌++◌, length, map, take, drop, replicate, refl, sym, ap, ◌∙◌, subst, append_assoc, arith}
-use Rattle.std.specs.Prelude.{Option, Result, Ok, Err, OnOk, IfOk, IfErr}
+use Rattle.std.proofs.Common.{◌≡◌, ◌≤◌, ℕ, ◌+◌, zero, suc, Bool, true, false, List, [], ◌∷◌, ◌++◌, length, map, take, drop, replicate, refl, sym, ap, ◌∙◌, subst, append_assoc, arith}
+use Rattle.std.specs.Prelude.{Option, Result, Ok, Err}
 use Rattle.std.specs.List.{AllByRecursion, AllZip}
 use Rattle.std.proofs.lemmas.List.{append-nil}
 use Rattle.mdp_templates.specs.declared.instrument.Instrument.{Instrument}
@@ -19,13 +19,12 @@ use Rattle.mdp_reports.specs.declared.answer.Answer.{Answer}
 use Rattle.mdp_reports.specs.declared.answer.Answer.TheVariants.{Tells, Finished}
 use Rattle.mdp_crew.specs.declared.crew.Post.{Post}
 use Rattle.mdp_crew.specs.declared.order.Order.{Order}
-use Rattle.mdp_crew.specs.declared.order.Order.TheVariants.{Take, Done}
 use Rattle.mdp_crew.specs.declared.stop.Stop.{Stop}
 use Rattle.mdp_crew.specs.declared.worker.WorkerOutcome.{WorkerOutcome}
 use Rattle.mdp_crew.specs.Collecting.{EndsCollecting, HasAll, HasSome, kept_after_batch, steps_of_batches, text_of_batch, text_of_batches}
 use Rattle.mdp_crew.specs.Publishing.{published_on}
 use Rattle.mdp_crew.proofs.Boards.{steps-append}
-use Rattle.mdp_crew.specs.Crew.{AreFresh, AreNumbered, IsFront, IsHired, IsSettled, IsWorker}
+use Rattle.mdp_crew.specs.Crew.{AreFresh, AreNumbered, IsFront, IsHired, IsSettled}
 use Rattle.mdp_crew.specs.Orders.{and_sent, orders_of}
 use Rattle.mdp_crew.specs.Rounds.{Wide, all_took, laid, put}
 use Rattle.mdp_crew.specs.Work.{HasAnswered, answers_by}

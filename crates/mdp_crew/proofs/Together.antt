@@ -1,6 +1,6 @@
 -- Where all threads of a crew are joined, what went out is what the moves of the events show that were taken, or a beginning of it.
-use Rattle.std.proofs.Common.{◌≡◌, ◌≢◌, ◌≤◌, ℕ, List, [], ◌∷◌, ◌++◌, map, refl, sym, ap, ◌∙◌, subst, append_assoc}
-use Rattle.std.specs.Prelude.{Option, Result, Ok, Err, IfOk, IfErr, OnOk}
+use Rattle.std.proofs.Common.{◌≡◌, ◌≢◌, ◌≤◌, ℕ, List, [], ◌++◌, refl, sym, ap, ◌∙◌, subst, append_assoc}
+use Rattle.std.specs.Prelude.{Option, Result, Ok, Err, IfOk, OnOk}
 use Rattle.std.specs.List.{AllPairs, AllZip}
 use Rattle.std.proofs.lemmas.List.{append-nil}
 use Rattle.mdp_templates.specs.declared.instrument.Instrument.{Instrument}
@@ -14,7 +14,7 @@ use Rattle.mdp_desks.specs.Shown.{shown_lines}
 use Rattle.mdp_engine.specs.RoundLaws.{Ascend}
 use Rattle.mdp_engine.specs.Rounds.{kept_at_start}
 use Rattle.mdp_engine.proofs.Ascending.{law_of_ascent}
-use Rattle.mdp_steps.specs.Sent.{AreSent, moves_sent}
+use Rattle.mdp_steps.specs.Sent.{moves_sent}
 use Rattle.mdp_reports.specs.BoardSteps.{board_steps}
 use Rattle.mdp_reports.specs.Taking.{View}
 use Rattle.mdp_reports.proofs.Full.{law_of_full_jumps}
@@ -26,9 +26,9 @@ use Rattle.mdp_crew.specs.declared.order.Order.{Order}
 use Rattle.mdp_crew.specs.declared.stop.Stop.{Stop}
 use Rattle.mdp_crew.specs.Arbitrating.{HasSent}
 use Rattle.mdp_crew.specs.Batches.{events_taken}
-use Rattle.mdp_crew.specs.Collecting.{EndsCollecting, HasAll, HasSome, steps_of_batches, text_of_batches}
+use Rattle.mdp_crew.specs.Collecting.{EndsCollecting, HasAll, steps_of_batches, text_of_batches}
 use Rattle.mdp_crew.specs.Crew.{IsCrew, IsSettled}
-use Rattle.mdp_crew.specs.Running.{HasPublished, HasPublishedSome, HasShown, HasShownAll, HasShownSome, outcome_of}
+use Rattle.mdp_crew.specs.Running.{HasPublished, HasPublishedSome, HasShown, HasShownSome, outcome_of}
 use Rattle.mdp_crew.specs.Publishing.{published_on}
 use Rattle.mdp_crew.proofs.Boards.{published_nothing}
 use Rattle.mdp_crew.proofs.Fronts.{published_first, shown_first}

@@ -1,12 +1,11 @@
 -- What a worker has answered, one order after another.
-use Rattle.std.proofs.Common.{◌≡◌, ◌≤◌, ℕ, Bool, true, false, List, [], ◌∷◌, ◌++◌, length, map, take, refl, sym, ap, ◌∙◌, subst, append_assoc, arith}
+use Rattle.std.proofs.Common.{◌≡◌, ℕ, Bool, true, false, List, [], ◌∷◌, ◌++◌, length, map, take, refl, sym, ap, ◌∙◌, subst, append_assoc, arith}
 use Rattle.std.proofs.lemmas.List.{append-nil, map-append, length-append}
 use Rattle.std.proofs.lemmas.List.Concat.{flat_map-append}
 use Rattle.mdp_templates.specs.declared.instrument.Instrument.{Instrument}
 use Rattle.mdp_lanes.specs.Queues.{LaneReceiverView, LaneSenderView}
 use Rattle.mdp_arbiter.specs.Machine.{Move}
 use Rattle.mdp_arbiter.specs.Machine.Move.{passed, jumped}
-use Rattle.mdp_desks.specs.declared.desk.Desk.{Desk}
 use Rattle.mdp_desks.specs.Desks.{desk_at_start}
 use Rattle.mdp_desks.specs.Moments.{moments_after}
 use Rattle.mdp_desks.specs.Reports.{Report, report_of}
@@ -21,10 +20,9 @@ use Rattle.mdp_reports.specs.declared.answer.Answer.TheVariants.{Tells}
 use Rattle.mdp_reports.proofs.Moves.{law_of_reports}
 use Rattle.mdp_crew.specs.declared.order.Order.{Order}
 use Rattle.mdp_crew.specs.declared.order.Order.TheVariants.{Take, Done}
-use Rattle.mdp_crew.specs.declared.worker.WorkerOutcome.{WorkerOutcome}
 use Rattle.mdp_crew.specs.Answering.{HasDrained, HasEnded, HasTold, IsWorking}
 use Rattle.mdp_crew.specs.Orders.{orders_of}
-use Rattle.mdp_crew.specs.Work.{HasAnswered, answers_by, last_answer, reports_by}
+use Rattle.mdp_crew.specs.Work.{HasAnswered, last_answer, reports_by}
 
 -- ---- batches one after another
 

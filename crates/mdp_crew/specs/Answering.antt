@@ -1,5 +1,5 @@
 -- How a worker comes to answer orders, one after another.
-use Rattle.std.specs.Prelude.{◌≡◌, ℕ, Bool, true, false, List, [], ◌∷◌, ◌++◌, length, map}
+use Rattle.std.specs.Prelude.{◌≡◌, ℕ, Bool, true, false, List, [], ◌∷◌, ◌++◌, map}
 use Rattle.mdp_templates.specs.declared.instrument.Instrument.{Instrument}
 use Rattle.mdp_lanes.specs.Queues.{LaneReceiverView, LaneSenderView}
 use Rattle.mdp_arbiter.specs.Machine.{Move}
@@ -11,7 +11,7 @@ use Rattle.mdp_reports.specs.Worker.{View}
 use Rattle.mdp_reports.specs.declared.answer.Answer.{Answer}
 use Rattle.mdp_reports.specs.declared.answer.Answer.TheVariants.{Tells}
 use Rattle.mdp_crew.specs.declared.order.Order.{Order}
-use Rattle.mdp_crew.specs.declared.order.Order.TheVariants.{Take, Done}
+use Rattle.mdp_crew.specs.declared.order.Order.TheVariants.{Take}
 use Rattle.mdp_crew.specs.Orders.{orders_of}
 use Rattle.mdp_crew.specs.Work.{last_answer, reports_by}
 

@@ -11,7 +11,6 @@ use Rattle.mdp_reports.specs.ReportLaw.{AreFull}
 use Rattle.mdp_reports.specs.declared.answer.Answer.{Answer}
 use Rattle.mdp_reports.specs.declared.answer.Answer.TheVariants.{Tells, Failed, Finished}
 use Rattle.mdp_crew.specs.declared.order.Order.{Order}
-use Rattle.mdp_crew.specs.declared.order.Order.TheVariants.{Take, Done}
 use Rattle.mdp_crew.specs.declared.worker.WorkerOutcome.{WorkerOutcome}
 use Rattle.mdp_crew.specs.Orders.{orders_of}
 

@@ -102,7 +102,7 @@ fn take_all<R: Wait, A: Allocator + Copy>(
     Err(Memory)
 }
 
-// Takes what is left, up to the last batch of each reader, and lets it go.
+/// Takes what is left, up to the last batch of each reader, and lets it go.
 pub fn drain<R: Wait, A: Allocator + Copy>(rt: &R, receiver: &mut IntakeReceiver<Batch<A>, A>)
     ensures takes { HasTakenMore receiver.old receiver.new }
     ensures ends { ends_taken (λ b. b.is_last) receiver.new.taken ≡ 3 }

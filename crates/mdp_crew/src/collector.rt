@@ -35,30 +35,35 @@ fn take_round<R: Wait, A: Allocator + Copy>(
     }
 }
 
+// Whether an answer tells reports.
 fn tells<A: Allocator>(answer: &Answer<A>) -> bool
     ensures { result ≡ is_told answer.now }
 {
     matches!(answer, Answer::Tells(_))
 }
 
+// Whether an answer says that the worker has finished.
 fn finishes<A: Allocator>(answer: &Answer<A>) -> bool
     ensures { result ≡ is_finished answer.now }
 {
     matches!(answer, Answer::Finished)
 }
 
+// Whether each answer of a round tells reports.
 fn all_are_told<A: Allocator>(round: &[Answer<A>]) -> bool
     ensures { result ≡ all_tell round.now }
 {
     round.iter().all(tells)
 }
 
+// Whether each worker of a round has finished.
 fn all_are_finished<A: Allocator>(round: &[Answer<A>]) -> bool
     ensures { result ≡ all_finish round.now }
 {
     round.iter().all(finishes)
 }
 
+// Whether no answer of a round tells reports.
 fn none_tells<A: Allocator>(round: &[Answer<A>]) -> bool {
     !round.iter().any(tells)
 }

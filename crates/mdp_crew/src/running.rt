@@ -262,8 +262,8 @@ where
 
 /// Runs over what three readers hand over, once they are told to go: an arbiter and so many workers in threads of the scope, and the
 /// collector on the caller's thread, which writes the text and publishes its steps on the board, if there is one. All that the readers
-/// hand over is taken, and all threads are joined, on every path. Where a thread can't be started the readers are told to stop; where it is the arbiter's, it arbitrates on the caller's
-/// thread what they put before.
+/// hand over is taken, and all threads are joined, on every path. Where a thread can't be started the readers are told to stop; where
+/// it is the arbiter's, the caller's thread arbitrates what they put before.
 ///
 /// The number of workers is 1 to 16, and the window covers 1 to 65536 packet numbers.
 ///

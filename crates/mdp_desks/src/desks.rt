@@ -103,6 +103,7 @@ fn settle_all<A: Allocator>(desks: &mut [Desk], marked: &mut Marked<A>, packet: 
     marked.narrow();
 }
 
+// Replaces each desk's book by the snapshot beside it, where there is one, and marks it.
 fn rebase_all<A: Allocator>(desks: &mut [Desk], marked: &mut Marked<A>, bases: &[Option<Snapshot>])
     requires { marked.old ≡ marks_of desks.old }
     ensures desks { desks.new ≡ rebased_desks bases.now desks.old }

@@ -38,6 +38,7 @@ fn put_verdicts<A: Allocator>(
     }
 }
 
+// Whether one of three marks is set.
 fn is_one_set(spread: bool, leg1: bool, leg2: bool) -> bool
     ensures { result ≡ (spread || leg1 || leg2) }
 {

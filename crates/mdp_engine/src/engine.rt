@@ -140,7 +140,7 @@ impl<A: Allocator + Copy, W: Window<Packet<A>> + Drop> Engine<A, W> {
         Ok(())
     }
 
-    /// Answers `Memory` once memory has run out.
+    // Answers `Memory` once memory has run out.
     fn still_sound(&self) -> Result<(), Memory>
         ensures sound { OnOk result (self.now.has_failed ≡ false) }
         ensures failed { IfErr result (λ _. self.now.has_failed ≡ true) }
@@ -151,7 +151,7 @@ impl<A: Allocator + Copy, W: Window<Packet<A>> + Drop> Engine<A, W> {
         Ok(())
     }
 
-    /// Takes in an event, and makes moves until none is possible.
+    // Takes in an event, and makes moves until none is possible.
     fn advance(&mut self, event: Event<A>) -> Result<(), Memory>
         ensures stands { OnOk result ((listed : List Instrument) (es : List Accepted) (drained : List ℕ) → Stands listed es drained self.old
             → Stands listed (es ++ event_of event ∷ []) drained self.new) }
@@ -163,7 +163,7 @@ impl<A: Allocator + Copy, W: Window<Packet<A>> + Drop> Engine<A, W> {
         Ok(())
     }
 
-    /// Takes in an event, and makes no move.
+    // Takes in an event, and makes no move.
     fn take_in(&mut self, event: Event<A>) -> Result<(), Memory>
         ensures stands { OnOk result ((es : List Accepted) → StandsAt es self.old.arbiter → StandsAt (es ++ event_of event ∷ []) self.new.arbiter) }
         ensures keeps { OnOk result (state self.new.arbiter ≡ state self.old.arbiter) }
@@ -187,7 +187,7 @@ impl<A: Allocator + Copy, W: Window<Packet<A>> + Drop> Engine<A, W> {
         }
     }
 
-    /// Makes moves until none is possible.
+    // Makes moves until none is possible.
     fn move_on(&mut self) -> Result<(), Memory>
         ensures advances { OnOk result (Advances self.old self.new) }
         ensures channel { OnOk result (self.new.arbiter.channel ≡ self.old.arbiter.channel) }
@@ -199,7 +199,7 @@ impl<A: Allocator + Copy, W: Window<Packet<A>> + Drop> Engine<A, W> {
         Ok(())
     }
 
-    /// Shows a step: a packet that passes, or a jump to the snapshots that the arbiter took.
+    // Shows a step: a packet that passes, or a jump to the snapshots that the arbiter took.
     fn take_step(&mut self, step: Step<A>) -> Result<(), Memory>
         ensures desks { OnOk result (self.new.desks ≡ stepped_desks step self.old.arbiter.bases self.old.desks) }
         ensures text { OnOk result (self.new.held ≡ self.old.held ++ stepped_text step self.old.desks) }

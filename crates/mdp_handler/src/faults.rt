@@ -42,7 +42,7 @@ pub fn tell_input<F: CountedWrite>(faults: &mut F)
     tell(faults, b"43 Input\n");
 }
 
-/// The number and the name of a fault, and the line feed after them.
+// The number and the name of a fault, and the line feed after them.
 fn fault_text(number: u8, name: &str) -> ShortText
     requires { length name.now ≤ 14 }
     ensures text { result ≡ decimal number ++ codes " " ++ name.now ++ codes "\n" }
@@ -56,7 +56,7 @@ fn fault_text(number: u8, name: &str) -> ShortText
     text
 }
 
-/// Puts a line of the capture in front of what is told of it.
+// Puts a line of the capture in front of what is told of it.
 fn put_place(text: &mut ShortText, line: u32)
     requires { length text.old ≤ 36 }
     ensures { text.new ≡ place_text line ++ text.old }
@@ -78,7 +78,7 @@ pub fn tell_refused<F: CountedWrite>(faults: &mut F, line: u32, refusal: Capture
     tell(faults, text.as_slice());
 }
 
-/// Tells a line that was skipped.
+// Tells a line that was skipped.
 #[tactic(auto, using(crate::proofs::Names::skip_name_short), unfolding(crate::specs::Faults::skipped_line))]
 fn tell_skipped_line<F: CountedWrite>(faults: &mut F, skipped: &SkippedLine)
     ensures { Tells F.failed F.taken faults.old faults.new (skipped_line skipped.now) }

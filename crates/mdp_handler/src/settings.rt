@@ -85,6 +85,7 @@ fn number_arg<'a>(
         .default_value(default)
 }
 
+// The option `--window`.
 fn window_arg<'a>(alloc: Global) -> Arg<'a>
     ensures rule { rule_of result ≡ option (codes "window") (up_to 65536) (codes "1024") }
     ensures own { result.global ≡ false }
@@ -94,6 +95,7 @@ fn window_arg<'a>(alloc: Global) -> Arg<'a>
     number_arg(alloc, "window", range, "1024", help)
 }
 
+// The option `--workers`.
 fn workers_arg<'a>(alloc: Global) -> Arg<'a>
     ensures rule { rule_of result ≡ option (codes "workers") (up_to 16) (codes "2") }
     ensures own { result.global ≡ false }
@@ -103,6 +105,7 @@ fn workers_arg<'a>(alloc: Global) -> Arg<'a>
     number_arg(alloc, "workers", range, "2", help)
 }
 
+// The flag `--in-order`.
 fn in_order_arg<'a>(alloc: Global) -> Arg<'a>
     ensures rule { rule_of result ≡ flag (codes "in-order") }
     ensures own { result.global ≡ false }

@@ -55,7 +55,7 @@ where
         × (drop p.writer.behind p.writer.log.items ≡ []) };
 }
 
-// Shows readers a copy with the update. Without memory they see what they saw.
+/// Shows readers a copy with the update. Without memory they see what they saw.
 pub(crate) fn send<R: Wait, A: Allocator + Copy>(
     writer: BoardWriter<A>,
     rt: &R,

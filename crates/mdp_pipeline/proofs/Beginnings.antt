@@ -1,8 +1,7 @@
 -- What went out before a run ended early.
-use Rattle.std.proofs.Common.{◌≡◌, ℕ, Bool, List, [], ◌∷◌, ◌++◌, map, take, drop, refl, sym, ap, subst, ◌∙◌, append_assoc}
-use Rattle.std.specs.Prelude.{Result, Ok, Err, IfErr}
+use Rattle.std.proofs.Common.{◌≡◌, ℕ, List, [], ◌∷◌, ◌++◌, map, take, drop, refl, sym, ap, subst, ◌∙◌, append_assoc}
 use Rattle.std.specs.List.{AllByRecursion}
-use Rattle.std.proofs.lemmas.List.{append-nil, append_cancel_left, map-append, take-append-drop}
+use Rattle.std.proofs.lemmas.List.{append-nil, map-append, take-append-drop}
 use Rattle.std.proofs.lemmas.List.Concat.{flat_map-append}
 use Rattle.mdp_sbe.specs.Answer.{HasOneAnswer}
 use Rattle.mdp_sbe.specs.Answer.HasOneAnswer.{is_good, is_refused}
@@ -12,18 +11,15 @@ use Rattle.mdp_templates.specs.Refused.{FeedKind as Kind}
 use Rattle.mdp_templates.specs.Refused.FeedKind.{incremental, recovery}
 use Rattle.mdp_templates.specs.declared.instrument.Instrument.{Instrument}
 use Rattle.mdp_templates.proofs.OneAnswer.{one_packet, one_datagram}
-use Rattle.mdp_print.specs.Texts.{last_line}
 use Rattle.mdp_templates.specs.declared.feed.Feed.{Feed}
 use Rattle.mdp_capture.specs.Record.{RecordContent, Received, Datagram, Close}
 use Rattle.mdp_arbiter.specs.Accepted.{Event, came, recovered, closed}
-use Rattle.mdp_arbiter.specs.Machine.{Move, state_at, trace, go_on, is_lost}
+use Rattle.mdp_arbiter.specs.Machine.{state_at, trace, go_on}
 use Rattle.mdp_arbiter.specs.Channel.{Channel, channel_of}
 use Rattle.mdp_arbiter.proofs.Runs.{law_of_fronts}
-use Rattle.mdp_engine.specs.Engine.{View, Stands}
-use Rattle.mdp_desks.specs.Shown.{shown_lines_of_move, shown_lines_after, shown_lines}
+use Rattle.mdp_engine.specs.Engine.{View}
+use Rattle.mdp_desks.specs.Shown.{shown_lines_after, shown_lines}
 use Rattle.mdp_pipeline.specs.declared.progress.Run.{Run}
-use Rattle.mdp_pipeline.specs.declared.summary.Summary.{Summary}
-use Rattle.mdp_pipeline.specs.declared.summary.RunFault.{RunFault}
 use Rattle.mdp_pipeline.specs.Merge.{Arrival, in_order}
 use Rattle.mdp_pipeline.specs.Reading.{Reading, Said, Says, brings, refused, IsReading, AreReadings, brought_by, by_feed, events_of, kind_of, refusals_text}
 use Rattle.mdp_pipeline.specs.Output.{end_lines, is_lost_after, moves_of, next_after, shown_output}

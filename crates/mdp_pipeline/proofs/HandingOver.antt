@@ -1,8 +1,7 @@
 -- What a reader has handed over, record by record.
-use Rattle.std.proofs.Common.{Vec, ◌≡◌, ℕ, ◌+◌, ◌<◌, Bool, true, false, List, [], ◌∷◌, ◌++◌, map, take, drop, length, get_or, refl, sym, ap, subst, ◌∙◌, append_assoc}
+use Rattle.std.proofs.Common.{Vec, ◌≡◌, ℕ, ◌+◌, ◌<◌, Bool, true, false, List, [], ◌∷◌, ◌++◌, map, take, length, get_or, refl, sym, ap, subst, ◌∙◌, append_assoc}
 use Rattle.std.specs.Prelude.{◌||◌}
-use Rattle.std.specs.List.{AllByRecursion, flat_map, list_any}
-use Rattle.std.proofs.lemmas.List.{append-nil, map-append, take_more, take-append-drop}
+use Rattle.std.proofs.lemmas.List.{append-nil, map-append, take_more}
 use Rattle.std.proofs.lemmas.List.Concat.{flat_map-append}
 use Rattle.std.proofs.lemmas.List.Folds.{list_any-append}
 use Rattle.mdp_templates.specs.declared.feed.Feed.{Feed}
@@ -14,7 +13,7 @@ use Rattle.mdp_crew.specs.declared.batch.Batch.{Batch}
 use Rattle.mdp_crew.specs.Batches.{all_events, batch_events}
 use Rattle.mdp_pipeline.specs.declared.reader.Reader.{Reader}
 use Rattle.mdp_pipeline.specs.Merge.{Arrival, arrivals}
-use Rattle.mdp_pipeline.specs.Reading.{Reading, AreReadings, IsReading, Said, brought_by, events_of, refusal_lines, refusal_text}
+use Rattle.mdp_pipeline.specs.Reading.{Reading, AreReadings, brought_by, events_of, refusal_lines, refusal_text}
 use Rattle.mdp_pipeline.specs.Readers.{HasHandedOver, HasPut, HasReadOne, HasReadSoFar, events_held, has_ended}
 use Rattle.mdp_pipeline.proofs.Beginnings.{readings_exist, readings-append}
 

@@ -1,7 +1,7 @@
 -- What was taken of three readers, with what they did not hand over, is a merge of what their records bring.
-use Rattle.std.proofs.Common.{◌≡◌, ℕ, Bool, true, false, cond, List, [], ◌∷◌, ◌++◌, map, take, refl, sym, ap, subst, ◌∙◌, append_assoc}
+use Rattle.std.proofs.Common.{◌≡◌, ℕ, Bool, true, false, cond, List, [], ◌∷◌, ◌++◌, take, refl, sym, ap, subst, ◌∙◌}
 use Rattle.std.specs.Prelude.{Option, Result, Ok, Err, IfOk, IfErr, OnOk, ◌==◌, ◌<◌}
-use Rattle.std.specs.List.{filter, flat_map}
+use Rattle.std.specs.List.{filter}
 use Rattle.std.proofs.lemmas.List.{append-nil, map-append}
 use Rattle.std.proofs.lemmas.List.Elements.{filter-append}
 use Rattle.mdp_templates.specs.declared.feed.Feed.{Feed}
@@ -10,7 +10,6 @@ use Rattle.mdp_templates.specs.Feed.{feed_letter}
 use Rattle.mdp_templates.specs.declared.instrument.Instrument.{Instrument}
 use Rattle.mdp_capture.specs.Record.{RecordContent}
 use Rattle.mdp_arbiter.specs.Accepted.{Event}
-use Rattle.mdp_arbiter.specs.Channel.{channel_of}
 use Rattle.mdp_engine.proofs.Agreeing.{shows_what_is_owed}
 use Rattle.mdp_engine.proofs.Honesty.{honest_moves_agree}
 use Rattle.mdp_lanes.specs.Boards.{Published}
@@ -33,8 +32,8 @@ use Rattle.mdp_pipeline.specs.declared.summary.Summary.{Summary}
 use Rattle.mdp_pipeline.specs.Taken.{HasReadFor, tagged_as, tagged_taken}
 use Rattle.mdp_pipeline.specs.Merge.{arrivals}
 use Rattle.mdp_pipeline.specs.Merging.{Tagged, IsMerge, events_from, events_in, is_from}
-use Rattle.mdp_pipeline.specs.Output.{Begins, BeginsToPublish, BeginsToPublishMerge, Prints, PublishesMerge, end_lines, is_lost_after, moves_of, next_after, shown_output}
-use Rattle.mdp_pipeline.specs.Reading.{Reading, Readings, AreReadingsOf, events_of, refusals_text}
+use Rattle.mdp_pipeline.specs.Output.{BeginsToPublish, BeginsToPublishMerge, Prints, PublishesMerge, end_lines, is_lost_after, moves_of, next_after, shown_output}
+use Rattle.mdp_pipeline.specs.Reading.{Readings, events_of, refusals_text}
 use Rattle.mdp_pipeline.specs.Readers.{HasRead}
 use Rattle.mdp_pipeline.specs.RefusalTexts.{RefusalTexts}
 use Rattle.mdp_pipeline.specs.Running.{EndsAs, EndsEarly, joined_texts}

@@ -1,5 +1,5 @@
 -- A run in the order of the lines is a merge of what the three feeds brought.
-use Rattle.std.proofs.Common.{◌≡◌, ℕ, Bool, true, false, cond, List, [], ◌∷◌, ◌++◌, map, refl, sym, ap, subst, ◌∙◌}
+use Rattle.std.proofs.Common.{◌≡◌, ℕ, Bool, true, false, cond, List, [], ◌∷◌, ◌++◌, map, refl, sym, ap, ◌∙◌}
 use Rattle.std.specs.Prelude.{Result, Ok, Err, IfOk, IfErr, nat_le, ◌==◌}
 use Rattle.std.specs.List.{AllByRecursion, filter, flat_map}
 use Rattle.std.proofs.lemmas.List.{map-append}
@@ -15,9 +15,9 @@ use Rattle.mdp_engine.proofs.Honesty.{honest_moves_agree}
 use Rattle.mdp_pipeline.specs.declared.summary.Summary.{Summary}
 use Rattle.mdp_pipeline.specs.declared.summary.RunFault.{RunFault}
 use Rattle.mdp_pipeline.specs.Merge.{Arrival, arrivals, by_line, in_order}
-use Rattle.mdp_pipeline.specs.Reading.{Reading, Readings, AreReadings, AreReadingsOf, IsReading, brought_by, by_feed, events_of, is_on, readings_on, refusals_text}
-use Rattle.mdp_pipeline.specs.Merging.{Tagged, IsMerge, IsByLine, events_from, events_in, is_from, tagged_by}
-use Rattle.mdp_pipeline.specs.Output.{Begins, BeginsByLine, Prints, PrintsByLine, end_lines, is_lost_after, moves_of, next_after, shown_output}
+use Rattle.mdp_pipeline.specs.Reading.{Reading, AreReadings, AreReadingsOf, IsReading, brought_by, by_feed, events_of, is_on, readings_on, refusals_text}
+use Rattle.mdp_pipeline.specs.Merging.{Tagged, IsMerge, events_from, events_in, is_from, tagged_by}
+use Rattle.mdp_pipeline.specs.Output.{BeginsByLine, Prints, PrintsByLine, end_lines, is_lost_after, moves_of, next_after, shown_output}
 use Rattle.mdp_pipeline.specs.Running.{BeginsAll, PrintsAll}
 
 -- ---- the records of one feed

@@ -8,23 +8,18 @@ use Rattle.std.proofs.lemmas.List.Elements.{filter-append}
 use Rattle.std.proofs.lemmas.List.Concat.{flat_map-append}
 use Rattle.mdp_templates.specs.Snapshot.{SnapshotContent}
 use Rattle.mdp_templates.specs.declared.instrument.Instrument.{Instrument}
-use Rattle.mdp_print.specs.Texts.{last_line}
 use Rattle.mdp_templates.specs.declared.feed.Feed.{Feed}
 use Rattle.mdp_templates.specs.declared.feed.Feed.TheVariants as feeds
 use Rattle.mdp_capture.specs.Record.{RecordContent}
 use Rattle.mdp_arbiter.specs.Accepted.{Event, recovered}
-use Rattle.mdp_arbiter.specs.Machine.{state_at, trace, is_lost}
-use Rattle.mdp_arbiter.specs.Channel.{Channel}
 use Rattle.mdp_engine.specs.Engine.{View, Stands}
-use Rattle.mdp_desks.specs.Shown.{shown_lines}
 use Rattle.mdp_pipeline.specs.declared.progress.Run.{Run}
 use Rattle.mdp_pipeline.specs.declared.summary.Summary.{Summary}
 use Rattle.mdp_pipeline.specs.declared.summary.RunFault.{RunFault}
 use Rattle.mdp_crew.specs.Counted.{HasCounted, saturating_count}
 use Rattle.mdp_pipeline.specs.Counted.{written_before}
 use Rattle.mdp_pipeline.specs.Merge.{Arrival, in_order}
-use Rattle.mdp_pipeline.specs.Reading.{Reading, Said, brings, refused, IsReading, AreReadings, brought_by, by_feed, events_of, is_on, kind_of, readings_on, refusal_lines, refusal_text, refusals_text}
-use Rattle.mdp_pipeline.specs.Output.{is_lost_after, moves_of, next_after}
+use Rattle.mdp_pipeline.specs.Reading.{Reading, Said, brings, refused, IsReading, AreReadings, brought_by, events_of, is_on, kind_of, readings_on, refusal_lines, refusal_text}
 use Rattle.mdp_pipeline.specs.RefusalTexts.{RefusalTexts}
 use Rattle.mdp_pipeline.specs.Running.{BeginsAll, EndsAs, EndsEarly, GoesOn, HasRun, HasShown, PrintsAll, TakesAs, Writes, after_said, joined_texts, refusals_of}
 use Rattle.mdp_pipeline.proofs.Ending.{begins_all, prints_all, writes_shown}

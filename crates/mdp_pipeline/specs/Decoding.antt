@@ -1,5 +1,5 @@
 -- What a decoded record says.
-use Rattle.std.specs.Prelude.{List, [], ◌∷◌, map}
+use Rattle.std.specs.Prelude.{[], ◌∷◌, map}
 use Rattle.mdp_arbiter.specs.Accepted.{came, recovered, closed}
 use Rattle.mdp_pipeline.specs.Reading.{Said, brings, refused}
 use Rattle.mdp_pipeline.specs.declared.decoding.Decoded.{Decoded}

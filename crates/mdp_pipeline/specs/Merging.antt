@@ -1,5 +1,5 @@
 -- The merges of what three feeds brought: the events of each feed keep their order, whatever stands between them.
-use Rattle.std.specs.Prelude.{◌≡◌, ◌==◌, ℕ, Bool, List, map}
+use Rattle.std.specs.Prelude.{◌≡◌, ◌==◌, Bool, List, map}
 use Rattle.std.specs.List.{filter, flat_map}
 use Rattle.mdp_templates.specs.declared.feed.Feed.{Feed}
 use Rattle.mdp_templates.specs.declared.feed.Feed.TheVariants as feeds

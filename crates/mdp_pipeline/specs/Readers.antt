@@ -1,13 +1,13 @@
 -- What a reader has handed over of its feed's records.
-use Rattle.std.specs.Prelude.{◌≡◌, Bool, true, false, ℕ, List, [], ◌++◌, map, OnOk, IfOk}
-use Rattle.std.specs.List.{flat_map, list_any}
+use Rattle.std.specs.Prelude.{◌≡◌, Bool, true, List, [], ◌++◌, map, OnOk, IfOk}
+use Rattle.std.specs.List.{list_any}
 use Rattle.mdp_templates.specs.declared.feed.Feed.{Feed}
 use Rattle.mdp_capture.specs.Record.{RecordContent}
 use Rattle.mdp_arbiter.specs.Accepted.{Event}
 use Rattle.mdp_engine.specs.Steps.{event_of}
 use Rattle.mdp_lanes.specs.Queues.{IntakeSenderView}
 use Rattle.mdp_crew.specs.declared.batch.Batch.{Batch}
-use Rattle.mdp_crew.specs.Batches.{all_events, batch_events}
+use Rattle.mdp_crew.specs.Batches.{all_events}
 use Rattle.mdp_pipeline.specs.declared.reader.Reader.{Reader}
 use Rattle.mdp_pipeline.specs.declared.reader.ReaderOutcome.{ReaderOutcome}
 use Rattle.mdp_pipeline.specs.Merge.{arrivals}

@@ -17,10 +17,12 @@ struct Lines {
 }
 
 impl Lines {
+    // The line of the slowest reader.
     fn slowest(&self) -> u32 {
         self.a.min(self.b).min(self.s)
     }
 
+    // Notes the line of a feed.
     fn set(&mut self, feed: Feed, line: u32) {
         match feed {
             Feed::A => self.a = line,

@@ -251,9 +251,12 @@ where
 
 /// Runs over the records of the feeds in threads: one for each feed, which decodes its records, the arbiter's, so many workers,
 /// each with the books of its own securities, and the caller's, which writes what is owed. There are 1 to 16 workers; how many
-/// changes no byte. The window covers 1 to 65536 packet numbers. Which merge of the feeds' events comes about, the threads decide.
+/// changes no byte. The window covers 1 to 65536 packet numbers. Which merge of the feeds' events comes about, the threads decide, as far
+/// as the readers' pace leaves it to them: none hands over more than a quarter of the window, in lines, ahead of the slowest, and none
+/// passes the line of the first close before all that stands before it was handed over. Of that pace no clause speaks.
 ///
-/// The gate is told of each record before its reader reads it, and of each batch of steps before a worker works on it.
+/// The gate is told of each record before its reader reads it, and of each step before a worker works on it. A gate that holds a reader
+/// holds the others too, once they are as far ahead as they may be.
 ///
 /// # Errors
 ///
@@ -310,8 +313,9 @@ where
     outcome
 }
 
-/// Runs as [`run`] does, and publishes on a board of the same securities, each in its slot: behind the text of some event ends and jumps
-/// one step for each, with the rows of what is printed there. It hands the publisher back, also with an error.
+/// Runs as [`run`] does, and publishes on a board with a slot for each listed security, in listed order: one step for each event end,
+/// with the rows of what is printed there, and one for each jump. A step is published behind the write of its lines. Hands the
+/// publisher back, also with an error.
 ///
 /// # Errors
 ///

@@ -9,7 +9,7 @@ use mdp_quotes::Total;
 use mdp_templates::{Level, Memory};
 use std::alloc::Allocator;
 
-/// Appends the line of two sides under a letter.
+// Appends the line of two sides under a letter.
 fn put_sides<Q: Quote, A: Allocator>(
     out: &mut Vec<u8, A>,
     letter: u8,

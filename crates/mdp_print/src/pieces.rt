@@ -97,7 +97,7 @@ const TOGETHER: usize = 10;
 // A text of so many levels, of 44 bytes at most each.
 type QuotesText = TextFromEnd<440>;
 
-/// Appends at most ten levels, put together from the last.
+// Appends at most ten levels, put together from the last.
 #[inline]
 fn put_few<Q: Quote, A: Allocator>(out: &mut Vec<u8, A>, quotes: &[Q]) -> Result<(), Memory>
     requires { length quotes.now ≤ 10 }
@@ -114,7 +114,7 @@ fn put_few<Q: Quote, A: Allocator>(out: &mut Vec<u8, A>, quotes: &[Q]) -> Result
     put(out, text.as_slice())
 }
 
-/// Appends the levels of a side.
+// Appends the levels of a side.
 fn put_quotes<Q: Quote, A: Allocator>(out: &mut Vec<u8, A>, quotes: &[Q]) -> Result<(), Memory>
     ensures ok { OnOk result (out.new.items ≡ out.old.items ++ quotes_text Q.price Q.size quotes.now) }
     ensures err { OnErr result (BeginsWith out.new.items out.old.items) }

@@ -11,7 +11,7 @@ use mdp_sbe::Refusal;
 use mdp_templates::{Feed, Memory};
 use std::alloc::Allocator;
 
-/// The end of an `F` line: the place of an entry.
+// The end of an `F` line: the place of an entry.
 fn end_at(place: &Place) -> ShortText
     ensures { result ≡ codes " " ++ place_text place.now ++ codes "\n" }
 {
@@ -26,7 +26,7 @@ fn end_at(place: &Place) -> ShortText
     text
 }
 
-/// Appends the `F` line, or a front of it where memory runs out.
+// Appends the `F` line, or a front of it where memory runs out.
 #[tactic(auto, unfolding(crate::specs::Texts::fault_line))]
 fn put_place<A: Allocator>(
     out: &mut Vec<u8, A>,

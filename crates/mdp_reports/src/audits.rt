@@ -34,6 +34,7 @@ fn put_verdicts<A: Allocator>(
     }
 }
 
+// The best levels that are kept of a slot, if any.
 fn kept_at(kept: &[Option<Best>], slot: usize) -> Option<Best>
     ensures { result ≡ best_kept (slice_get kept.now slot) }
 {
@@ -43,6 +44,7 @@ fn kept_at(kept: &[Option<Best>], slot: usize) -> Option<Best>
     }
 }
 
+// The name of the security at a slot.
 fn name_at(listed: &[Instrument], slot: usize) -> &[u8]
     ensures { result.now ≡ name_of (slice_get listed.now slot) }
 {
@@ -52,6 +54,7 @@ fn name_at(listed: &[Instrument], slot: usize) -> &[u8]
     }
 }
 
+// Whether one of three marks is set.
 fn is_one_set(spread: bool, leg1: bool, leg2: bool) -> bool
     ensures { result ≡ (spread || leg1 || leg2) }
 {

@@ -49,6 +49,7 @@ impl<A: Allocator> Model for BoardSteps<A> {
     ghost invariant = { λ s. AreInPlace (length s.rows.items) s.marks.items };
 }
 
+// The mark of step `n`, from 0, if there is one.
 fn mark_of(marks: &[StepMark], n: usize) -> Option<StepMark>
     ensures { result ≡ slice_get marks.now n }
 {
@@ -65,6 +66,7 @@ fn end_before(marks: &[StepMark], n: usize, count: usize) -> usize
     }
 }
 
+// The pairs from one place to another.
 fn pairs_between(rows: &[(u16, Row)], from: usize, to: usize) -> &[(u16, Row)]
     requires order { from ≤ to }
     requires within { to ≤ length rows.now }

@@ -80,7 +80,7 @@ fn snapshots_at<A: Allocator + Copy>(
     Ok(bases)
 }
 
-// Reports a turn, and makes its move.
+/// Reports a turn, and makes its move.
 pub fn report_turn<A: Allocator + Copy>(
     alloc: A,
     desks: &mut Desks<A>,

@@ -119,6 +119,7 @@ fn place_of(marks: &[Mark], n: usize) -> Option<(usize, usize)>
     }
 }
 
+// The rows from one place to another.
 fn rows_between(rows: &[Row], from: usize, to: usize) -> &[Row]
     requires order { from ≤ to }
     requires within { to ≤ length rows.now }

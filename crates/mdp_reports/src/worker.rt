@@ -34,6 +34,7 @@ impl<A: Allocator> Model for Worker<A> {
     ghost invariant = { λ w. length w.slots.items ≡ length w.desks };
 }
 
+// Whether a slot is one of worker `number` of `count`.
 fn is_own(count: u16, number: u16, slot: u16) -> bool
     requires { 0 < count }
     ensures { result ≡ is_kept_by count number slot }

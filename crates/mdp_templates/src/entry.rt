@@ -69,6 +69,7 @@ pub(crate) fn read_kind(byte: u8) -> Result<Kind, Refusal>
     }
 }
 
+// The update action that a byte says, or its refusal.
 fn read_action(byte: u8) -> Result<Action, Refusal>
     ensures { result ≡ action_of byte }
 {
@@ -117,6 +118,7 @@ fn read_quoted(action: Action, price: i64, size: i32) -> Result<Level, Refusal>
     }
 }
 
+// Reads an entry of template 46, or answers the first refusal that holds.
 #[tactic(auto, unfolding(crate::specs::Entry::entry_of))]
 fn read_entry(text: &[u8]) -> Result<Entry, Refusal>
     requires { 27 ≤ length text.now }

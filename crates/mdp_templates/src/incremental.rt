@@ -36,6 +36,7 @@ fn ends_event(root: &[u8]) -> bool
     root[8] & LAST_OF_EVENT != 0
 }
 
+// Reads a book update: its entries, and whether it ends its event.
 fn read_book<A: Allocator + Copy>(
     alloc: A,
     message: &mdp_sbe::Message<'_>,
@@ -48,6 +49,7 @@ fn read_book<A: Allocator + Copy>(
     Ok(Message::new(entries, end))
 }
 
+// Reads a message of which nothing counts but whether it ends its event.
 fn read_carrier<A: Allocator + Copy>(
     alloc: A,
     message: &mdp_sbe::Message<'_>,
@@ -60,6 +62,7 @@ fn read_carrier<A: Allocator + Copy>(
     Ok(Message::new(Vec::new(alloc), end))
 }
 
+// Reads a message by its template.
 fn read_message<A: Allocator + Copy>(
     alloc: A,
     message: &mdp_sbe::Message<'_>,
@@ -75,6 +78,7 @@ fn read_message<A: Allocator + Copy>(
     }
 }
 
+// Reads all messages, or answers the first refusal in reading order.
 fn read_messages<A: Allocator + Copy>(alloc: A, rest: &[u8]) -> Result<Vec<Message<A>, A>, Fault>
     ensures ok { IfOk result (λ v. AreMessages IsIncremental rest.now v.items []) }
     ensures refused { IfErr result (OnRefusal (AreRefused IsIncremental IsRefusedIncremental rest.now)) }

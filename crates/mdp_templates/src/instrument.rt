@@ -97,6 +97,7 @@ pub fn are_fit(instruments: &[Instrument]) -> bool
 
 const MOST_INSTRUMENTS: usize = 512;
 
+// Whether an instrument fits behind these: its id is none of theirs, and its legs stand among them.
 fn fits_after(earlier: &[Instrument], instrument: &Instrument) -> bool
     ensures { IsTrue result ↔ FitsAfter earlier.now instrument.now }
 {
@@ -104,6 +105,7 @@ fn fits_after(earlier: &[Instrument], instrument: &Instrument) -> bool
     earlier.iter().all(|other| other.id != id) && has_legs(earlier, instrument.kind)
 }
 
+// Whether the legs stand among these that this kind of instrument asks for.
 fn has_legs(earlier: &[Instrument], kind: InstrumentKind) -> bool
     ensures { IsTrue result ↔ HasLegs earlier.now kind }
 {
@@ -113,6 +115,7 @@ fn has_legs(earlier: &[Instrument], kind: InstrumentKind) -> bool
     }
 }
 
+// Whether two ids are those of two different outrights among these.
 fn are_legs(earlier: &[Instrument], leg1: i32, leg2: i32) -> bool
     ensures { IsTrue result ↔ AreLegs earlier.now leg1 leg2 }
 {
@@ -122,6 +125,7 @@ fn are_legs(earlier: &[Instrument], leg1: i32, leg2: i32) -> bool
     has_outright(earlier, leg1) && has_outright(earlier, leg2)
 }
 
+// Whether an outright with this id stands among these.
 fn has_outright(instruments: &[Instrument], id: i32) -> bool
     ensures { IsTrue result ↔ HasOutright instruments.now id }
 {

@@ -40,6 +40,7 @@ fn read_blocks<'a>(
     Ok((root, group))
 }
 
+// Reads the entries of a group, or answers the first refusal in reading order.
 fn read_entries<A: Allocator + Copy, E: GroupEntry>(
     alloc: A,
     group: &Group<'_>,

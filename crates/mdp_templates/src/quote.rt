@@ -15,6 +15,7 @@ pub struct Quote {
     pub level: Level,
 }
 
+// Reads an entry of this kind, which is one of the four of a book.
 fn read_quote(kind: Kind, text: &[u8]) -> Result<Option<Quote>, Refusal>
     requires { 22 ≤ length text.now }
     ensures { result ≡ quote_as kind text.now }
@@ -28,6 +29,7 @@ fn read_quote(kind: Kind, text: &[u8]) -> Result<Option<Quote>, Refusal>
     }))
 }
 
+// Reads an entry of any kind; none of one that no book has.
 #[tactic(auto, unfolding(crate::specs::Recovery::quote_in))]
 fn read_any(text: &[u8]) -> Result<Option<Quote>, Refusal>
     requires { 22 ≤ length text.now }

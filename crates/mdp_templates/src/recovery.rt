@@ -44,6 +44,7 @@ fn snapshot_of(root: &[u8], quotes: &[Option<Quote>]) -> Option<Snapshot>
     Some(Snapshot::new(security, last, bids, offers, implied_bids, implied_offers))
 }
 
+// Reads a snapshot message, or answers the first refusal that holds.
 fn read_snapshot<A: Allocator + Copy>(
     alloc: A,
     message: &mdp_sbe::Message<'_>,
@@ -73,6 +74,7 @@ fn read_message<A: Allocator + Copy>(
     Ok(Some(snapshot))
 }
 
+// Reads the snapshots of all messages, or answers the first refusal in reading order.
 fn read_messages<A: Allocator + Copy>(alloc: A, rest: &[u8]) -> Result<Vec<Snapshot, A>, Fault>
     ensures ok { IfOk result (λ v. Give rest.now v.items []) }
     ensures refused { IfErr result (OnRefusal (AreRefused IsRecovery IsRefusedRecovery rest.now)) }

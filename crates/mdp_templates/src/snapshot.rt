@@ -124,7 +124,7 @@ impl Snapshot {
     }
 }
 
-/// An equal list of levels.
+// An equal list of levels.
 fn copy_of<const DEPTH: usize>(levels: &ArrayVec<Level, DEPTH>) -> ArrayVec<Level, DEPTH>
     ensures { result.items ≡ levels.now.items }
 {

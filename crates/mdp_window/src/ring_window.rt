@@ -42,7 +42,7 @@ impl<T: Drop, A: Allocator> Model for RingWindow<T, A> {
         × IsInRange (record { first = w.first; room = w.places.capacity; held = held_from w.first w.places.items }) };
 }
 
-/// Puts this many empty places behind the others. Each takes the place of the first one, where the ring is full.
+// Puts this many empty places behind the others. Each takes the place of the first one, where the ring is full.
 fn push_empty<T: Drop, A: Allocator>(places: &mut HeapCircularBuffer<Option<T>, A>, count: usize)
     requires { length places.old.items ≤ places.old.capacity }
     ensures { places.new ≡ buffer (keep_last places.old.capacity (places.old.items ++ replicate count None)) places.old.capacity }
@@ -52,7 +52,7 @@ fn push_empty<T: Drop, A: Allocator>(places: &mut HeapCircularBuffer<Option<T>, 
     }
 }
 
-/// Fills a place with an item, whatever it held.
+// Fills a place with an item, whatever it held.
 fn fill_place<T: Drop, A: Allocator>(
     places: &mut HeapCircularBuffer<Option<T>, A>,
     index: usize,
@@ -80,7 +80,7 @@ impl<T: Drop, A: Allocator + Copy> RingWindow<T, A> {
         Ok(RingWindow { first: 1, places })
     }
 
-    /// Whether an item is held under this number.
+    // Whether an item is held under this number.
     fn is_held(&self, number: u64) -> bool
         ensures { IsTrue result ↔ IsSome (map.get self.now.held number) }
     {

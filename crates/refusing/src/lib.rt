@@ -19,7 +19,7 @@ struct Turn {
 }
 
 impl Turn {
-    /// Counts an allocation, and answers whether it is the one to refuse.
+    // Counts an allocation, and answers whether it is the one to refuse.
     fn is_up(&self) -> bool {
         let before = self.asked.fetch_add(1, Ordering::SeqCst);
         before.wrapping_add(1) == self.number

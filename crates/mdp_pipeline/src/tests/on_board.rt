@@ -1,13 +1,14 @@
 //! Runs that publish on a board: what a reader sees that was told of all that was published.
 
-ghost use Rattle.std.specs.Prelude.{◌≤◌};
+ghost use Rattle.std.specs.Prelude.{◌≡◌, ◌≤◌, IfSome};
+ghost use Rattle.mdp_lanes.specs.Boards.{IsFreshReader};
 
 use crate::summary::{RunFault, Summary};
 use crate::tests::Kept;
 use crate::threads::run_published;
 use mdp_capture::{CountingReader, read_capture};
 use mdp_crew::Open;
-use mdp_lanes::{Board, Row};
+use mdp_lanes::{Board, Publisher, Reader, Row};
 use mdp_quotes::Total;
 use refusing::Refusing;
 use std::alloc::{Allocator, Global};
@@ -125,6 +126,34 @@ struct Shown {
     rows: Rows,
 }
 
+// The ends of a board with three slots and one reader.
+fn board<R: Wait, A: Allocator + Copy>(rt: &R, alloc: A) -> Option<(Publisher<A>, Reader<A>)>
+    ensures { IfSome result (λ ends. IsFreshReader ends.0.board 3 ends.1) }
+{
+    let Ok((publisher, mut readers)) = Board::new(alloc, rt, 3, 1) else {
+        return None;
+    };
+    let Some(reader) = readers.pop() else {
+        publisher.end(rt);
+        return None;
+    };
+    Some((publisher, reader))
+}
+
+// What a reader shows of all three slots that was told of all, with the length of the front.
+fn look<A: Allocator + Copy>(
+    publisher: &mut Publisher<A>,
+    reader: &mut Reader<A>,
+) -> (Option<u64>, Rows)
+    requires board { reader.old.board ≡ publisher.old.board }
+    requires slots { reader.old.slots ≡ 3 }
+{
+    reader.learn(publisher.tell());
+    let mut rows = [Row::Never; 3];
+    let length = reader.read(&[0, 1, 2], &mut rows);
+    (length, rows)
+}
+
 // What a run over this capture shows on a board of its own; nothing where there was no memory for the capture and the board.
 fn publish_over<R, A>(
     rt: &R,
@@ -146,13 +175,7 @@ where
     let Ok(capture) = read_capture(heap, &mut text) else {
         return None;
     };
-    let Ok((publisher, mut readers)) = Board::new(heap, rt, 3, 1) else {
-        return None;
-    };
-    let Some(mut reader) = readers.pop() else {
-        publisher.end(rt);
-        return None;
-    };
+    let (publisher, mut reader) = board(rt, heap)?;
     let mut kept = Kept::new(alloc);
     let (mut publisher, outcome) = run_published(
         rt,
@@ -167,9 +190,7 @@ where
         publisher,
         &mut kept,
     );
-    reader.learn(publisher.tell());
-    let mut rows = [Row::Never; 3];
-    let length = reader.read(&[0, 1, 2], &mut rows);
+    let (length, rows) = look(&mut publisher, &mut reader);
     publisher.end(rt);
     Some(Shown {
         outcome,

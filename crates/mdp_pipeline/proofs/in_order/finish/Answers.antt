@@ -1,5 +1,3 @@
-use Rattle.std.proofs.Common.{sym}
-use Rattle.std.proofs.lemmas.List.{append-nil}
 use Rattle.std.proofs.lemmas.Result.{err_from_is_err_and}
 use Rattle.mdp_pipeline.proofs.Ending.{early_here, early_of, ends_of}
 use Rattle.mdp_pipeline.proofs.Joining.{map_err, map_ok}

@@ -1,4 +1,4 @@
-use Rattle.std.proofs.Common.{◌≡◌, true, [], ◌∷◌, ◌++◌, List, refl, sym, ap, ◌∙◌}
+use Rattle.std.proofs.Common.{◌≡◌, true, [], ◌∷◌, ◌++◌, List, sym, ap, ◌∙◌}
 use Rattle.std.proofs.lemmas.List.{append-nil}
 use Rattle.mdp_arbiter.specs.Accepted.{Event}
 use Rattle.mdp_engine.specs.Steps.{event_of}

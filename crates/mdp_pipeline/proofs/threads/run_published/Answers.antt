@@ -1,4 +1,3 @@
-use Rattle.std.proofs.Common.{Some}
 use Rattle.mdp_pipeline.proofs.Joining.{map_err, map_ok}
 use Rattle.mdp_pipeline.proofs.OnBoards.{begins_on_board, board_is_there, board_stays, prints_on_board}
 use Rattle.mdp_pipeline.proofs.threads.run_published.Goals as goal
