@@ -1,11 +1,12 @@
 #!/usr/bin/env bash
-# Proves everything from nothing and runs all tests: the merge gate, then the examples, the rows, cut and bent datagrams and
-# the refusals of the system on the programs that the gate has built, and a look at the names in docs/DEFINITIONS.md. The last
-# line is 'N passed, M failed', over all of them. The exit status is 1 if any failed.
+# Proves everything from nothing and runs all tests: the merge gate, then the examples, the demonstration of the board, the rows,
+# cut and bent datagrams and the refusals of the system on the programs that the gate has built, and a look at the names in
+# docs/DEFINITIONS.md. The last line is 'N passed, M failed', over all of them. The exit status is 1 if any failed.
 set -u
 
 cd "$(dirname "$(realpath "$0")")/.." || exit 2
 program=crates/mdp_handler/out/mdp_handler
+demo=crates/board_demo/out/board_demo
 scratch=$(mktemp -d)
 trap 'rm -rf "$scratch"' EXIT
 passed=0
@@ -47,8 +48,19 @@ run_examples() {
     echo "$passed passed, $failed failed"
 }
 
+# Runs the demonstration of the board over the recovery, with its window: in the end both readers see its last prices.
+run_demo() {
+    if "$demo" 4 <examples/recovery.capture 2>/dev/null | diff -u \
+        <(printf 'reader %s at step 6: NEAR 101x9 / 103x6\n' 1 2) -; then
+        echo "1 passed, 0 failed"
+    else
+        echo "0 passed, 1 failed"
+    fi
+}
+
 run_part "rt ci" rt ci
 run_part "the examples" run_examples
+run_part "the demonstration" run_demo
 run_part "the rows" tests/run_rows.sh "$program"
 run_part "cut and bent datagrams" tests/run_cut_and_bent.sh "$program" crates/datagram_rows/out/datagram_rows
 run_part "the refusals of the system" tests/run_refusals.sh "$program"

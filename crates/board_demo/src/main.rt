@@ -9,6 +9,7 @@ ghost use Rattle.std.specs.Prelude.{◌≡◌, ◌≤◌, IfOk};
 ghost use Rattle.mdp_lanes.specs.Boards.{IsFreshReader};
 ghost use Rattle.mdp_templates.specs.Instrument.{AreFit};
 
+use anyhow::bail;
 use mdp_capture::{Capture, CountingReader, read_capture};
 use mdp_crew::Open;
 use mdp_lanes::{Board, Publisher, Reader, Row};
@@ -111,8 +112,9 @@ fn push_line(
     text.push_str("\n")
 }
 
-/// Looks at the board until the run is over, and keeps a line of each change that it meets. A read takes no lock and no memory: it
-/// copies the rows from the copy of the board that is shown, while the run changes the other copy.
+/// Looks at the board until the run is over, and keeps a line of each change that it meets, as long as there is memory for them. A read
+/// takes no lock and no memory: it copies the rows from the copy of the board that is shown, while the run changes the other copy. Where
+/// it answers none, the rows stay as they were.
 fn watch<R: Wait>(
     rt: &R,
     alloc: Global,
@@ -173,14 +175,16 @@ fn finish<R: Threads>(
     started: Started,
     publisher: &mut Publisher<Global>,
     instruments: &[Instrument],
-) -> Result<(String, String), AllocError>
+) -> anyhow::Result<(String, String)>
     requires { IfOk started (λ handle. (handle.promise.before.value.board ≡ publisher.old.board) × (2 ≤ handle.promise.before.value.slots)) }
     ensures { publisher.new ≡ publisher.old }
 {
     let Seen { mut reader, lines } = started?.join(rt);
     reader.learn(publisher.tell());
     let mut rows = [Row::Never; 2];
-    let step = reader.read(&WATCHED, &mut rows).unwrap_or(0);
+    let Some(step) = reader.read(&WATCHED, &mut rows) else {
+        bail!("the board was let go");
+    };
     let mut last = String::new(alloc);
     push_line(&mut last, number, step, instruments, &rows)?;
     Ok((lines, last))
