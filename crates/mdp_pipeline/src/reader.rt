@@ -25,7 +25,7 @@ use std::sync::Wait;
 
 /// How many events a batch holds at most. A reader's batches hold 1, 2, 4 events and so on up to this many: so its first event
 /// is handed over at once, and under load a batch costs little.
-const MOST_EVENTS: usize = 128;
+const MOST_EVENTS: usize = 64;
 
 /// A reader's sender, and what it has read and not handed over yet.
 #[derive(Drop)]
@@ -77,9 +77,6 @@ impl<A: Allocator + Copy> Reader<A> {
         ensures refusals { OnOk result (self.new.refusals.items ≡ self.old.refusals.items ++ refusal_text feed line (said_of decoded)) }
         ensures sender { self.new.sender ≡ self.old.sender }
     {
-        if self.events.is_empty() {
-            self.events.reserve(self.size)?;
-        }
         match decoded {
             Decoded::Packet(packet) => self.events.push(Event::Packet(packet))?,
             Decoded::Snapshots(snapshots) => push_all(alloc, &mut self.events, &snapshots)?,
