@@ -1,7 +1,7 @@
 #!/usr/bin/env bash
-# Proves everything from nothing and runs all tests: the merge gate, then the examples, the demonstration of the board, the rows,
-# cut and bent datagrams and the refusals of the system on the programs that the gate has built, and a look at the names in
-# docs/DEFINITIONS.md. The last line is 'N passed, M failed', over all of them. The exit status is 1 if any failed.
+# Proves everything from nothing and runs all tests: the merge gate, then the examples, the demonstration of the board, a pcap file
+# where tshark is there, the rows, cut and bent datagrams and the refusals of the system on the programs that the gate has built, and a
+# look at the names in docs/DEFINITIONS.md. The last line is 'N passed, M failed', over all of them. The exit status is 1 if any failed.
 set -u
 
 cd "$(dirname "$(realpath "$0")")/.." || exit 2
@@ -58,9 +58,25 @@ run_demo() {
     fi
 }
 
+# Takes the small pcap file of examples/ to capture lines, as the manual does it, and runs over them: it prints the recovery.
+run_pcap() {
+    if ! command -v tshark >/dev/null; then
+        echo "not run: there is no tshark"
+        echo "0 passed, 0 failed"
+    elif { grep '^I' examples/recovery.capture
+        tshark -r examples/recovery.pcap -Y 'udp && !icmp' -T fields -e udp.dstport -e udp.payload 2>/dev/null |
+            awk -v a=14310 -v b=15310 -v s=14320 -f examples/to_capture.awk
+    } | "$program" --in-order --window 4 | diff -u examples/recovery.txt -; then
+        echo "1 passed, 0 failed"
+    else
+        echo "0 passed, 1 failed"
+    fi
+}
+
 run_part "rt ci" rt ci
 run_part "the examples" run_examples
 run_part "the demonstration" run_demo
+run_part "the pcap file" run_pcap
 run_part "the rows" tests/run_rows.sh "$program"
 run_part "cut and bent datagrams" tests/run_cut_and_bent.sh "$program" crates/datagram_rows/out/datagram_rows
 run_part "the refusals of the system" tests/run_refusals.sh "$program"
