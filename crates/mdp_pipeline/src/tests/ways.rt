@@ -50,12 +50,14 @@ pub enum Way {
     Published(u16),
 }
 
-pub const WAYS: [Way; 5] = [
+pub const WAYS: [Way; 7] = [
     Way::InOrder,
     Way::Threads(1),
     Way::Threads(2),
     Way::Threads(3),
+    Way::Published(1),
     Way::Published(2),
+    Way::Published(3),
 ];
 
 // Runs over a capture on a board of its own; nothing where there was no memory for the board.
