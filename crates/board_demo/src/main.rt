@@ -10,6 +10,7 @@ ghost use Rattle.mdp_lanes.specs.Boards.{IsFreshReader};
 ghost use Rattle.mdp_templates.specs.Instrument.{AreFit};
 
 use anyhow::bail;
+use mdp_arbiter::Start;
 use mdp_capture::{Capture, CountingReader, read_capture};
 use mdp_crew::Open;
 use mdp_lanes::{Board, Publisher, Reader, Row};
@@ -218,6 +219,7 @@ fn run_watched<'s, E, R: Threads + Wait + Sync>(
         s,
         WORKERS,
         window,
+        Start::FromOne,
         &Open,
         publisher,
         &mut nowhere,
@@ -230,7 +232,7 @@ fn run_watched<'s, E, R: Threads + Wait + Sync>(
     Ok((first?, second?))
 }
 
-/// The window that the words ask for.
+/// Tells the window that the words ask for.
 fn window_asked(words: env::Args) -> u32
     ensures { (1 ≤ result) × (result ≤ 65536) }
 {

@@ -29,7 +29,7 @@ enum Measure {
     EventBesideReaders,
 }
 
-// The rows of an event.
+// Makes the rows of an event.
 fn rows_of(message: u64) -> [(u16, Row); 2] {
     let level = Some(Total {
         price: 101,
@@ -44,7 +44,7 @@ fn rows_of(message: u64) -> [(u16, Row); 2] {
     [(0, row), (1, row)]
 }
 
-// The ends of a board.
+// Makes the ends of a board.
 fn board<R: Wait>(
     rt: &R,
     alloc: Global,
@@ -194,7 +194,7 @@ fn time<R: Threads + Wait + Clock + Sync>(
     taken
 }
 
-// The number of reads or events that the words ask for, 1 at least.
+// Tells the number of reads or events that the words ask for, 1 at least.
 fn count_asked(words: env::Args) -> u64
     ensures { 1 ≤ result }
 {
@@ -204,7 +204,7 @@ fn count_asked(words: env::Args) -> u64
     }
 }
 
-// The least of all turns, in nanoseconds for one read or event.
+// Tells the least of all turns, in nanoseconds for one read or event.
 fn least<R: Threads + Wait + Clock + Sync>(
     rt: &R,
     alloc: Global,

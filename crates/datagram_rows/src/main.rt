@@ -12,7 +12,7 @@ use std::alloc::{AllocError, Global};
 use std::io;
 use std::io::{BufRead, BufReader};
 
-// What a fault says.
+// Tells what a fault says.
 fn fault_text(alloc: Global, fault: Fault) -> Result<String, AllocError> {
     match fault {
         Fault::Refused(refusal) => {
@@ -24,7 +24,7 @@ fn fault_text(alloc: Global, fault: Fault) -> Result<String, AllocError> {
     }
 }
 
-// What a datagram of a feed says.
+// Tells what a datagram of a feed says.
 fn answer(alloc: Global, feed: &str, bytes: &[u8]) -> Result<String, AllocError> {
     if feed == "packet" {
         match read_packet(alloc, bytes) {
@@ -39,7 +39,7 @@ fn answer(alloc: Global, feed: &str, bytes: &[u8]) -> Result<String, AllocError>
     }
 }
 
-// The answer of one row: feed, datagram, and columns that are not looked at.
+// Gives the answer of one row: feed, datagram, and columns that are not looked at.
 fn row_text(alloc: Global, row: &str) -> Result<String, AllocError> {
     let Some((feed, rest)) = row.split_once('\t') else {
         return String::from_str(alloc, "no feed");

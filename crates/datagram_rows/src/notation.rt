@@ -3,7 +3,7 @@
 use mdp_templates::{Action, Entry, Kind, Level, Message, Packet, Snapshot};
 use std::alloc::{AllocError, Global};
 
-// The word of a side.
+// Tells the word of a side.
 fn kind_word(kind: Kind) -> &'static str {
     match kind {
         Kind::Bid => "bid",
@@ -13,7 +13,7 @@ fn kind_word(kind: Kind) -> &'static str {
     }
 }
 
-// An entry as ` [security kind action level pricexsize]`; of a delete there is neither price nor size.
+// Writes an entry as ` [security kind action level pricexsize]`; of a delete there is neither price nor size.
 fn push_entry(text: &mut String, entry: &Entry) -> Result<(), AllocError> {
     let kind = kind_word(entry.kind);
     let security = entry.security;
@@ -27,7 +27,7 @@ fn push_entry(text: &mut String, entry: &Entry) -> Result<(), AllocError> {
     }
 }
 
-// A message as ` (end entries)` or ` (more entries)`.
+// Writes a message as ` (end entries)` or ` (more entries)`.
 fn push_message(text: &mut String, message: &Message<Global>) -> Result<(), AllocError> {
     text.push_str(if message.is_end() { " (end" } else { " (more" })?;
     for entry in message.entries() {
@@ -36,7 +36,7 @@ fn push_message(text: &mut String, message: &Message<Global>) -> Result<(), Allo
     text.push_str(")")
 }
 
-/// A packet as `ok packet NUMBER` and its messages.
+/// Writes a packet as `ok packet NUMBER` and its messages.
 pub fn packet_text(alloc: Global, packet: &Packet<Global>) -> Result<String, AllocError> {
     let number = packet.number();
     let mut text = format!(in alloc; "ok packet {number}")?;
@@ -46,7 +46,7 @@ pub fn packet_text(alloc: Global, packet: &Packet<Global>) -> Result<String, All
     Ok(text)
 }
 
-// A side as its word and its levels.
+// Writes a side as its word and its levels.
 fn push_side(text: &mut String, word: &str, levels: &[Level]) -> Result<(), AllocError> {
     write!(text, " {word}")?;
     for level in levels {

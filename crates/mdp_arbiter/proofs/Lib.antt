@@ -5,3 +5,4 @@ pub mod Standings
 pub mod Renewals
 pub mod Jumps
 pub mod NoLoss
+pub mod Joining

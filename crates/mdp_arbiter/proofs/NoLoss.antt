@@ -6,7 +6,7 @@ use Rattle.std.proofs.lemmas.List.{append-nil}
 use Rattle.mdp_templates.specs.Packet.{PacketContent}
 use Rattle.mdp_arbiter.specs.Channel.{Channel}
 use Rattle.mdp_arbiter.specs.Accepted.{Event, came, recovered, closed, is_closed, accepted_packets, highest, first_of, newest_snapshots}
-use Rattle.mdp_arbiter.specs.Machine.{Move, passed, jumped, State, start, is_lost, are_fresh, snapshots_of, jump, next_move, after, after_all, settle, go_on, Settles, ArePassed, HaveNoJump, IsNeverLost, LawOfNoLoss}
+use Rattle.mdp_arbiter.specs.Machine.{Move, passed, jumped, State, first_state, is_lost, are_fresh, snapshots_of, jump, next_move, after, after_all, settle, go_on, Settles, ArePassed, HaveNoJump, IsNeverLost, LawOfNoLoss}
 use Rattle.mdp_arbiter.proofs.Appended.{packets-after_close, packets-came, packets-recovered, packets-closed, closed-came, first-stays}
 use Rattle.mdp_arbiter.proofs.Runs.{passes_first, settle_settles}
 
@@ -104,4 +104,4 @@ all_pass channel (e ∷ es) past s none free never =
     subst (λ (t : List Event). ArePassed s.next (accepted_packets t) (ms ++ rest)) (append_assoc past (e ∷ []) es) whole
 
 pub law_of_no_loss : LawOfNoLoss
-law_of_no_loss channel es free never = all_pass channel es [] (start channel) refl free never
+law_of_no_loss channel es free never = all_pass channel es [] (first_state channel) refl free never

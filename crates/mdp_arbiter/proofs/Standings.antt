@@ -14,7 +14,7 @@ use Rattle.mdp_arbiter.specs.declared.step.Step.{Step}
 use Rattle.mdp_arbiter.specs.Channel.{Channel}
 use Rattle.mdp_arbiter.specs.Accepted.{Event, came, recovered, closed, is_closed, accepted_packets, highest, first_of, is_newer, newer_of}
 use Rattle.mdp_arbiter.specs.Machine.{Move, State, next_move}
-use Rattle.mdp_arbiter.specs.Arbiter.{View, state, least_held}
+use Rattle.mdp_arbiter.specs.Arbiter.{View, state, least_held, steps_left}
 use Rattle.mdp_arbiter.specs.Packets.{HoldsPacket, Receives, is_taken_in}
 use Rattle.mdp_arbiter.specs.Snapshots.{IsNoNews, newest_after, Renews}
 use Rattle.mdp_arbiter.specs.Moves.{seen_move, MovedBy, Moves, Answers, after_move}
@@ -27,6 +27,7 @@ pub close_stands : (es : List Event) (old : View) → StandsAt es old → Stands
 close_stands es old s = record {
   room = s.room;
   begun = s.begun;
+  first = s.first;
   most = s.most;
   top = rw (packets-closed es) s.top;
   is_closed = rw (closed-closed es) refl;
@@ -41,6 +42,7 @@ after_close_stands es e v c s =
     record {
       room = s.room;
       begun = s.begun;
+      first = s.first;
       most = s.most;
       top = rw (packets-after_close es e shut) s.top;
       is_closed = rw (closed-after_close es e shut) c;
@@ -50,16 +52,20 @@ after_close_stands es e v c s =
 
 -- ---- moves
 
--- the move that is seen is the machine's
-seen_is : (es : List Event) (v : View) → StandsAt es v → seen_move v ≡ next_move v.channel es (state v)
-seen_is es v s = elim (leb_tells (v.next + v.channel.room) v.top) [
+seen_by : (es : List Event) (v : View) → StandsAt es v → (joined : Bool) → v.joined ≡ joined → seen_move v ≡ next_move v.channel es (state v)
+seen_by es v s false e = let t : v.top ≡ highest es = omega (arith, s.top, s.first e) in rw (s.is_closed, e, t, s.newest) refl
+seen_by es v s true e = elim (leb_tells (v.next + v.channel.room) v.top) [
   | inl p ↦ let t : v.top ≡ highest es = omega (arith, s.top, p.1, s.room) in
       let l : leb (v.next + v.channel.room) (highest es) ≡ true = le-leb _ _ (omega (arith, p.1, t)) in
-      rw (s.is_closed, p.0, l, t, s.newest) refl
+      rw (s.is_closed, e, p.0, l, t, s.newest) refl
   | inr p ↦ let l : leb (v.next + v.channel.room) (highest es) ≡ false = lt-leb _ _ (omega (arith, p.1, s.top)) in
       let b : ltb v.next (max v.next (highest es + 1 - v.channel.room)) ≡ false = le-ltb _ _ (omega (arith, p.1, s.top)) in
-      rw (s.is_closed, p.0, l, s.held v.next, b) refl
+      rw (s.is_closed, e, p.0, l, s.held v.next, b) refl
 ]
+
+-- the move that is seen is the machine's
+seen_is : (es : List Event) (v : View) → StandsAt es v → seen_move v ≡ next_move v.channel es (state v)
+seen_is es v s = seen_by es v s v.joined refl
 
 from_both : {A : Type 0} (a b c k : ℕ) (x : Option A) → max a b ≡ c → cond (ltb k a) None (cond (ltb k b) None x) ≡ cond (ltb k c) None x
 from_both a b c k x e = grind (arith, common_steps)
@@ -69,6 +75,7 @@ moved_stands : (es : List Event) (old new : View) (m : Move) → StandsAt es old
 moved_stands es old new m s d = record {
   room = rw d.channel s.room;
   begun = omega (arith, s.begun, d.on);
+  first = λ waits. absurd (let joined : new.joined ≡ true = d.joined in cc);
   most = d.most;
   top = omega (arith, d.top, s.top, d.on);
   is_closed = rw d.is_closed s.is_closed;
@@ -88,12 +95,12 @@ pub channel_after : (old new : View) (m : Option Move) → Moves m old new → n
 channel_after old new None d = rw d refl
 channel_after old new (Some m) d = d.channel
 
--- a move raises the next number, which stays within its range
-pub raises_next : {A : Type 0} (old new : View) (m : Option Move) (r : Option (Step A)) → Answers m r → Moves m old new → IfSome r (λ (s : Step A). (old.next < new.next) × (new.next ≤ 4294967296))
+-- a move leaves fewer, and the next number goes on within its range
+pub raises_next : {A : Type 0} (old new : View) (m : Option Move) (r : Option (Step A)) → Answers m r → Moves m old new → IfSome r (λ (s : Step A). (steps_left new < steps_left old) × (old.next ≤ new.next) × (new.next ≤ 4294967296))
 raises_next old new None None a d = tt
 raises_next old new None (Some s) a d = elim a [ ]
 raises_next old new (Some m) None a d = tt
-raises_next old new (Some m) (Some s) a d = (d.on, omega (arith, d.top, d.most))
+raises_next old new (Some m) (Some s) a d = (d.left, d.on, omega (arith, d.top, d.most))
 
 -- what a step does, as the machine has it
 pub steps_as : {A : Type 0} (es : List Event) (old new : View) (r : Option (Step A)) → StandsAt es old → Answers (seen_move old) r → Moves (seen_move old) old new → StepsAs es old new r
@@ -133,6 +140,7 @@ held_stands : (es : List Event) (p : PacketContent) (old new : View) → HoldsPa
 held_stands es p old new k s =
     let opened : is_closed es ≡ false = rw (← s.is_closed) k.before.is_closed in
     let next : new.next ≡ old.next = ap (λ (t : State). t.next) k.state in
+    let joined : new.joined ≡ old.joined = ap (λ (t : State). t.joined) k.state in
     let room : new.channel.room ≡ old.channel.room = ap (λ (c : Channel). c.room) k.channel in
     let kept : max old.next (highest es + 1 - old.channel.room) ≤ p.number = omega (arith, k.before.ahead, s.top, s.room) in
     let absent : first_of p.number (accepted_packets es) ≡ None =
@@ -141,6 +149,7 @@ held_stands es p old new k s =
     record {
       room = rw k.channel s.room;
       begun = rw next s.begun;
+      first = λ waits. rw next (s.first (rw joined at waits));
       most = k.most;
       top = rw (packets-came es p opened, highest-more (accepted_packets es) p) (omega (arith, next, k.top, s.top));
       is_closed = rw (closed-came es p, k.is_closed) s.is_closed;
@@ -170,6 +179,7 @@ back_stands es p v c why s =
     record {
       room = s.room;
       begun = s.begun;
+      first = s.first;
       most = s.most;
       top = rw (packets-came es p opened, highest-more (accepted_packets es) p) (omega (arith, within, s.top));
       is_closed = rw (closed-came es p) s.is_closed;
@@ -224,6 +234,7 @@ renewed_by es snap v false c why s =
     record {
       room = s.room;
       begun = s.begun;
+      first = s.first;
       most = s.most;
       top = rw (packets-recovered es snap) s.top;
       is_closed = rw (closed-recovered es snap) s.is_closed;
@@ -239,6 +250,7 @@ renews_stands es snap old new None k s =
     rw k.2 (record {
       room = s.room;
       begun = s.begun;
+      first = s.first;
       most = s.most;
       top = rw (packets-recovered es snap) s.top;
       is_closed = rw (closed-recovered es snap) s.is_closed;

@@ -1,16 +1,19 @@
 -- What a channel is to those who put its packets in order.
 use Rattle.std.specs.Prelude.{ℕ, ℤ, List, map}
 use Rattle.mdp_templates.specs.declared.instrument.Instrument.{Instrument}
+use Rattle.mdp_arbiter.specs.declared.start.Start.{Start}
 
--- a packet that comes the room or more past the next one gives the next one up; the ids are the listed securities'
+-- a packet that comes the room or more past the next one gives the next one up; the ids are the listed securities';
+-- the start is the receiver's
 pub record Channel : Type 0 where
   pub room : ℕ
   pub ids : List ℤ
+  pub start : Start
 
 -- the ids of instruments, in listed order
 abbrev pub ids_of : List Instrument → List ℤ
 ids_of instruments = map (λ instrument. instrument.id) instruments
 
--- the channel of these instruments, with this room
-abbrev pub channel_of : List Instrument → ℕ → Channel
-channel_of instruments room = record { room = room; ids = ids_of instruments }
+-- the channel of these instruments, with this room and this start
+abbrev pub channel_of : List Instrument → ℕ → Start → Channel
+channel_of instruments room start = record { room = room; ids = ids_of instruments; start = start }

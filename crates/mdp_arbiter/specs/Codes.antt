@@ -8,6 +8,8 @@ use Rattle.mdp_templates.specs.Snapshot.{SnapshotContent}
 use Rattle.mdp_templates.specs.declared.entry.Entry.{Entry}
 use Rattle.mdp_templates.specs.contracts.entry.Entry as entry
 use Rattle.mdp_templates.specs.contracts.snapshot.Snapshot as snapshot
+use Rattle.mdp_arbiter.specs.contracts.start.Start as start
+use Rattle.mdp_arbiter.specs.declared.start.Start.{Start}
 use Rattle.mdp_arbiter.specs.Channel.{Channel}
 use Rattle.mdp_arbiter.specs.Arbiter.{View}
 
@@ -34,25 +36,26 @@ snapshots_code = coded_list (coded_option snapshot.the_row.coded)
 
 abbrev pub channel_code : Coded Channel
 channel_code =
-    code_by (ℕ × List ℤ) (coded× coded_ℕ (coded_list coded_ℤ))
-    (λ c. (c.room, c.ids))
-    (λ t. record { room = t.0; ids = t.1 })
+    code_by (ℕ × (List ℤ × Start)) (coded× coded_ℕ (coded× (coded_list coded_ℤ) start.the_row.coded))
+    (λ c. (c.room, (c.ids, c.start)))
+    (λ t. record { room = t.0; ids = t.1.0; start = t.1.1 })
     (λ _. refl)
 
 abbrev pub view_code : Coded View
 view_code =
     code_by
-    ((Channel × (ℕ × ℕ)) × ((Bool × FinMap nat_cmp PacketContent) × (Snapshots × Snapshots)))
+    ((Channel × (ℕ × ℕ)) × (((Bool × Bool) × FinMap nat_cmp PacketContent) × (Snapshots × Snapshots)))
     (
     coded× (coded× channel_code (coded× coded_ℕ coded_ℕ))
-    (coded× (coded× coded_bool (code coded_ℕ packet_code)) (coded× snapshots_code snapshots_code))
+    (coded× (coded× (coded× coded_bool coded_bool) (code coded_ℕ packet_code)) (coded× snapshots_code snapshots_code))
     )
-    (λ v. ((v.channel, (v.next, v.top)), ((v.is_closed, v.held), (v.newest, v.bases))))
+    (λ v. ((v.channel, (v.next, v.top)), (((v.joined, v.is_closed), v.held), (v.newest, v.bases))))
     (λ t. record {
       channel = t.0.0;
       next = t.0.1.0;
       top = t.0.1.1;
-      is_closed = t.1.0.0;
+      joined = t.1.0.0.0;
+      is_closed = t.1.0.0.1;
       held = t.1.0.1;
       newest = t.1.1.0;
       bases = t.1.1.1;

@@ -1,34 +1,43 @@
 -- The recovery machine: which packet passes next, and when recovery jumps to the snapshots. It knows the channel and
 -- the events.
-use Rattle.std.specs.Prelude.{◌≡◌, ◌<◌, ◌≤◌, All, Any, ℕ, zero, suc, ◌+◌, Bool, false, min, nat_le, if◌then◌else◌, List, [], ◌∷◌, ◌++◌, map, fold, Option, Some, None}
+use Rattle.std.specs.Prelude.{◌≡◌, ◌<◌, ◌≤◌, All, Any, ℕ, zero, suc, ◌+◌, Bool, true, false, not, ◌||◌, min, nat_le, if◌then◌else◌, List, [], ◌∷◌, ◌++◌, map, fold, Option, Some, None}
 use Rattle.std.specs.Option.{option_map}
 use Rattle.std.specs.List.{list_all}
 use Rattle.mdp_templates.specs.Packet.{PacketContent}
 use Rattle.mdp_templates.specs.Snapshot.{SnapshotContent}
+use Rattle.mdp_arbiter.specs.declared.start.Start.{Start}
+use Rattle.mdp_arbiter.specs.declared.start.Start.TheVariants.{FromOne, Join}
 use Rattle.mdp_arbiter.specs.Channel.{Channel}
 use Rattle.mdp_arbiter.specs.Accepted.{Event, accepted_packets, first_of, highest, is_closed, newest_snapshots}
 
--- A packet passes; or recovery jumps from one number to a later one, and the listed securities' snapshots, in listed
--- order, become their bases.
+-- A packet passes; or recovery jumps from one number to a later one, or to the same where it joins, and the listed
+-- securities' snapshots, in listed order, become their bases.
 pub data Move : Type 0 where
   passed : PacketContent → Move
   jumped : ℕ → ℕ → List SnapshotContent → Move
 
--- the number of the packet that passes next, and each listed security's snapshot in the latest jump
+-- the number of the packet that passes next, each listed security's snapshot in the latest jump, and whether packets
+-- may pass
 pub record State : Type 0 where
   pub next : ℕ
   pub bases : List (Option SnapshotContent)
+  pub joined : Bool
 
-abbrev pub start : Channel → State
-start channel = record { next = 1; bases = map (λ _. None) channel.ids }
+-- packets may pass from number 1 on, or on a channel that is under way only after a first jump
+abbrev pub joined_from : Start → Bool
+joined_from FromOne = true
+joined_from Join = false
+
+abbrev pub first_state : Channel → State
+first_state channel = record { next = 1; bases = map (λ _. None) channel.ids; joined = joined_from channel.start }
 
 -- a packet came the room or more past the next one, which is given up
 abbrev pub has_run_ahead : ℕ → ℕ → ℕ → Bool
 has_run_ahead room next top = nat_le (next + room) top
 
--- the receiver is lost: the packet that passes next is given up
+-- the receiver is lost: it has not joined, or the packet that passes next is given up
 abbrev pub is_lost : Channel → List Event → State → Bool
-is_lost channel es s = has_run_ahead channel.room s.next (highest es)
+is_lost channel es s = not s.joined || has_run_ahead channel.room s.next (highest es)
 
 -- a security's snapshot is there, and includes every packet that is given up: those that lie the room or more below the top
 abbrev pub is_fresh : ℕ → ℕ → Option SnapshotContent → Bool
@@ -66,8 +75,8 @@ next_move channel es s =
     else option_map passed (first_of s.next (accepted_packets es))
 
 abbrev pub after : State → Move → State
-after s (passed packet) = record { next = s.next + 1; bases = s.bases }
-after s (jumped old new snapshots) = record { next = new; bases = map (λ snapshot. Some snapshot) snapshots }
+after s (passed packet) = record { next = s.next + 1; bases = s.bases; joined = s.joined }
+after s (jumped old new snapshots) = record { next = new; bases = map (λ snapshot. Some snapshot) snapshots; joined = true }
 
 abbrev pub after_all : State → List Move → State
 after_all s moves = fold after s moves
@@ -82,7 +91,8 @@ abbrev pub moves : ℕ → Channel → List Event → State → List Move
 moves zero channel es s = []
 moves (suc most) channel es s = elim (next_move channel es s) [ None ↦ [] | Some m ↦ m ∷ moves most channel es (after s m) ]
 
--- the one list that settles: each move begins at most at the highest number, and ends above where it began
+-- The one list that settles: each move begins at most at the highest number, and ends above where it began; one that
+-- joins comes first, and ends above 0.
 abbrev pub settle : Channel → List Event → State → List Move
 settle channel es s = moves (highest es + 1) channel es s
 
@@ -94,10 +104,10 @@ go_on channel past s (e ∷ es) =
 
 -- the moves of these events: after each event, as many as are possible
 abbrev pub trace : Channel → List Event → List Move
-trace channel es = go_on channel [] (start channel) es
+trace channel es = go_on channel [] (first_state channel) es
 
 abbrev pub state_at : Channel → List Event → State
-state_at channel es = after_all (start channel) (trace channel es)
+state_at channel es = after_all (first_state channel) (trace channel es)
 
 -- a front's moves are a beginning of the whole's
 abbrev pub LawOfFronts : Type 0
@@ -122,10 +132,11 @@ LawOfPasses = (channel : Channel) (es : List Event) (s : State) (packet : Packet
     → (packet.number ≡ s.next) × (first_of s.next (accepted_packets es) ≡ Some packet)
 
 -- A jump takes the newest snapshot of each listed security, none of which leaves out a packet that is given up, and
--- goes on right after the one that reaches least far.
+-- goes on right after the one that reaches least far. One that joins may leave the number that passes next.
 pub record IsRecovery (channel : Channel) (es : List Event) (s : State) (old new : ℕ) (snapshots : List SnapshotContent) : Type 0 where
   pub from : old ≡ s.next
-  pub on : old < new
+  pub on : s.joined ≡ true → old < new
+  pub begun : 1 ≤ new
   pub newest : newest_snapshots channel.ids es ≡ map (λ snapshot. Some snapshot) snapshots
   pub fresh : All (λ snapshot. highest es ≤ snapshot.last + channel.room) snapshots
   pub covered : All (λ snapshot. new ≤ snapshot.last + 1) snapshots
@@ -134,6 +145,17 @@ pub record IsRecovery (channel : Channel) (es : List Event) (s : State) (old new
 abbrev pub LawOfJumps : Type 0
 LawOfJumps = (channel : Channel) (es : List Event) (s : State) (old new : ℕ) (snapshots : List SnapshotContent)
     → next_move channel es s ≡ Some (jumped old new snapshots) → IsRecovery channel es s old new snapshots
+
+-- nothing has moved, or the first move is a jump from number 1
+abbrev pub BeginWithJump : List Move → Type 0
+BeginWithJump [] = Unit {0}
+BeginWithJump (passed p ∷ ms) = ⊥
+BeginWithJump (jumped old new snapshots ∷ ms) = old ≡ 1
+
+-- who joins a channel that is under way has joined by a jump, before which nothing moves
+abbrev pub LawOfJoining : Type 0
+LawOfJoining = (channel : Channel) (es : List Event) → channel.start ≡ Join
+    → BeginWithJump (trace channel es) × ((state_at channel es).joined ≡ false → trace channel es ≡ [])
 
 -- the first packets of the numbers from n on pass, as far as there is one of each
 abbrev pub ArePassed : ℕ → List PacketContent → List Move → Type 0
@@ -156,4 +178,4 @@ IsNeverLost channel past s (e ∷ es) =
 -- where nothing was lost, the first packet of each number from 1 on passes, as far as there is one of each
 abbrev pub LawOfNoLoss : Type 0
 LawOfNoLoss = (channel : Channel) (es : List Event) → HaveNoJump (trace channel es)
-    → IsNeverLost channel [] (start channel) es → ArePassed 1 (accepted_packets es) (trace channel es)
+    → IsNeverLost channel [] (first_state channel) es → ArePassed 1 (accepted_packets es) (trace channel es)

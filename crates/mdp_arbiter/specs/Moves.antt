@@ -1,12 +1,12 @@
 -- The move that an arbiter makes without the events, and what it leaves.
-use Rattle.std.specs.Prelude.{◌≡◌, ◌-◌, ◌≤◌, ◌<◌, max, if◌then◌else◌, Option, Some, None}
+use Rattle.std.specs.Prelude.{◌≡◌, ◌-◌, ◌≤◌, ◌<◌, max, true, if◌then◌else◌, Option, Some, None}
 use Rattle.std.specs.Option.{option_map}
 use Rattle.std.specs.FinMap.{get}
 use Rattle.mdp_window.specs.Window.{HoldsFrom}
 use Rattle.mdp_arbiter.specs.declared.step.Step.{Step}
 use Rattle.mdp_arbiter.specs.declared.step.Step.TheVariants.{Pass, Jump}
 use Rattle.mdp_arbiter.specs.Machine.{State, Move, passed, jumped, after, are_fresh, jump, snapshots_of}
-use Rattle.mdp_arbiter.specs.Arbiter.{View, state, is_lost_now}
+use Rattle.mdp_arbiter.specs.Arbiter.{View, state, is_lost_now, steps_left}
 
 -- what a call's answer is of the machine's move: none exactly where none is possible
 abbrev pub Answers : {A : Type 0} → Option Move → Option (Step A) → Type 0
@@ -32,7 +32,9 @@ seen_move v =
 
 -- what a move leaves
 pub record MovedBy (m : Move) (old new : View) : Type 0 where
-  pub on : old.next < new.next
+  pub on : old.next ≤ new.next
+  pub left : steps_left new < steps_left old
+  pub joined : new.joined ≡ true
   -- a packet's number is at most 4294967295
   pub most : new.top ≤ 4294967295
   pub state : state new ≡ after (state old) m

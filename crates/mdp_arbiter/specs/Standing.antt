@@ -1,5 +1,5 @@
 -- What an arbiter holds of the events that came.
-use Rattle.std.specs.Prelude.{◌≡◌, ℕ, ◌+◌, ◌-◌, ◌≤◌, max, nat_lt, if◌then◌else◌, List, Option, None}
+use Rattle.std.specs.Prelude.{◌≡◌, ℕ, ◌+◌, ◌-◌, ◌≤◌, max, false, nat_lt, if◌then◌else◌, List, Option, None}
 use Rattle.std.specs.FinMap.{get}
 use Rattle.mdp_arbiter.specs.declared.step.Step.{Step}
 use Rattle.mdp_arbiter.specs.Accepted.{Event, accepted_packets, first_of, highest, is_closed, newest_snapshots}
@@ -12,6 +12,8 @@ use Rattle.mdp_arbiter.specs.Moves.{Answers, after_move}
 pub record StandsAt (es : List Event) (v : View) : Type 0 where
   pub room : 1 ≤ v.channel.room
   pub begun : 1 ≤ v.next
+  -- before a first jump nothing has passed
+  pub first : v.joined ≡ false → v.next ≡ 1
   -- a packet's number is at most 4294967295
   pub most : v.top ≤ 4294967295
   pub top : v.top ≡ max (highest es) (v.next - 1)

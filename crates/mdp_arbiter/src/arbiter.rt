@@ -6,8 +6,8 @@ ghost use Rattle.mdp_templates.specs.Instrument.{AreFit};
 ghost use Rattle.mdp_arbiter.specs.Channel.{channel_of};
 ghost use Rattle.mdp_arbiter.specs.Accepted.{Event};
 ghost use Rattle.mdp_arbiter.specs.Accepted.Event.{came, recovered, closed};
-ghost use Rattle.mdp_arbiter.specs.Machine.{start, is_lost};
-ghost use Rattle.mdp_arbiter.specs.Arbiter.{is_lost_now, state};
+ghost use Rattle.mdp_arbiter.specs.Machine.{first_state, is_lost};
+ghost use Rattle.mdp_arbiter.specs.Arbiter.{is_lost_now, state, steps_left};
 ghost use Rattle.mdp_arbiter.specs.Packets.{Receives, is_taken_in};
 ghost use Rattle.mdp_arbiter.specs.Snapshots.{Renews};
 ghost use Rattle.mdp_arbiter.specs.Moves.{Answers, Moves, seen_move};
@@ -15,6 +15,7 @@ ghost use Rattle.mdp_arbiter.specs.Standing.{StandsAt, StepsAs};
 
 use crate::newest::{are_all_fresh, copy_all, least_number, none_for, renews};
 use crate::slots::Slots;
+use crate::start::Start;
 use crate::step::Step;
 use mdp_templates::{Instrument, Memory, Packet, Snapshot};
 use mdp_window::{Put, Window};
@@ -30,15 +31,17 @@ pub struct Arbiter<A: Allocator, W: Window<Packet<A>> + Drop> {
     window: W,
     room: u64,
     slots: Slots<A>,
+    start: Start,
     newest: Vec<Option<Snapshot>, A>,
     bases: Vec<Option<Snapshot>, A>,
     next: u64,
     top: u64,
+    joined: bool,
     is_closed: bool,
 }
 
 impl<A: Allocator, W: Window<Packet<A>> + Drop> Model for Arbiter<A, W> {
-    ghost use Rattle.std.specs.Prelude.{◌≡◌, ◌≤◌, ◌<◌, ◌+◌, ◌-◌, ℕ, max, length, None};
+    ghost use Rattle.std.specs.Prelude.{◌≡◌, ◌≤◌, ◌<◌, ◌+◌, ◌-◌, ℕ, max, length, false, None};
     ghost use Rattle.std.specs.FinMap as map;
     ghost use Rattle.mdp_arbiter.specs.Arbiter.{View};
     ghost use Rattle.mdp_arbiter.specs.Codes.{view_code};
@@ -48,9 +51,10 @@ impl<A: Allocator, W: Window<Packet<A>> + Drop> Model for Arbiter<A, W> {
     ghost coded = { view_code };
 
     ghost view = { λ a. record {
-      channel = record { room = a.room; ids = a.slots };
+      channel = record { room = a.room; ids = a.slots; start = a.start };
       next = a.next;
       top = a.top;
+      joined = a.joined;
       is_closed = a.is_closed;
       newest = a.newest.items;
       bases = a.bases.items;
@@ -61,20 +65,26 @@ impl<A: Allocator, W: Window<Packet<A>> + Drop> Model for Arbiter<A, W> {
         × ((W.view a.window).room ≡ a.room) × (1 ≤ a.room) × (a.room ≤ 65536)
         × (1 ≤ a.next) × (a.next ≤ a.top + 1) × (a.top ≤ 4294967295)
         × ((k : ℕ) → a.top < k → map.get (W.view a.window).held k ≡ None)
-        × (length a.newest.items ≡ length a.slots) × (length a.bases.items ≡ length a.slots) };
+        × (length a.newest.items ≡ length a.slots) × (length a.bases.items ≡ length a.slots)
+        × (a.joined ≡ false → a.next ≡ 1) };
 }
 
 impl<A: Allocator + Copy, W: Window<Packet<A>> + Drop> Arbiter<A, W> {
-    /// An arbiter that has taken in nothing. The instruments are fit, and the window begins at 1 and holds nothing. All
-    /// the room for snapshots is made here.
-    pub fn new(alloc: A, instruments: &[Instrument], window: W) -> Result<Arbiter<A, W>, Memory>
+    /// Makes an arbiter that has taken in nothing. The instruments are fit, and the window begins at 1 and holds
+    /// nothing. All the room for snapshots is made here.
+    pub fn new(
+        alloc: A,
+        instruments: &[Instrument],
+        window: W,
+        start: Start,
+    ) -> Result<Arbiter<A, W>, Memory>
         requires fit { AreFit instruments.now }
         requires first { (W.view window).first ≡ 1 }
         requires empty { (W.view window).held ≡ map.empty }
         ensures stands { IfOk result (StandsAt []) }
-        ensures start { IfOk result (λ arbiter. state arbiter ≡ start arbiter.channel) }
+        ensures start { IfOk result (λ arbiter. state arbiter ≡ first_state arbiter.channel) }
         ensures channel { IfOk result (λ arbiter. arbiter.channel
-            ≡ channel_of instruments.now (W.view window).room) }
+            ≡ channel_of instruments.now (W.view window).room start) }
     {
         let slots = Slots::of(alloc, instruments)?;
         let newest = none_for(alloc, instruments)?;
@@ -84,15 +94,17 @@ impl<A: Allocator + Copy, W: Window<Packet<A>> + Drop> Arbiter<A, W> {
             window,
             room,
             slots,
+            start,
             newest,
             bases,
             next: 1,
             top: 0,
+            joined: start.has_joined(),
             is_closed: false,
         })
     }
 
-    /// The number of the packet that passes next, from 1 to 4294967296.
+    /// Tells the number of the packet that passes next, from 1 to 4294967296.
     pub fn next(&self) -> u64
         ensures next { result ≡ self.now.next }
         ensures least { 1 ≤ result }
@@ -101,16 +113,17 @@ impl<A: Allocator + Copy, W: Window<Packet<A>> + Drop> Arbiter<A, W> {
         self.next
     }
 
-    /// Whether the receiver is lost: a packet came that is so far ahead that the next one is given up.
+    /// Tells whether the receiver is lost: it has not joined the channel, or a packet came that is so far ahead that
+    /// the next one is given up.
     pub fn lost(&self) -> bool
         ensures now { result ≡ is_lost_now self.now }
         ensures stands { (es : List Event) → StandsAt es self.now
             → result ≡ is_lost self.now.channel es (state self.now) }
     {
-        self.top >= self.next + self.room
+        !self.joined || self.top >= self.next + self.room
     }
 
-    /// The snapshot of the security at a listed place, from 0, that the latest jump took, if there was a jump.
+    /// Lends the snapshot of the security at a listed place, from 0, that the latest jump took, if there was a jump.
     pub fn base(&self, slot: usize) -> Option<&Snapshot>
         requires { slot < length self.now.channel.ids }
         ensures { slice_get self.now.bases slot ≡ Some (option_copied result) }
@@ -118,7 +131,7 @@ impl<A: Allocator + Copy, W: Window<Packet<A>> + Drop> Arbiter<A, W> {
         self.bases[slot].as_ref()
     }
 
-    /// The snapshot of each listed security, in listed order, that the latest jump took, if there was a jump.
+    /// Lends the snapshot of each listed security, in listed order, that the latest jump took, if there was a jump.
     pub fn bases(&self) -> &[Option<Snapshot>]
         ensures { result.now ≡ self.now.bases }
     {
@@ -158,10 +171,12 @@ impl<A: Allocator + Copy, W: Window<Packet<A>> + Drop> Arbiter<A, W> {
         self.renew(snapshot)
     }
 
-    /// The one step that is possible, none exactly where none is. Each step raises `next`.
+    /// Makes the one step that is possible, and answers it; none exactly where none is. Each step raises `next`, but that a
+    /// first jump which joins may leave it.
     pub fn step(&mut self) -> Option<Step<A>>
         ensures channel { self.new.channel ≡ self.old.channel }
-        ensures raises { IfSome result (λ _. (self.old.next < self.new.next) × (self.new.next ≤ 4294967296)) }
+        ensures raises { IfSome result (λ _. (steps_left self.new < steps_left self.old)
+            × (self.old.next ≤ self.new.next) × (self.new.next ≤ 4294967296)) }
         ensures steps { (es : List Event) → StandsAt es self.old → StepsAs es self.old self.new result }
     {
         self.take_step()
@@ -207,7 +222,7 @@ impl<A: Allocator + Copy, W: Window<Packet<A>> + Drop> Arbiter<A, W> {
         if self.is_closed {
             return None;
         }
-        if self.top < self.next + self.room {
+        if !self.lost() {
             let packet = self.window.take_first()?;
             self.next += 1;
             return Some(Step::Pass(packet));
@@ -218,6 +233,7 @@ impl<A: Allocator + Copy, W: Window<Packet<A>> + Drop> Arbiter<A, W> {
         let last = u64::from(least_number(&self.newest)?);
         let old = self.next;
         self.next = last + 1;
+        self.joined = true;
         self.top = self.top.max(last);
         self.window.drop_below(last + 1);
         copy_all(&self.newest, &mut self.bases);

@@ -5,14 +5,16 @@ mod arbiter;
 mod laws;
 mod newest;
 mod slots;
+mod start;
 mod step;
 #[cfg(test)]
 mod tests;
 
 pub use arbiter::Arbiter;
 pub use laws::{
-    all_pass_without_loss, events_add, fronts_begin, jumps_recover, moves_are_settled,
-    passes_are_first,
+    all_pass_without_loss, events_add, fronts_begin, joining_begins_with_a_jump, jumps_recover,
+    moves_are_settled, passes_are_first,
 };
 pub use slots::Slots;
+pub use start::Start;
 pub use step::Step;

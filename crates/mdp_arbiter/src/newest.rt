@@ -7,7 +7,7 @@ ghost use Rattle.mdp_arbiter.specs.Machine.{is_fresh, are_fresh, lesser, least_l
 use mdp_templates::{Instrument, Memory, Snapshot};
 use std::alloc::Allocator;
 
-/// No snapshot of each instrument.
+/// Makes a list with no snapshot for each instrument.
 pub(crate) fn none_for<A: Allocator + Copy>(
     alloc: A,
     instruments: &[Instrument],
@@ -21,7 +21,7 @@ pub(crate) fn none_for<A: Allocator + Copy>(
     Ok(none)
 }
 
-/// Whether a snapshot includes a later packet than the newest so far.
+/// Tells whether a snapshot includes a later packet than the newest so far.
 pub(crate) fn renews(so_far: &Option<Snapshot>, snapshot: &Snapshot) -> bool
     ensures { result ≡ is_newer so_far.now snapshot.now }
 {
@@ -31,7 +31,7 @@ pub(crate) fn renews(so_far: &Option<Snapshot>, snapshot: &Snapshot) -> bool
     }
 }
 
-// Whether a snapshot is there and includes every packet that is given up.
+// Tells whether a snapshot is there and includes every packet that is given up.
 fn is_fresh_enough(snapshot: &Option<Snapshot>, top: u64, room: u64) -> bool
     requires { room ≤ 65536 }
     ensures { result ≡ is_fresh room top snapshot.now }
@@ -42,7 +42,7 @@ fn is_fresh_enough(snapshot: &Option<Snapshot>, top: u64, room: u64) -> bool
     }
 }
 
-/// Whether each security has a snapshot that includes every packet which is given up.
+/// Tells whether each security has a snapshot that includes every packet which is given up.
 pub(crate) fn are_all_fresh(newest: &[Option<Snapshot>], top: u64, room: u64) -> bool
     requires { room ≤ 65536 }
     ensures { result ≡ are_fresh room top newest.now }
@@ -55,7 +55,7 @@ pub(crate) fn are_all_fresh(newest: &[Option<Snapshot>], top: u64, room: u64) ->
     true
 }
 
-// The lesser of the number so far and that of a snapshot.
+// Tells the lesser of the number so far and that of a snapshot.
 fn lesser_number(so_far: Option<u32>, snapshot: &Snapshot) -> u32
     ensures { Some result ≡ lesser so_far snapshot.now }
 {
@@ -65,7 +65,7 @@ fn lesser_number(so_far: Option<u32>, snapshot: &Snapshot) -> u32
     }
 }
 
-/// The least number of the snapshots that are there.
+/// Tells the least number of the snapshots that are there.
 pub(crate) fn least_number(newest: &[Option<Snapshot>]) -> Option<u32>
     ensures { result ≡ least_last (snapshots_of newest.now) }
 {
@@ -78,7 +78,7 @@ pub(crate) fn least_number(newest: &[Option<Snapshot>]) -> Option<u32>
     least
 }
 
-// An equal snapshot.
+// Makes an equal snapshot.
 fn copy_of(snapshot: &Option<Snapshot>) -> Option<Snapshot>
     ensures { result ≡ snapshot.now }
 {

@@ -40,7 +40,7 @@ fn enter<A: Allocator + Copy>(
 }
 
 impl<A: Allocator + Copy> Slots<A> {
-    /// The places of instruments of different ids, in listed order.
+    /// Makes the places of instruments of different ids, in listed order.
     pub fn of(alloc: A, instruments: &[Instrument]) -> Result<Slots<A>, Memory>
         requires { AllPairs (λ earlier later. earlier.id ≢ later.id) instruments.now }
         ensures { IfOk result (λ slots. slots ≡ ids_of instruments.now) }
@@ -52,7 +52,7 @@ impl<A: Allocator + Copy> Slots<A> {
         Ok(Slots { ids })
     }
 
-    /// The place of a security, from 0, if it is listed.
+    /// Tells the place of a security, from 0, if it is listed.
     pub fn slot_of(&self, id: i32) -> Option<usize>
         ensures some { IfSome result (λ slot. slice_get self.now slot ≡ Some id) }
         ensures only { IfSome result (λ slot. (other : ℕ) → slice_get self.now other ≡ Some id → other ≡ slot) }

@@ -8,6 +8,7 @@ use std::alloc::Allocator;
 pub enum Step<A: Allocator> {
     /// The packet of the next number passes.
     Pass(Packet<A>),
-    /// Recovery jumps from one number to a later one, over the packets between them, to a snapshot of each security.
+    /// Recovery jumps from one number to a later one, over the packets between them, to a snapshot of each security. A
+    /// first jump, which joins the channel, may stay at the number.
     Jump { old: u64, new: u64 },
 }

@@ -4,7 +4,7 @@ ghost use Rattle.std.specs.Prelude.{◌≡◌, IfOk, length};
 ghost use Rattle.std.specs.FinMap as map;
 ghost use Rattle.mdp_templates.specs.Instrument.{AreFit};
 
-use crate::{Arbiter, Step};
+use crate::{Arbiter, Start, Step};
 use arrayvec::{ArrayString, ArrayVec};
 use mdp_templates::{Instrument, InstrumentKind, Message, Name, Packet, Snapshot, are_fit};
 use mdp_window::{MapWindow, Put, RingWindow, Window};
@@ -25,6 +25,7 @@ fn near() -> Result<[Instrument; 1], Fail>
         id: 1,
         name: Name::new(text),
         kind: InstrumentKind::Outright,
+        depth: 10,
     }];
     if !are_fit(&listed) {
         return Err("unfit".into());
@@ -112,12 +113,13 @@ fn follow<W: Window<Packet<Global>> + Drop>(
     rt: &impl Abort,
     alloc: Global,
     window: W,
+    start: Start,
     table: &[Row],
 ) -> Result<(), Fail>
     requires first { (W.view window).first ≡ 1 }
     requires empty { (W.view window).held ≡ map.empty }
 {
-    let mut arbiter = Arbiter::new(alloc, &near()?, window)?;
+    let mut arbiter = Arbiter::new(alloc, &near()?, window, start)?;
     for (call, answer, next, lost) in table.iter() {
         assert_eq!(rt; answer_to(alloc, &mut arbiter, *call)?, *answer);
         assert_eq!(rt; arbiter.next(), *next);
@@ -127,9 +129,14 @@ fn follow<W: Window<Packet<Global>> + Drop>(
 }
 
 /// Follows a table over each window, of four places.
-fn follow_over_both(rt: &impl Abort, alloc: Global, table: &[Row]) -> Result<(), Fail> {
-    follow(rt, alloc, MapWindow::new(alloc, 4), table)?;
-    follow(rt, alloc, RingWindow::new(alloc, 4)?, table)
+fn follow_over_both(
+    rt: &impl Abort,
+    alloc: Global,
+    start: Start,
+    table: &[Row],
+) -> Result<(), Fail> {
+    follow(rt, alloc, MapWindow::new(alloc, 4), start, table)?;
+    follow(rt, alloc, RingWindow::new(alloc, 4)?, start, table)
 }
 
 #[test]
@@ -146,7 +153,7 @@ fn packets_out_of_order_pass_in_order_and_the_first_copy_counts(
         (Call::Step, Answer::Nothing, 3, false),
         (Call::Packet(1, 3), Answer::Back, 3, false),
     ];
-    follow_over_both(&rt, rt.alloc(), &table)
+    follow_over_both(&rt, rt.alloc(), Start::FromOne, &table)
 }
 
 #[test]
@@ -162,7 +169,7 @@ fn a_packet_at_the_last_place_gives_none_up(rt: HostRuntime) -> Result<(), Fail>
         (Call::Step, Answer::Pass(3, 1), 4, false),
         (Call::Step, Answer::Pass(4, 1), 5, false),
     ];
-    follow_over_both(&rt, rt.alloc(), &table)
+    follow_over_both(&rt, rt.alloc(), Start::FromOne, &table)
 }
 
 #[test]
@@ -177,7 +184,7 @@ fn a_packet_past_the_last_place_gives_the_next_up(rt: HostRuntime) -> Result<(),
         (Call::Step, Answer::Pass(2, 1), 3, false),
         (Call::Step, Answer::Nothing, 3, false),
     ];
-    follow_over_both(&rt, rt.alloc(), &table)
+    follow_over_both(&rt, rt.alloc(), Start::FromOne, &table)
 }
 
 #[test]
@@ -194,7 +201,7 @@ fn the_largest_numbers_pass(rt: HostRuntime) -> Result<(), Fail> {
         (Call::Step, Answer::Nothing, 4294967296, false),
         (Call::Packet(4294967295, 1), Answer::Back, 4294967296, false),
     ];
-    follow_over_both(&rt, rt.alloc(), &table)
+    follow_over_both(&rt, rt.alloc(), Start::FromOne, &table)
 }
 
 #[test]
@@ -211,7 +218,7 @@ fn an_older_snapshot_leaves_the_receiver_lost(rt: HostRuntime) -> Result<(), Fai
         (Call::Step, Answer::Nothing, 10, false),
         (Call::Packet(9, 0), Answer::Back, 10, false),
     ];
-    follow_over_both(&rt, rt.alloc(), &table)
+    follow_over_both(&rt, rt.alloc(), Start::FromOne, &table)
 }
 
 #[test]
@@ -223,13 +230,61 @@ fn after_a_close_everything_comes_back(rt: HostRuntime) -> Result<(), Fail> {
         (Call::Packet(1, 1), Answer::Back, 1, true),
         (Call::Step, Answer::Nothing, 1, true),
     ];
-    follow_over_both(&rt, rt.alloc(), &table)
+    follow_over_both(&rt, rt.alloc(), Start::FromOne, &table)
+}
+
+#[test]
+fn who_joins_takes_no_packet_before_a_jump(rt: HostRuntime) -> Result<(), Fail> {
+    let table: [Row; 8] = [
+        (Call::Packet(1, 1), Answer::Kept, 1, true),
+        (Call::Step, Answer::Nothing, 1, true),
+        (Call::Packet(1, 0), Answer::Back, 1, true),
+        (Call::Snapshot(1, 0), Answer::Kept, 1, true),
+        (Call::Step, Answer::Jump(1, 1), 1, false),
+        (Call::Step, Answer::Pass(1, 1), 2, false),
+        (Call::Packet(3, 1), Answer::Kept, 2, false),
+        (Call::Step, Answer::Nothing, 2, false),
+    ];
+    follow_over_both(&rt, rt.alloc(), Start::Join, &table)
+}
+
+#[test]
+fn who_joins_goes_on_with_the_packets_that_came_before_the_snapshot(
+    rt: HostRuntime,
+) -> Result<(), Fail> {
+    let table: [Row; 8] = [
+        (Call::Packet(4, 1), Answer::Kept, 1, true),
+        (Call::Packet(3, 2), Answer::Kept, 1, true),
+        (Call::Step, Answer::Nothing, 1, true),
+        (Call::Snapshot(1, 2), Answer::Kept, 1, true),
+        (Call::Step, Answer::Jump(1, 3), 3, false),
+        (Call::Step, Answer::Pass(3, 2), 4, false),
+        (Call::Step, Answer::Pass(4, 1), 5, false),
+        (Call::Step, Answer::Nothing, 5, false),
+    ];
+    follow_over_both(&rt, rt.alloc(), Start::Join, &table)
+}
+
+#[test]
+fn who_joins_waits_for_a_snapshot_of_what_is_given_up(rt: HostRuntime) -> Result<(), Fail> {
+    let table: [Row; 9] = [
+        (Call::Packet(9, 1), Answer::Kept, 1, true),
+        (Call::Packet(5, 1), Answer::Back, 1, true),
+        (Call::Snapshot(1, 4), Answer::Kept, 1, true),
+        (Call::Step, Answer::Nothing, 1, true),
+        (Call::Snapshot(1, 9), Answer::Kept, 1, true),
+        (Call::Step, Answer::Jump(1, 10), 10, false),
+        (Call::Packet(14, 1), Answer::Kept, 10, true),
+        (Call::Close, Answer::Nothing, 10, true),
+        (Call::Step, Answer::Nothing, 10, true),
+    ];
+    follow_over_both(&rt, rt.alloc(), Start::Join, &table)
 }
 
 #[test]
 fn a_jump_makes_the_newest_snapshots_the_bases(rt: HostRuntime) -> Result<(), Fail> {
     let alloc = rt.alloc();
-    let mut arbiter = Arbiter::new(alloc, &near()?, MapWindow::new(alloc, 4))?;
+    let mut arbiter = Arbiter::new(alloc, &near()?, MapWindow::new(alloc, 4), Start::FromOne)?;
     assert!(rt; is_kept(arbiter.packet(packet(alloc, 5, 1)?)));
     assert!(rt; arbiter.snapshot(snapshot(1, 2)).is_none());
     assert!(rt; arbiter.base(0).is_none());
@@ -285,7 +340,7 @@ fn a_packet_that_came_back_for_want_of_memory_can_be_handed_in_again(
     let mut refused = 0u64;
     for number in 1..100u64 {
         let heap = Refusing::new(alloc, number);
-        let mut arbiter = Arbiter::new(alloc, &near()?, MapWindow::new(&heap, 32))?;
+        let mut arbiter = Arbiter::new(alloc, &near()?, MapWindow::new(&heap, 32), Start::FromOne)?;
         let came_back = take_in_all(&rt, alloc, &mut arbiter)?;
         recovers(&rt, &mut arbiter);
         if !heap.has_refused() {
@@ -305,7 +360,7 @@ fn a_packet_that_came_back_for_want_of_memory_gives_no_packet_up(
 ) -> Result<(), Fail> {
     let alloc = rt.alloc();
     let heap = Refusing::new(alloc, 1);
-    let mut arbiter = Arbiter::new(alloc, &near()?, MapWindow::new(&heap, 32))?;
+    let mut arbiter = Arbiter::new(alloc, &near()?, MapWindow::new(&heap, 32), Start::FromOne)?;
     let Put::Memory(far) = arbiter.packet(packet(alloc, 40, 1)?) else {
         return Err("there was memory".into());
     };
@@ -327,7 +382,7 @@ fn no_arbiter_is_made_without_its_room(rt: HostRuntime) -> Result<(), Fail> {
         let window: MapWindow<Packet<&Refusing<Global>>, &Refusing<Global>> = MapWindow::new(
             &heap, 4,
         );
-        let made = Arbiter::new(&heap, &near()?, window).is_ok();
+        let made = Arbiter::new(&heap, &near()?, window, Start::FromOne).is_ok();
         assert_eq!(rt; made, !heap.has_refused());
         if made {
             break;

@@ -7,7 +7,7 @@ use Rattle.std.proofs.lemmas.List.Elements.{All-append, All-cons, All-take, All-
 use Rattle.std.proofs.lemmas.List.Edits.{length-insert, length-remove}
 use Rattle.std.proofs.lemmas.Bool.Decides.{nat_tests}
 use Rattle.mdp_templates.specs.declared.entry.Level.{Level}
-use Rattle.mdp_books.specs.Side.{after_new, is_position, HaveSizes, IsSide}
+use Rattle.mdp_books.specs.Side.{SideContent, after_new, is_position, HaveSizes, IsSide}
 
 HasSize : Level → Type 0
 HasSize x = FitsSigned w32 x.size
@@ -22,35 +22,42 @@ insert_below (suc i) (suc m) x (y ∷ side) h = ap (λ (s : List Level). y ∷ s
 position : (last n : ℕ) → n ≢ 0 → n ≤ last → is_position last n ≡ true
 position last n some most = grind (arith, nat_tests)
 
--- a new level comes in where the levels that stay leave room for it
-pub new_is : (depth n : ℕ) (x : Level) (side : List Level) → n ≢ 0 → n ≤ length side + 1 → n ≤ depth → after_new depth n x side ≡ Some (insert (take (depth - 1) side) (n - 1) x)
-new_is depth n x side some near deep =
-    let one : suc (depth - 1) ≡ depth = omega arith in
-    let same : insert (take (depth - 1) side) (n - 1) x ≡ take depth (insert side (n - 1) x) =
-    insert_below (n - 1) (depth - 1) x side (omega arith) ∙ ap (λ (m : ℕ). take m (insert side (n - 1) x)) one in
-    rw (position (min (length side + 1) depth) n some (omega arith)) (ap Some (sym same))
+-- a side of this depth and these levels
+abbrev pub side_of : ℕ → List Level → SideContent
+side_of depth levels = record { depth = depth; levels = levels }
 
-pub side_insert : (depth n : ℕ) (x : Level) (side : List Level) → FitsSigned w32 x.size → IsSide depth side → n ≢ 0 → n ≤ length side + 1 → n ≤ depth → IsSide depth (insert (take (depth - 1) side) (n - 1) x)
-side_insert depth n x side size is some near deep =
-    let kept = take (depth - 1) side in
-    let sizes : HaveSizes kept = All-take (λ (y : Level). FitsSigned w32 y.size) (depth - 1) side is.sizes in
+-- a new level comes in where the levels that stay leave room for it
+pub new_is : (depth n : ℕ) (x : Level) (levels : List Level) → n ≢ 0 → n ≤ length levels + 1 → n ≤ depth → after_new n x (side_of depth levels) ≡ Some (side_of depth (insert (take (depth - 1) levels) (n - 1) x))
+new_is depth n x levels some near deep =
+    let one : suc (depth - 1) ≡ depth = omega arith in
+    let same : insert (take (depth - 1) levels) (n - 1) x ≡ take depth (insert levels (n - 1) x) =
+    insert_below (n - 1) (depth - 1) x levels (omega arith) ∙ ap (λ (m : ℕ). take m (insert levels (n - 1) x)) one in
+    rw (position (min (length levels + 1) depth) n some (omega arith)) (ap (λ (xs : List Level). Some (side_of depth xs)) (sym same))
+
+pub side_insert : (capacity depth n : ℕ) (x : Level) (levels : List Level) → FitsSigned w32 x.size → IsSide capacity (side_of depth levels) → n ≢ 0 → n ≤ length levels + 1 → n ≤ depth → IsSide capacity (side_of depth (insert (take (depth - 1) levels) (n - 1) x))
+side_insert capacity depth n x levels size is some near deep =
+    let kept = take (depth - 1) levels in
+    let sizes : HaveSizes kept = All-take (λ (y : Level). FitsSigned w32 y.size) (depth - 1) levels is.sizes in
     record {
-      few = omega (arith, length-insert kept (n - 1) x, length-take (depth - 1) side);
+      few = omega (arith, length-insert kept (n - 1) x, length-take (depth - 1) levels);
+      deep = is.deep;
       sizes = All-append (λ (y : Level). FitsSigned w32 y.size) (take (n - 1) kept) (x ∷ drop (n - 1) kept)
           (All-take (λ (y : Level). FitsSigned w32 y.size) (n - 1) kept sizes)
           (All-cons (λ (y : Level). FitsSigned w32 y.size) x (drop (n - 1) kept) size (All-drop (λ (y : Level). FitsSigned w32 y.size) (n - 1) kept sizes));
     }
 
-pub side_remove : (depth at : ℕ) (side : List Level) → IsSide depth side → at < length side → IsSide depth (remove side at)
-side_remove depth at side is inside = record {
-  few = omega (arith, length-remove side at inside, is.few);
-  sizes = All-append (λ (y : Level). FitsSigned w32 y.size) (take at side) (drop (suc at) side)
-      (All-take (λ (y : Level). FitsSigned w32 y.size) at side is.sizes)
-      (All-drop (λ (y : Level). FitsSigned w32 y.size) (suc at) side is.sizes);
+pub side_remove : (capacity depth at : ℕ) (levels : List Level) → IsSide capacity (side_of depth levels) → at < length levels → IsSide capacity (side_of depth (remove levels at))
+side_remove capacity depth at levels is inside = record {
+  few = omega (arith, length-remove levels at inside, is.few);
+  deep = is.deep;
+  sizes = All-append (λ (y : Level). FitsSigned w32 y.size) (take at levels) (drop (suc at) levels)
+      (All-take (λ (y : Level). FitsSigned w32 y.size) at levels is.sizes)
+      (All-drop (λ (y : Level). FitsSigned w32 y.size) (suc at) levels is.sizes);
 }
 
-pub side_push : (depth : ℕ) (side : List Level) (x : Level) → FitsSigned w32 x.size → IsSide depth side → length side < depth → IsSide depth (side ++ x ∷ [])
-side_push depth side x size is room = record {
-  few = omega (arith, length-append side (x ∷ []));
-  sizes = All-push (λ (y : Level). FitsSigned w32 y.size) side x is.sizes size;
+pub side_push : (capacity depth : ℕ) (levels : List Level) (x : Level) → FitsSigned w32 x.size → IsSide capacity (side_of depth levels) → length levels < depth → IsSide capacity (side_of depth (levels ++ x ∷ []))
+side_push capacity depth levels x size is room = record {
+  few = omega (arith, length-append levels (x ∷ []));
+  deep = is.deep;
+  sizes = All-push (λ (y : Level). FitsSigned w32 y.size) levels x is.sizes size;
 }

@@ -8,60 +8,62 @@ use arrayvec::ArrayVec;
 use mdp_templates::{Action, Level};
 use std::marker::Model;
 
-/// The levels of one side, the best first, seen as a list of at most `DEPTH` levels.
+/// The levels of one side, the best first, with room for `CAPACITY` of them, and how many it has at most.
 #[derive(Drop)]
-pub struct Side<const DEPTH: usize> {
-    levels: ArrayVec<Level, DEPTH>,
+pub struct Side<const CAPACITY: usize> {
+    depth: usize,
+    levels: ArrayVec<Level, CAPACITY>,
 }
 
-impl<const DEPTH: usize> Model for Side<DEPTH> {
-    ghost use Rattle.std.specs.Prelude.{List};
-    ghost use Rattle.mdp_templates.specs.declared.entry.Level.{Level};
-    ghost use Rattle.mdp_books.specs.Side.{IsSide};
+impl<const CAPACITY: usize> Model for Side<CAPACITY> {
+    ghost use Rattle.mdp_books.specs.Side.{IsSide, SideContent};
 
-    ghost Value = { List Level };
+    ghost Value = { SideContent };
 
-    ghost view = { λ s. s.levels.items };
+    ghost view = { λ s. record { depth = s.depth; levels = s.levels.items } };
 
-    ghost invariant = { λ s. IsSide DEPTH s.levels.items };
+    ghost invariant = { λ s. IsSide CAPACITY (record { depth = s.depth; levels = s.levels.items }) };
 }
 
-impl<const DEPTH: usize> Side<DEPTH> {
-    /// A side with no levels.
-    pub fn new() -> Side<DEPTH>
-        ensures { result ≡ [] }
+impl<const CAPACITY: usize> Side<CAPACITY> {
+    /// Makes a side of this depth with no levels.
+    pub fn new(depth: usize) -> Side<CAPACITY>
+        requires { depth ≤ CAPACITY }
+        ensures { result ≡ record { depth = depth; levels = [] } }
     {
         Side {
+            depth,
             levels: ArrayVec::new(),
         }
     }
 
-    /// A side of these levels, the best first.
-    pub fn from_levels(levels: &[Level]) -> Side<DEPTH>
-        requires { length levels.now ≤ DEPTH }
-        ensures { result ≡ levels.now }
+    /// Makes a side of this depth and these levels, the best first.
+    pub fn from_levels(depth: usize, levels: &[Level]) -> Side<CAPACITY>
+        requires few { length levels.now ≤ depth }
+        requires deep { depth ≤ CAPACITY }
+        ensures { result ≡ record { depth = depth; levels = levels.now } }
     {
-        let mut side = Side::new();
+        let mut side = Side::new(depth);
         for level in levels {
             side.push(*level);
         }
         side
     }
 
-    /// The levels, the best first.
+    /// Lends the levels, the best first.
     pub fn levels(&self) -> &[Level]
-        ensures items { result.now ≡ self.now }
-        ensures few { length self.now ≤ DEPTH }
-        ensures sizes { HaveSizes self.now }
+        ensures items { result.now ≡ self.now.levels }
+        ensures few { length self.now.levels ≤ CAPACITY }
+        ensures sizes { HaveSizes self.now.levels }
     {
         self.levels.as_slice()
     }
 
     /// Does what an entry asks for at a position, counted from 1 (MDP 3.0, the update action and the price
     /// level). Gives false and changes nothing where the position is impossible: a new level past
-    /// `DEPTH` or past the level behind the last, a change or a delete past the last, or level 0.
+    /// the depth or past the level behind the last, a change or a delete past the last, or level 0.
     pub fn apply(&mut self, action: Action, level: u8, with: Level) -> bool
-        ensures after { side_after DEPTH action level with self.old ≡ (if result then Some self.new else None) }
+        ensures after { side_after action level with self.old ≡ (if result then Some self.new else None) }
         ensures same { OnFalse result (self.new ≡ self.old) }
     {
         let position = level as usize;
@@ -72,23 +74,23 @@ impl<const DEPTH: usize> Side<DEPTH> {
         }
     }
 
-    // One more level behind the last.
+    // Puts one more level behind the last.
     fn push(&mut self, level: Level)
-        requires { length self.old < DEPTH }
-        ensures { self.new ≡ self.old ++ level ∷ [] }
+        requires { length self.old.levels < self.old.depth }
+        ensures { self.new ≡ record { depth = self.old.depth; levels = self.old.levels ++ level ∷ [] } }
     {
         self.levels.push(level);
     }
 
-    // A new level at a position: those from there on move down, and what falls past the depth is dropped.
+    // Enters a new level at a position: those from there on move down, and what falls past the depth is dropped.
     fn enter_new(&mut self, position: usize, with: Level) -> bool
-        ensures after { after_new DEPTH position with self.old ≡ (if result then Some self.new else None) }
+        ensures after { after_new position with self.old ≡ (if result then Some self.new else None) }
         ensures same { OnFalse result (self.new ≡ self.old) }
     {
-        if position == 0 || position > self.levels.len() + 1 || position > DEPTH {
+        if position == 0 || position > self.levels.len() + 1 || position > self.depth {
             return false;
         }
-        self.levels.truncate(DEPTH - 1);
+        self.levels.truncate(self.depth - 1);
         self.levels.insert(position - 1, with);
         true
     }

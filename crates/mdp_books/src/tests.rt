@@ -41,7 +41,7 @@ const TEN: [Level; 10] = [
 
 #[test]
 fn a_new_tenth_replaces_the_tenth_of_a_full_side(rt: HostRuntime) {
-    let mut side = Side::<10>::from_levels(&TEN);
+    let mut side = Side::<10>::from_levels(10, &TEN);
     assert!(rt; side.apply(Action::New, 10, level(90, 7)));
     let mut wanted = TEN;
     wanted[9] = level(90, 7);
@@ -52,7 +52,7 @@ fn a_new_tenth_replaces_the_tenth_of_a_full_side(rt: HostRuntime) {
 
 #[test]
 fn a_new_best_pushes_the_last_implied_level_out(rt: HostRuntime) {
-    let mut side = Side::<2>::new();
+    let mut side = Side::<2>::new(2);
     assert!(rt; !side.apply(Action::New, 2, level(100, 5)));
     assert!(rt; side.apply(Action::New, 1, level(100, 5)));
     assert!(rt; side.apply(Action::New, 2, level(99, 6)));
@@ -62,7 +62,7 @@ fn a_new_best_pushes_the_last_implied_level_out(rt: HostRuntime) {
 
 #[test]
 fn a_change_and_a_delete_act_at_their_position(rt: HostRuntime) {
-    let mut side = Side::<10>::from_levels(&TEN[..3]);
+    let mut side = Side::<10>::from_levels(10, &TEN[..3]);
     assert!(rt; side.apply(Action::Change, 2, level(99, 8)));
     assert!(rt; side.apply(Action::Delete, 1, level(0, 0)));
     assert_eq!(rt; side.levels(), [level(99, 8), level(98, 1)].as_slice());
@@ -74,7 +74,7 @@ fn a_change_and_a_delete_act_at_their_position(rt: HostRuntime) {
 
 #[test]
 fn the_first_impossible_entry_is_the_fault(rt: HostRuntime) -> Result<(), Fail> {
-    let mut book = Book::empty();
+    let mut book = Book::empty(10);
     let first = Place {
         packet: 1,
         message: 1,
@@ -111,12 +111,64 @@ fn a_snapshot_gives_its_four_sides(rt: HostRuntime) -> Result<(), Fail> {
     let mut implied_offers = ArrayVec::new();
     implied_offers.push(level(101, 0));
     let snapshot = Snapshot::new(1, 7, bids, ArrayVec::new(), ArrayVec::new(), implied_offers);
-    let Book::Good(sides) = Book::of_snapshot(&snapshot) else {
+    let Book::Good(sides) = Book::of_snapshot(&snapshot, 10) else {
         return Err("good".into());
     };
     assert_eq!(rt; sides.bids.levels(), [level(99, 2)].as_slice());
     assert_eq!(rt; sides.offers.levels(), [].as_slice());
     assert_eq!(rt; sides.implied_bids.levels(), [].as_slice());
     assert_eq!(rt; sides.implied_offers.levels(), [level(101, 0)].as_slice());
+    Ok(())
+}
+
+#[test]
+fn a_side_of_two_levels_keeps_two(rt: HostRuntime) {
+    let mut side = Side::<10>::from_levels(2, &TEN[..2]);
+    assert!(rt; side.apply(Action::New, 1, level(101, 4)));
+    assert_eq!(rt; side.levels(), [level(101, 4), level(100, 1)].as_slice());
+    assert!(rt; !side.apply(Action::New, 3, level(99, 7)));
+    assert_eq!(rt; side.levels(), [level(101, 4), level(100, 1)].as_slice());
+}
+
+#[test]
+fn a_level_past_the_depth_is_a_fault(rt: HostRuntime) -> Result<(), Fail> {
+    let mut book = Book::empty(1);
+    let first = Place {
+        packet: 1,
+        message: 1,
+        entry: 1,
+    };
+    let second = Place {
+        packet: 1,
+        message: 1,
+        entry: 2,
+    };
+    book.apply(first, &bid(Action::New, 1, 100, 5));
+    book.apply(second, &bid(Action::New, 2, 99, 5));
+    let Book::Fault(place) = &book else {
+        return Err("a fault".into());
+    };
+    assert_eq!(rt; *place, second);
+    Ok(())
+}
+
+#[test]
+fn a_longer_snapshot_gives_its_first_levels(rt: HostRuntime) -> Result<(), Fail> {
+    let mut bids = ArrayVec::new();
+    bids.push(level(99, 2));
+    bids.push(level(98, 3));
+    let mut implied_bids = ArrayVec::new();
+    implied_bids.push(level(99, 4));
+    implied_bids.push(level(98, 5));
+    let snapshot = Snapshot::new(1, 7, bids, ArrayVec::new(), implied_bids, ArrayVec::new());
+    let Book::Good(sides) = Book::of_snapshot(&snapshot, 1) else {
+        return Err("good".into());
+    };
+    assert_eq!(rt; sides.bids.levels(), [level(99, 2)].as_slice());
+    assert_eq!(rt; sides.offers.levels(), [].as_slice());
+    assert_eq!(rt;
+        sides.implied_bids.levels(),
+        [level(99, 4), level(98, 5)].as_slice()
+    );
     Ok(())
 }

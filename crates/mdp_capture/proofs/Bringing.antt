@@ -14,7 +14,9 @@ use Rattle.mdp_capture.specs.declared.fault.CaptureRefusal.TheVariants.{NoInstru
 use Rattle.mdp_templates.specs.declared.feed.Feed.{Feed}
 use Rattle.mdp_templates.specs.declared.feed.Feed.TheVariants as feeds
 use Rattle.mdp_capture.proofs.Accepted.{accepted}
+use Rattle.mdp_capture.proofs.Depths.{line_lists_depth}
 use Rattle.mdp_capture.proofs.Fit.{unrefused, line_keeps_fit, whole_is_fit}
+use Rattle.mdp_capture.specs.Parsed.{ListsDepth}
 use Rattle.mdp_capture.specs.Draft.{AreFitSoFar}
 use Rattle.std.proofs.lemmas.Slice.Eq.{bytes_eq-Decides}
 use Rattle.std.proofs.lemmas.List.Quantifiers.{all_pairs_push}
@@ -225,11 +227,11 @@ named_line n Closing old new is differ = subst Named (same_capture _ new is) dif
 named_line n (Skipped skip) old new is differ = subst Named (same_capture _ new is) differ
 
 -- what each line keeps, all lines keep
-all_keep : (P : CaptureContent → Type 0) → ((n : ℕ) (content : LineContent) (old new : CaptureContent) → add_line n content old ≡ Ok new → P old → P new) → (line : ℕ) (texts : List (List ℕ)) (old new : CaptureContent) → add_lines line texts old ≡ Ok new → P old → P new
+all_keep : (P : CaptureContent → Type 0) → ((n : ℕ) (content : LineContent) (old new : CaptureContent) → ListsDepth content → add_line n content old ≡ Ok new → P old → P new) → (line : ℕ) (texts : List (List ℕ)) (old new : CaptureContent) → add_lines line texts old ≡ Ok new → P old → P new
 all_keep P keeps line [] old new is held = subst P (same_capture old new is) held
 all_keep P keeps line (text ∷ rest) old new is held =
     let steps = both_steps (add_line line (line_of text) old) (add_lines (next_line line) rest) new is in
-    all_keep P keeps (next_line line) rest steps.middle new steps.goes_on (keeps line (line_of text) old steps.middle steps.taken held)
+    all_keep P keeps (next_line line) rest steps.middle new steps.goes_on (keeps line (line_of text) old steps.middle (line_lists_depth text) steps.taken held)
 
 fit_at_first : AreFitSoFar []
 fit_at_first = record { few = omega arith; each = λ place d below. absurd (omega (arith, below)) }
@@ -265,5 +267,5 @@ holds_its_lines text capture is =
       brings = record { instruments = adds.instruments; a = adds.a; b = adds.b; s = adds.s; skipped = adds.skipped };
       first = instruments_first 1 (lines text) no_capture capture found.same;
       fit = whole_is_fit capture.instruments found.some (all_keep (λ (c : CaptureContent). AreFitSoFar c.instruments) line_keeps_fit 1 (lines text) no_capture capture found.same fit_at_first);
-      names_differ = all_keep Named named_line 1 (lines text) no_capture capture found.same named_at_first;
+      names_differ = all_keep Named (λ n content old new depth. named_line n content old new) 1 (lines text) no_capture capture found.same named_at_first;
     }

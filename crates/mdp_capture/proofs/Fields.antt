@@ -10,7 +10,7 @@ use Rattle.mdp_capture.specs.Parsed.{fields_left}
 use Rattle.std.proofs.lemmas.List.Splits.{length-slice_split}
 use Rattle.std.proofs.lemmas.List.Sums.{AllPass-from_list_all}
 use Rattle.std.proofs.lemmas.Str.{IsUtf8-from_ascii}
-use Rattle.mdp_capture.specs.Line.{Skipped, fields, closing_of, packet_of, kind_of, calendar_of_fields, is_graphic, is_name}
+use Rattle.mdp_capture.specs.Line.{Skipped, fields, closing_of, packet_of, outright_of_fields, calendar_of_fields, is_graphic, is_name}
 use Rattle.mdp_templates.specs.declared.feed.Feed.{Feed}
 use Rattle.mdp_capture.specs.declared.skip.Skip.TheVariants.{LineForm}
 
@@ -30,17 +30,17 @@ pub calendar_of_more : (leg1 leg2 : List ℕ) (parts : List (List ℕ)) → 0 < 
 calendar_of_more leg1 leg2 [] some = absurd (omega arith)
 calendar_of_more leg1 leg2 (part ∷ parts) some = refl
 
-pub kind_of_other : (letter : List ℕ) (parts : List (List ℕ)) → 0 < length parts → bytes_eq letter (codes "C") ≡ false → kind_of (letter ∷ parts) ≡ None
-kind_of_other letter [] some other = absurd (omega arith)
-kind_of_other letter (part ∷ parts) some other = cond-false (bytes_eq letter (codes "C")) (calendar_of_fields (part ∷ parts)) None other
-
-pub kind_of_spread : (letter : List ℕ) (parts : List (List ℕ)) → 0 < length parts → bytes_eq letter (codes "C") ≡ true → kind_of (letter ∷ parts) ≡ calendar_of_fields parts
-kind_of_spread letter [] some is = absurd (omega arith)
-kind_of_spread letter (part ∷ parts) some is = simp is
+pub outright_of_more : (depth : List ℕ) (parts : List (List ℕ)) → 0 < length parts → outright_of_fields (depth ∷ parts) ≡ None
+outright_of_more depth [] some = absurd (omega arith)
+outright_of_more depth (part ∷ parts) some = refl
 
 left_some : (rest : Option (Bor (List ℕ))) → is_some rest ≡ true → 0 < length (fields_left rest)
 left_some None is = absurd (cc)
 left_some (Some text) is = fields_some text.now
+
+-- one field more than an outright has
+pub outright_of_left : (depth : List ℕ) (rest : Option (Bor (List ℕ))) → is_some rest ≡ true → outright_of_fields (depth ∷ fields_left rest) ≡ None
+outright_of_left depth rest is = outright_of_more depth (fields_left rest) (left_some rest is)
 
 -- one field more than a spread has
 pub calendar_of_left : (leg1 leg2 : List ℕ) (rest : Option (Bor (List ℕ))) → is_some rest ≡ true → calendar_of_fields (leg1 ∷ leg2 ∷ fields_left rest) ≡ None

@@ -8,10 +8,11 @@ use Rattle.std.proofs.lemmas.List.{length_push}
 use Rattle.mdp_templates.specs.declared.instrument.Instrument.{Instrument}
 use Rattle.mdp_templates.specs.declared.instrument.InstrumentKind.{InstrumentKind}
 use Rattle.mdp_templates.specs.declared.instrument.InstrumentKind.TheVariants.{Outright, Calendar}
-use Rattle.mdp_templates.specs.Instrument.{HasOutright, HasLegs, FitsAfter, AreFit}
+use Rattle.mdp_templates.specs.Instrument.{HasOutright, HasLegs, HasDepth, FitsAfter, AreFit}
 use Rattle.mdp_templates.proofs.Fits.{fit, fit_push}
 use Rattle.mdp_capture.specs.Line.{LineContent, Blank, Listing, Packet, Closing, Skipped}
 use Rattle.mdp_capture.specs.Capture.{CaptureContent, RefusedLine, kind_with_id, is_outright, has_legs, refusal_of, unless_refused, add_line}
+use Rattle.mdp_capture.specs.Parsed.{ListsDepth}
 use Rattle.mdp_capture.specs.Draft.{AreFitSoFar}
 use Rattle.mdp_capture.specs.declared.fault.CaptureRefusal.{CaptureRefusal}
 use Rattle.mdp_templates.specs.declared.feed.Feed.TheVariants as feeds
@@ -57,16 +58,17 @@ legs_found xs (Calendar leg1 leg2) is =
       found_outright xs leg2 (some_outright (kind_with_id xs leg2) both.1),
     )
 
-accepted_fits : (capture : CaptureContent) (instrument : Instrument) → refusal_of capture instrument ≡ None → FitsAfter capture.instruments instrument
-accepted_fits capture instrument is = record {
+accepted_fits : (capture : CaptureContent) (instrument : Instrument) → HasDepth instrument → refusal_of capture instrument ≡ None → FitsAfter capture.instruments instrument
+accepted_fits capture instrument depth is = record {
   id_is_new = not_found capture.instruments instrument.id (new_id capture instrument is);
   legs_stand = legs_found capture.instruments instrument.kind (accepted capture instrument is).has_legs;
+  has_depth = depth;
 }
 
-one_more : (capture : CaptureContent) (instrument : Instrument) → refusal_of capture instrument ≡ None → AreFitSoFar capture.instruments → AreFitSoFar (capture.instruments ++ instrument ∷ [])
-one_more capture instrument is so_far = record {
+one_more : (capture : CaptureContent) (instrument : Instrument) → HasDepth instrument → refusal_of capture instrument ≡ None → AreFitSoFar capture.instruments → AreFitSoFar (capture.instruments ++ instrument ∷ [])
+one_more capture instrument depth is so_far = record {
   few = omega (arith, leb-false 512 (length capture.instruments) (accepted capture instrument is).few, length_push capture.instruments instrument);
-  each = fit_push capture.instruments instrument so_far.each (accepted_fits capture instrument is);
+  each = fit_push capture.instruments instrument so_far.each (accepted_fits capture instrument depth is);
 }
 
 pub unrefused : (n : ℕ) (o : Option CaptureRefusal) (next new : CaptureContent) → unless_refused n o next ≡ Ok new → (o ≡ None) × (next ≡ new)
@@ -79,16 +81,16 @@ Fits capture = AreFitSoFar capture.instruments
 moved : (c d : CaptureContent) → (let x : Result CaptureContent RefusedLine = Ok c in x) ≡ Ok d → Fits c → Fits d
 moved c d is fits = let same : c ≡ d = cc in subst Fits same fits
 
-pub line_keeps_fit : (n : ℕ) (line : LineContent) (old new : CaptureContent) → add_line n line old ≡ Ok new → AreFitSoFar old.instruments → AreFitSoFar new.instruments
-line_keeps_fit n Blank old new is fits = moved _ new is fits
-line_keeps_fit n (Listing instrument) old new is fits =
+pub line_keeps_fit : (n : ℕ) (line : LineContent) (old new : CaptureContent) → ListsDepth line → add_line n line old ≡ Ok new → AreFitSoFar old.instruments → AreFitSoFar new.instruments
+line_keeps_fit n Blank old new depth is fits = moved _ new is fits
+line_keeps_fit n (Listing instrument) old new depth is fits =
     let taken = unrefused n (refusal_of old instrument) (record old { instruments = old.instruments ++ instrument ∷ [] }) new is in
-    subst Fits taken.1 (one_more old instrument taken.0 fits)
-line_keeps_fit n (Packet feeds.A bytes) old new is fits = moved _ new is fits
-line_keeps_fit n (Packet feeds.B bytes) old new is fits = moved _ new is fits
-line_keeps_fit n (Packet feeds.S bytes) old new is fits = moved _ new is fits
-line_keeps_fit n Closing old new is fits = moved _ new is fits
-line_keeps_fit n (Skipped skip) old new is fits = moved _ new is fits
+    subst Fits taken.1 (one_more old instrument depth taken.0 fits)
+line_keeps_fit n (Packet feeds.A bytes) old new depth is fits = moved _ new is fits
+line_keeps_fit n (Packet feeds.B bytes) old new depth is fits = moved _ new is fits
+line_keeps_fit n (Packet feeds.S bytes) old new depth is fits = moved _ new is fits
+line_keeps_fit n Closing old new depth is fits = moved _ new is fits
+line_keeps_fit n (Skipped skip) old new depth is fits = moved _ new is fits
 
 -- with an instrument at all
 pub whole_is_fit : (xs : List Instrument) → 0 < length xs → AreFitSoFar xs → AreFit xs

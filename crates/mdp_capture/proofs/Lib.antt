@@ -4,7 +4,10 @@ pub mod Fields
 pub mod Spelling
 pub mod Accepted
 pub mod Pieces
+pub mod Depths
+pub mod Newest
 pub mod Fit
 pub mod Following
 pub mod Bringing
 pub mod Holding
+pub mod Decoding

@@ -1,5 +1,6 @@
 pub mod Faults
 pub mod Record
+pub mod Held
 pub mod Reader
 pub mod Line
 pub mod Capture

@@ -1,9 +1,11 @@
 -- What one line of a capture is, by its bytes.
 use Rattle.std.specs.Prelude.{ℕ, ℤ, pos, ◌+◌, ◌-◌, ◌*◌, ◌==◌, ◌&&◌, not, nat_le, Bool, if◌then◌else◌, List, [], ◌∷◌, length, slice_index, fold, codes, Option, Some, None, Result, Ok, Err}
 use Rattle.std.specs.List.{slice_split, list_all}
+use Rattle.std.specs.Option.{option_map}
 use Rattle.std.specs.Str.{bytes_eq}
 use Rattle.hex.specs.Hex.{decode_of}
 use Rattle.hex.specs.declared.error.FromHexError.{FromHexError}
+use Rattle.mdp_templates.specs.Entry.{direct_depth}
 use Rattle.mdp_templates.specs.declared.instrument.Instrument.{Instrument}
 use Rattle.mdp_templates.specs.declared.instrument.InstrumentKind.{InstrumentKind}
 use Rattle.mdp_templates.specs.declared.instrument.InstrumentKind.TheVariants.{Outright, Calendar}
@@ -36,10 +38,14 @@ is_number field = not (slice_index field 0 == 48) && list_all is_digit field
 abbrev pub decimal : List ℕ → ℕ
 decimal digits = fold (λ number digit. number * 10 + (digit - 48)) 0 digits
 
--- an id: a decimal number from 1 to 2147483647, without sign or leading zero
+-- a decimal number from 1 to the most, without sign or leading zero
+abbrev pub number_of : ℕ → List ℕ → Option ℕ
+number_of most field =
+    if is_number field && nat_le 1 (decimal field) && nat_le (decimal field) most then Some (decimal field) else None
+
+-- an id: a number from 1 to 2147483647
 abbrev pub id_of : List ℕ → Option ℤ
-id_of field =
-    if is_number field && nat_le 1 (decimal field) && nat_le (decimal field) 2147483647 then Some (pos (decimal field)) else None
+id_of field = option_map pos (number_of 2147483647 field)
 
 -- whether a byte is one of the 94 that show in ASCII
 abbrev pub is_graphic : ℕ → Bool
@@ -53,26 +59,47 @@ is_name field = nat_le 1 (length field) && nat_le (length field) 20 && list_all 
 abbrev pub name_of : List ℕ → Option (List ℕ)
 name_of field = if is_name field then Some field else None
 
--- a calendar spread of two legs, where both have an id
-abbrev pub calendar_of : Option ℤ → Option ℤ → Option InstrumentKind
-calendar_of (Some leg1) (Some leg2) = Some (Calendar leg1 leg2)
+-- a depth: a number from 1 to 10
+abbrev pub depth_of : List ℕ → Option ℕ
+depth_of field = number_of direct_depth field
+
+-- what an instrument is, and how many levels a side of its direct book has at most
+abbrev pub KindAndDepth : Type 0
+KindAndDepth = InstrumentKind × ℕ
+
+-- an outright of a depth, where there is one
+abbrev pub outright_of : Option ℕ → Option KindAndDepth
+outright_of (Some depth) = Some (Outright, depth)
+outright_of None = None
+
+-- an outright of the depth of these fields, which is 10 where there is no field
+abbrev pub outright_of_fields : List (List ℕ) → Option KindAndDepth
+outright_of_fields [] = Some (Outright, direct_depth)
+outright_of_fields (depth ∷ []) = outright_of (depth_of depth)
+outright_of_fields (depth ∷ more ∷ rest) = None
+
+-- a calendar spread of two legs, where both have an id; its depth is 10
+abbrev pub calendar_of : Option ℤ → Option ℤ → Option KindAndDepth
+calendar_of (Some leg1) (Some leg2) = Some (Calendar leg1 leg2, direct_depth)
 calendar_of (Some leg1) None = None
 calendar_of None leg2 = None
 
 -- a calendar spread of the two ids of these fields
-abbrev pub calendar_of_fields : List (List ℕ) → Option InstrumentKind
+abbrev pub calendar_of_fields : List (List ℕ) → Option KindAndDepth
 calendar_of_fields (leg1 ∷ leg2 ∷ []) = calendar_of (id_of leg1) (id_of leg2)
 calendar_of_fields _ = None
 
--- what an instrument is: `O` is an outright, and `C leg1 leg2` a calendar spread
-abbrev pub kind_of : List (List ℕ) → Option InstrumentKind
+-- what an instrument is: `O` and `O depth` are outrights, and `C leg1 leg2` a calendar spread
+abbrev pub kind_of : List (List ℕ) → Option KindAndDepth
 kind_of [] = None
-kind_of (letter ∷ []) = if bytes_eq letter (codes "O") then Some Outright else None
-kind_of (letter ∷ leg ∷ legs) = if bytes_eq letter (codes "C") then calendar_of_fields (leg ∷ legs) else None
+kind_of (letter ∷ rest) =
+    if bytes_eq letter (codes "O") then outright_of_fields rest
+    else if bytes_eq letter (codes "C") then calendar_of_fields rest
+    else None
 
 -- an instrument of an id, a name and a kind, where none of them is missing
-abbrev pub instrument : Option ℤ → Option (List ℕ) → Option InstrumentKind → Option Instrument
-instrument (Some id) (Some name) (Some kind) = Some (record { id = id; name = name; kind = kind })
+abbrev pub instrument : Option ℤ → Option (List ℕ) → Option KindAndDepth → Option Instrument
+instrument (Some id) (Some name) (Some kind) = Some (record { id = id; name = name; kind = kind.0; depth = kind.1 })
 instrument (Some id) (Some name) None = None
 instrument (Some id) None kind = None
 instrument None name kind = None

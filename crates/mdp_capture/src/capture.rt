@@ -35,7 +35,7 @@ impl<A: Allocator> Model for Capture<A> {
 }
 
 impl<A: Allocator> Capture<A> {
-    /// A capture of these instruments, records and skipped lines.
+    /// Makes a capture of these instruments, records and skipped lines.
     pub fn new(
         instruments: Vec<Instrument, A>,
         a: Vec<Record<A>, A>,
@@ -60,35 +60,35 @@ impl<A: Allocator> Capture<A> {
         }
     }
 
-    /// The instruments, in the order of their lines.
+    /// Lends the instruments, in the order of their lines.
     pub fn instruments(&self) -> &[Instrument]
         ensures { result.now ≡ self.now.instruments }
     {
         self.instruments.as_slice()
     }
 
-    /// The records of incremental feed A.
+    /// Lends the records of incremental feed A.
     pub fn a(&self) -> &[Record<A>]
         ensures { result.now ≡ self.now.a }
     {
         self.a.as_slice()
     }
 
-    /// The records of incremental feed B.
+    /// Lends the records of incremental feed B.
     pub fn b(&self) -> &[Record<A>]
         ensures { result.now ≡ self.now.b }
     {
         self.b.as_slice()
     }
 
-    /// The records of the snapshot feed, closes among them.
+    /// Lends the records of the snapshot feed, closes among them.
     pub fn s(&self) -> &[Record<A>]
         ensures { result.now ≡ self.now.s }
     {
         self.s.as_slice()
     }
 
-    /// The lines that were skipped.
+    /// Lends the lines that were skipped.
     pub fn skipped(&self) -> &[SkippedLine]
         ensures { result.now ≡ self.now.skipped }
     {

@@ -5,21 +5,23 @@ ghost use Rattle.std.specs.Ordering.{int_eq};
 ghost use Rattle.indexmap.specs.IndexMap.{get};
 ghost use Rattle.std.specs.List.{list_any};
 ghost use Rattle.std.specs.Str.{bytes_eq};
-ghost use Rattle.mdp_capture.specs.Line.{Skipped};
+ghost use Rattle.mdp_capture.specs.Line.{Packet, Skipped};
 ghost use Rattle.mdp_capture.specs.Capture.{add_line, add_record, add_instrument, refusal_of, has_record, is_listed, has_legs, are_legs, is_outright, kind_with_id, entry_of, next_line, no_capture, needs_instrument, IsFaultOf};
-ghost use Rattle.mdp_capture.specs.Parsed.{content_of};
+ghost use Rattle.mdp_capture.specs.Parsed.{ListsDepth, content_of};
 ghost use Rattle.mdp_capture.specs.Repeats.{newest_of, newest_on};
 ghost use Rattle.mdp_capture.specs.Draft.{capture_so_far, IsIndexed, AreFitSoFar};
 ghost use Rattle.mdp_templates.specs.Instrument.{AreFit};
 
+use crate::blocks::Blocks;
 use crate::capture::Capture;
 use crate::fault::{CaptureFault, CaptureRefusal};
 use crate::line::Line;
 use crate::record::Record;
 use crate::skip::{Skip, SkippedLine};
+use bytes::Bytes;
 use indexmap::IndexMap;
 use mdp_templates::{Feed, Instrument, InstrumentKind};
-use std::alloc::Allocator;
+use std::alloc::{AllocError, Allocator};
 use std::hash::{BuildHasherDefault, FoldHasher};
 
 /// What kind of instrument each id is.
@@ -35,12 +37,13 @@ pub(crate) struct Draft<A: Allocator> {
     b: Vec<Record<A>, A>,
     s: Vec<Record<A>, A>,
     skipped: Vec<SkippedLine, A>,
+    pub(crate) blocks: Blocks<A>,
 }
 
 const MOST_INSTRUMENTS: usize = 512;
 
 impl<A: Allocator + Copy> Draft<A> {
-    /// A capture before its first line.
+    /// Makes a capture before its first line.
     pub(crate) fn new(alloc: A) -> Draft<A>
         ensures line { result.line ≡ 1 }
         ensures nothing { capture_so_far result ≡ no_capture }
@@ -55,12 +58,14 @@ impl<A: Allocator + Copy> Draft<A> {
             b: Vec::new(alloc),
             s: Vec::new(alloc),
             skipped: Vec::new(alloc),
+            blocks: Blocks::new(alloc),
         }
     }
 
     /// Takes in the next line.
     pub(crate) fn add_line(&mut self, line: Line<A>) -> Result<(), CaptureFault>
-        requires { IsIndexed self.old }
+        requires indexed { IsIndexed self.old }
+        requires depth { ListsDepth (content_of line) }
         ensures capture { OnOk result (add_line self.old.line (content_of line) (capture_so_far self.old) ≡ Ok (capture_so_far self.new)) }
         ensures line { OnOk result (self.new.line ≡ next_line self.old.line) }
         ensures indexed { OnOk result (IsIndexed self.new) }
@@ -107,9 +112,23 @@ impl<A: Allocator + Copy> Draft<A> {
         Ok(())
     }
 
-    /// The bytes of the last record of a feed, where it is a datagram.
-    pub(crate) fn newest(&self, feed: Feed) -> Option<&[u8]>
-        ensures { IfSome result (λ bytes. newest_on feed (capture_so_far self.now) ≡ Some bytes.now) }
+    /// Takes in the next line, which brings a datagram of these bytes.
+    pub(crate) fn add_datagram(&mut self, feed: Feed, bytes: Bytes<A>) -> Result<(), CaptureFault>
+        requires { IsIndexed self.old }
+        ensures capture { OnOk result (add_line self.old.line (Packet feed bytes) (capture_so_far self.old) ≡ Ok (capture_so_far self.new)) }
+        ensures line { OnOk result (self.new.line ≡ next_line self.old.line) }
+        ensures indexed { OnOk result (IsIndexed self.new) }
+        ensures fit { OnOk result (AreFitSoFar self.old.instruments.items → AreFitSoFar self.new.instruments.items) }
+        ensures memory { IfErr result (λ fault. fault ≡ CaptureFault.Memory) }
+    {
+        self.add_record(feed, Record::shared(self.line, bytes))?;
+        self.line = self.line.saturating_add(1);
+        Ok(())
+    }
+
+    /// Gives the bytes of the last record of a feed once more, where it is a datagram whose bytes records may share.
+    pub(crate) fn newest(&self, feed: Feed) -> Result<Option<Bytes<A>>, AllocError>
+        ensures { IfOk result (λ found. IfSome found (λ bytes. newest_on feed (capture_so_far self.now) ≡ Some bytes)) }
     {
         match feed {
             Feed::A => newest_of(self.a.as_slice()),
@@ -149,7 +168,7 @@ impl<A: Allocator + Copy> Draft<A> {
         Ok(())
     }
 
-    // Why an instrument on this line refuses the capture, if it does; the first reason that holds.
+    // Tells why an instrument on this line refuses the capture, if it does; the first reason that holds.
     fn refusal_of(&self, instrument: &Instrument) -> Option<CaptureRefusal>
         requires { IsIndexed self.now }
         ensures { result ≡ refusal_of (capture_so_far self.now) instrument.now }
@@ -167,14 +186,14 @@ impl<A: Allocator + Copy> Draft<A> {
         }
     }
 
-    // Whether a feed has a record.
+    // Tells whether a feed has a record.
     fn has_record(&self) -> bool
         ensures { result ≡ has_record (capture_so_far self.now) }
     {
         !self.a.is_empty() || !self.b.is_empty() || !self.s.is_empty()
     }
 
-    // Whether an instrument with this id or this name is listed.
+    // Tells whether an instrument with this id or this name is listed.
     fn is_listed(&self, instrument: &Instrument) -> bool
         requires { IsIndexed self.now }
         ensures { result ≡ is_listed self.now.instruments.items instrument.now }
@@ -183,7 +202,7 @@ impl<A: Allocator + Copy> Draft<A> {
             || has_name(self.instruments.as_slice(), instrument.name.as_str())
     }
 
-    // Whether the legs are listed that this kind of instrument asks for.
+    // Tells whether the legs are listed that this kind of instrument asks for.
     fn has_legs(&self, kind: InstrumentKind) -> bool
         requires { IsIndexed self.now }
         ensures { result ≡ has_legs self.now.instruments.items kind }
@@ -194,7 +213,7 @@ impl<A: Allocator + Copy> Draft<A> {
         }
     }
 
-    // Whether two ids are those of two different outrights that are listed.
+    // Tells whether two ids are those of two different outrights that are listed.
     fn are_legs(&self, leg1: i32, leg2: i32) -> bool
         requires { IsIndexed self.now }
         ensures { result ≡ are_legs self.now.instruments.items leg1 leg2 }
@@ -202,7 +221,7 @@ impl<A: Allocator + Copy> Draft<A> {
         leg1 != leg2 && self.has_outright(leg1) && self.has_outright(leg2)
     }
 
-    // Whether an outright with this id is listed.
+    // Tells whether an outright with this id is listed.
     fn has_outright(&self, id: i32) -> bool
         requires { IsIndexed self.now }
         ensures { result ≡ is_outright (kind_with_id self.now.instruments.items id) }
@@ -214,7 +233,7 @@ impl<A: Allocator + Copy> Draft<A> {
         }
     }
 
-    // The kind of the instrument that has this id, if one is listed.
+    // Gives the kind of the instrument that has this id, if one is listed.
     fn kind_with_id(&self, id: i32) -> Option<InstrumentKind>
         requires { IsIndexed self.now }
         ensures { result ≡ kind_with_id self.now.instruments.items id }
@@ -222,7 +241,7 @@ impl<A: Allocator + Copy> Draft<A> {
         self.kinds.get(&id).copied()
     }
 
-    /// The whole capture.
+    /// Gives the whole capture.
     pub(crate) fn finish(self) -> Result<Capture<A>, CaptureFault>
         ensures capture { IfOk result (λ capture. needs_instrument (Ok (capture_so_far self)) ≡ Ok capture) }
         ensures fit { IfOk result (λ capture. AreFitSoFar self.instruments.items → AreFit capture.instruments) }
@@ -252,17 +271,17 @@ fn index<A: Allocator + Copy>(
     Ok(())
 }
 
-// The bytes of the last record, where it is a datagram.
-fn newest_of<A: Allocator>(records: &[Record<A>]) -> Option<&[u8]>
-    ensures { IfSome result (λ bytes. newest_of records.now ≡ Some bytes.now) }
+// Gives the bytes of the last record once more, where it is a datagram whose bytes records may share.
+fn newest_of<A: Allocator>(records: &[Record<A>]) -> Result<Option<Bytes<A>>, AllocError>
+    ensures { IfOk result (λ found. IfSome found (λ bytes. newest_of records.now ≡ Some bytes)) }
 {
     match records.last() {
-        Some(record) => record.bytes(),
-        None => None,
+        Some(record) => record.share(),
+        None => Ok(None),
     }
 }
 
-// Whether an instrument with this name is listed.
+// Tells whether an instrument with this name is listed.
 fn has_name(instruments: &[Instrument], name: &str) -> bool
     ensures { result ≡ list_any (λ other. bytes_eq other.name name.now) instruments.now }
 {

@@ -26,7 +26,7 @@ pub enum CaptureRefusal {
 impl CaptureRefusal {
     ghost use Rattle.mdp_capture.specs.Faults.{refusal_number, refusal_name};
 
-    /// The number that is printed, from 31 to 35.
+    /// Tells the number that is printed, from 31 to 35.
     pub fn number(self) -> u8
         ensures { result ≡ refusal_number self }
     {
@@ -39,7 +39,7 @@ impl CaptureRefusal {
         }
     }
 
-    /// The name that is printed, in ASCII letters.
+    /// Tells the name that is printed, in ASCII letters.
     pub fn name(self) -> &'static str
         ensures { result.now ≡ refusal_name self }
     {

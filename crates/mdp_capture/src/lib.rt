@@ -2,6 +2,7 @@
 //! any reader that counts its failures.
 #![tactic(auto)]
 
+mod blocks;
 mod capture;
 mod draft;
 mod fault;

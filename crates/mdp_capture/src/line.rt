@@ -2,14 +2,14 @@
 
 ghost use Rattle.std.specs.Prelude.{◌≡◌, IfOk, IfSome, IsErr, MatchResult};
 ghost use Rattle.hex.specs.Hex.{decode_of};
-ghost use Rattle.mdp_capture.specs.Line.{fields, calendar_of_fields, kind_of, instrument_of, listing, packet_of, closing_of, line_of};
+ghost use Rattle.mdp_capture.specs.Line.{fields, outright_of_fields, calendar_of_fields, kind_of, instrument_of, listing, packet_of, closing_of, line_of};
 ghost use Rattle.mdp_capture.specs.Repeats.{IsSkippedFor, Spells};
-ghost use Rattle.mdp_capture.specs.Parsed.{content_of, fields_left};
+ghost use Rattle.mdp_capture.specs.Parsed.{ListsDepth, content_of, fields_left};
 
-use crate::field::{id_of, is_letter, name_of, next_field};
+use crate::field::{depth_of, id_of, is_letter, name_of, next_field};
 use crate::skip::Skip;
 use hex::FromHexError;
-use mdp_templates::{Feed, Instrument, InstrumentKind};
+use mdp_templates::{DIRECT_DEPTH, Feed, Instrument, InstrumentKind};
 use memchr::memchr;
 use std::alloc::{AllocError, Allocator};
 
@@ -30,9 +30,10 @@ pub(crate) enum Line<A: Allocator> {
 
 const LONGEST_DATAGRAM: usize = 2048;
 
-/// What a line says, without its line feed and the carriage return before it.
+/// Gives what a line says, without its line feed and the carriage return before it.
 pub(crate) fn line_of<A: Allocator>(alloc: A, text: &[u8]) -> Result<Line<A>, AllocError>
-    ensures { IfOk result (λ line. content_of line ≡ line_of text.now) }
+    ensures content { IfOk result (λ line. content_of line ≡ line_of text.now) }
+    ensures depth { IfOk result (λ line. ListsDepth (content_of line)) }
 {
     if text.is_empty() {
         return Ok(Line::Blank);
@@ -53,7 +54,7 @@ pub(crate) fn line_of<A: Allocator>(alloc: A, text: &[u8]) -> Result<Line<A>, Al
     }
 }
 
-// What a line says that begins with `I`.
+// Tells what a line says that begins with `I`.
 fn listing_of<A: Allocator>(rest: Option<&[u8]>) -> Line<A>
     ensures { content_of result ≡ listing (instrument_of (fields_left rest.entry)) }
 {
@@ -63,7 +64,7 @@ fn listing_of<A: Allocator>(rest: Option<&[u8]>) -> Line<A>
     }
 }
 
-// The instrument that the fields behind the letter describe, if they do.
+// Gives the instrument that the fields behind the letter describe, if they do.
 fn instrument_of(rest: Option<&[u8]>) -> Option<Instrument>
     ensures { result ≡ instrument_of (fields_left rest.entry) }
 {
@@ -71,36 +72,62 @@ fn instrument_of(rest: Option<&[u8]>) -> Option<Instrument>
     let (name, kind) = next_field(rest?);
     let id = id_of(id)?;
     let name = name_of(name)?;
-    let kind = kind_of(kind)?;
-    Some(Instrument { id, name, kind })
+    let (kind, depth) = kind_of(kind)?;
+    Some(Instrument {
+        id,
+        name,
+        kind,
+        depth,
+    })
 }
 
-// The kind of instrument that the last fields say, if they do.
-fn kind_of(rest: Option<&[u8]>) -> Option<InstrumentKind>
+/// The depth of a calendar spread, and of an outright that tells none.
+const USUAL_DEPTH: u8 = DIRECT_DEPTH as u8;
+
+// Gives the kind of instrument that the last fields say, and its depth, if they do.
+fn kind_of(rest: Option<&[u8]>) -> Option<(InstrumentKind, u8)>
     ensures { result ≡ kind_of (fields_left rest.entry) }
 {
-    match next_field(rest?) {
-        (letter, None) if is_letter(letter, b'O') => Some(InstrumentKind::Outright),
-        (letter, Some(legs)) if is_letter(letter, b'C') => calendar_of(legs),
-        _ => None,
+    let (letter, rest) = next_field(rest?);
+    if is_letter(letter, b'O') {
+        outright_of(rest)
+    } else if is_letter(letter, b'C') {
+        calendar_of(rest)
+    } else {
+        None
     }
 }
 
-// The calendar spread of two legs, if there are two ids and nothing else.
-fn calendar_of(legs: &[u8]) -> Option<InstrumentKind>
-    ensures { result ≡ calendar_of_fields (fields legs.now) }
+// Gives the outright of the depth that the field behind its letter says, if it does and is the last.
+fn outright_of(rest: Option<&[u8]>) -> Option<(InstrumentKind, u8)>
+    ensures { result ≡ outright_of_fields (fields_left rest.entry) }
 {
-    let (leg1, rest) = next_field(legs);
+    let Some(text) = rest else {
+        return Some((InstrumentKind::Outright, USUAL_DEPTH));
+    };
+    let (depth, rest) = next_field(text);
+    if rest.is_some() {
+        return None;
+    }
+    let depth = depth_of(depth)?;
+    Some((InstrumentKind::Outright, depth))
+}
+
+// Gives the calendar spread of two legs, if there are two ids and nothing else.
+fn calendar_of(legs: Option<&[u8]>) -> Option<(InstrumentKind, u8)>
+    ensures { result ≡ calendar_of_fields (fields_left legs.entry) }
+{
+    let (leg1, rest) = next_field(legs?);
     let (leg2, rest) = next_field(rest?);
     if rest.is_some() {
         return None;
     }
     let leg1 = id_of(leg1)?;
     let leg2 = id_of(leg2)?;
-    Some(InstrumentKind::Calendar { leg1, leg2 })
+    Some((InstrumentKind::Calendar { leg1, leg2 }, USUAL_DEPTH))
 }
 
-// What a line of a feed says: its datagram, or why it is skipped.
+// Tells what a line of a feed says: its datagram, or why it is skipped.
 fn packet_of<A: Allocator>(alloc: A, feed: Feed, rest: Option<&[u8]>) -> Result<Line<A>, AllocError>
     ensures { IfOk result (λ line. content_of line ≡ packet_of feed (fields_left rest.entry)) }
 {
@@ -113,7 +140,7 @@ fn packet_of<A: Allocator>(alloc: A, feed: Feed, rest: Option<&[u8]>) -> Result<
     }
 }
 
-/// The feed and the digits of a line that begins as a datagram's does.
+/// Lends the feed and the digits of a line that begins as a datagram's does.
 pub(crate) fn digits_in(text: &[u8]) -> Option<(Feed, &[u8])>
     ensures { IfSome result (λ found. line_of text.now ≡ packet_of found.0 (fields found.1.now)) }
 {
@@ -125,7 +152,7 @@ pub(crate) fn digits_in(text: &[u8]) -> Option<(Feed, &[u8])>
     }
 }
 
-/// The bytes that the digits of a line spell, or why the line is skipped.
+/// Gives the bytes that the digits of a line spell, or why the line is skipped.
 pub(crate) fn bytes_of<A: Allocator>(
     alloc: A,
     digits: &[u8],
@@ -141,7 +168,7 @@ pub(crate) fn bytes_of<A: Allocator>(
     }
 }
 
-// Why the line of something other than digits is skipped: for a field too many, or for a byte that is no digit.
+// Tells why the line of something other than digits is skipped: for a field too many, or for a byte that is no digit.
 fn skip_of(digits: &[u8]) -> Skip
     ensures { IsErr (decode_of digits.now) → IsSkippedFor digits.now result }
 {
@@ -151,7 +178,7 @@ fn skip_of(digits: &[u8]) -> Skip
     }
 }
 
-// What a line says that begins with `X`.
+// Tells what a line says that begins with `X`.
 fn closing_of<A: Allocator>(rest: Option<&[u8]>) -> Line<A>
     ensures { content_of result ≡ closing_of (fields_left rest.entry) }
 {

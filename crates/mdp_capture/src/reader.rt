@@ -30,7 +30,7 @@ pub trait CountedRead {
         ensures left { left self.new ≡ left self.old - 1 }
         ensures none_left { left self.old ≡ 0 → IsErr result };
 
-    /// How many reads failed.
+    /// Tells how many reads failed.
     fn failures(&self) -> u64
         ensures { result ≡ failed self.now };
 }
@@ -44,7 +44,7 @@ pub struct CountingReader<R: Read + Drop> {
 }
 
 impl<R: Read + Drop> CountingReader<R> {
-    /// A reader of what `inner` reads, with no failure yet and 2^64 - 1 reads left.
+    /// Makes a reader of what `inner` reads, with no failure yet and 2^64 - 1 reads left.
     pub fn new(inner: R) -> CountingReader<R>
         ensures reader { reader_of result ≡ inner }
         ensures failures { failures_of result ≡ 0 }

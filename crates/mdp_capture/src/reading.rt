@@ -20,8 +20,8 @@ use memchr::memchr;
 use std::alloc::{AllocError, Allocator};
 
 /// Reads a capture to its end: the instruments, the records of the three feeds, and the lines that were skipped.
-/// The first refusal of the run ends the reading. Beside the capture itself it takes room for one line and a piece
-/// of 64 KiB.
+/// The first refusal of the run ends the reading. Beside the capture itself it takes room for one line, a piece
+/// of 64 KiB and what is left of a block of 64 KiB.
 ///
 /// # Errors
 ///
@@ -52,7 +52,7 @@ pub fn read_capture<R: CountedRead, A: Allocator + Copy>(
 /// How many bytes are read at once.
 const PIECE: usize = 65536;
 
-// Room for a piece, all zeros.
+// Makes room for a piece, all zeros.
 fn room_for_a_piece<A: Allocator>(alloc: A) -> Result<Vec<u8, A>, AllocError>
     ensures { IfOk result (λ piece. vec_len piece ≡ PIECE) }
 {
@@ -68,7 +68,7 @@ pub(crate) struct Reading<A: Allocator> {
 }
 
 impl<A: Allocator + Copy> Reading<A> {
-    /// A capture of which nothing was read.
+    /// Makes a capture of which nothing was read.
     pub(crate) fn new(alloc: A) -> Reading<A>
         ensures capture { (text : List ℕ) → capture_with result text ≡ capture_of text }
         ensures sound { IsSound result }
@@ -144,7 +144,7 @@ impl<A: Allocator + Copy> Reading<A> {
         Ok(())
     }
 
-    /// The capture, where the text has ended.
+    /// Gives the capture, where the text has ended.
     pub(crate) fn finish(mut self, alloc: A) -> Result<Capture<A>, CaptureFault>
         requires { IsSound self }
         ensures capture { IfOk result (λ capture. capture_with self [] ≡ Ok capture) }
@@ -174,7 +174,7 @@ impl<A: Allocator + Copy> Reading<A> {
     }
 }
 
-// The line without a carriage return at its end.
+// Lends the line without a carriage return at its end.
 fn without_carriage_return(line: &[u8]) -> &[u8]
     ensures { result.now ≡ strip_carriage_return line.now }
 {

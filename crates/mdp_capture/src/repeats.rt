@@ -1,15 +1,15 @@
-//! Lines that repeat the datagram of the line before, as feed B mostly does feed A's: its bytes are copied and not decoded anew.
+//! Lines that repeat the datagram of the line before, as feed B mostly does feed A's: they share its bytes, which are not decoded anew.
 
-ghost use Rattle.std.specs.Prelude.{◌≡◌, ◌≢◌, true, OnOk, IfOk, IfErr, IfSome, MatchResult};
+ghost use Rattle.std.specs.Prelude.{◌≡◌, ◌≢◌, true, OnOk, IfOk, IfErr, IfSome};
 ghost use Rattle.mdp_capture.specs.Capture.{IsFaultOf, add_line, next_line};
-ghost use Rattle.mdp_capture.specs.Repeats.{HasBytesOf, IsSkippedFor, Spells};
+ghost use Rattle.mdp_capture.specs.Repeats.{HasBytesOf, Spells};
 ghost use Rattle.mdp_capture.specs.Draft.{capture_so_far, AreFitSoFar, IsIndexed};
 ghost use Rattle.mdp_capture.specs.Line.{fields, line_of, packet_of};
 
 use crate::draft::Draft;
 use crate::fault::CaptureFault;
 use crate::line::{Line, bytes_of, digits_in, line_of};
-use crate::skip::Skip;
+use bytes::Bytes;
 use mdp_templates::Feed;
 use std::alloc::{AllocError, Allocator};
 
@@ -66,7 +66,54 @@ impl<A: Allocator + Copy> Draft<A> {
             (IsFaultOf (add_line self.old.line (packet_of feed (fields digits.now)) (capture_so_far self.old))) }
         ensures no_input { IfErr result (λ fault. fault ≢ CaptureFault.Input) }
     {
-        match self.copy_or_decode(alloc, digits, last, known)? {
+        match self.shared_bytes(alloc, digits, last, known)? {
+            Some(bytes) => {
+                self.add_datagram(feed, bytes)?;
+                Ok(Some(feed))
+            }
+            None => self.add_other(alloc, feed, digits),
+        }
+    }
+
+    // Gives the bytes that digits spell, where they are a datagram's: those of the line before, or decoded.
+    fn shared_bytes(
+        &mut self,
+        alloc: A,
+        digits: &[u8],
+        last: &[u8],
+        known: Option<Feed>,
+    ) -> Result<Option<Bytes<A>>, AllocError>
+        requires { HasBytesOf (line_of last.now) self.old known }
+        ensures bytes { IfOk result (λ read. IfSome read (λ bytes. Spells digits.now bytes)) }
+        ensures line { self.new.line ≡ self.old.line }
+        ensures capture { capture_so_far self.new ≡ capture_so_far self.old }
+        ensures kinds { self.new.kinds ≡ self.old.kinds }
+    {
+        let repeat = self.known_bytes(digits, last, known)?;
+        if repeat.is_some() {
+            return Ok(repeat);
+        }
+        self.blocks.decode(alloc, digits)
+    }
+
+    // Takes in the line of these digits on a feed, and tells that feed if they are a datagram's after all.
+    fn add_other(
+        &mut self,
+        alloc: A,
+        feed: Feed,
+        digits: &[u8],
+    ) -> Result<Option<Feed>, CaptureFault>
+        requires { IsIndexed self.old }
+        ensures capture { OnOk result (add_line self.old.line (packet_of feed (fields digits.now)) (capture_so_far self.old) ≡ Ok (capture_so_far self.new)) }
+        ensures line { OnOk result (self.new.line ≡ next_line self.old.line) }
+        ensures indexed { OnOk result (IsIndexed self.new) }
+        ensures fit { OnOk result (AreFitSoFar self.old.instruments.items → AreFitSoFar self.new.instruments.items) }
+        ensures known { IfOk result (HasBytesOf (packet_of feed (fields digits.now)) self.new) }
+        ensures refused { IfErr result
+            (IsFaultOf (add_line self.old.line (packet_of feed (fields digits.now)) (capture_so_far self.old))) }
+        ensures no_input { IfErr result (λ fault. fault ≢ CaptureFault.Input) }
+    {
+        match bytes_of(alloc, digits)? {
             Ok(bytes) => {
                 self.add_line(Line::Packet(feed, bytes))?;
                 Ok(Some(feed))
@@ -78,40 +125,25 @@ impl<A: Allocator + Copy> Draft<A> {
         }
     }
 
-    // The bytes that digits spell, or why their line is skipped.
-    fn copy_or_decode(
+    // Gives the bytes of these digits, where they are known.
+    fn known_bytes(
         &self,
-        alloc: A,
         digits: &[u8],
         last: &[u8],
         known: Option<Feed>,
-    ) -> Result<Result<Vec<u8, A>, Skip>, AllocError>
+    ) -> Result<Option<Bytes<A>>, AllocError>
         requires { HasBytesOf (line_of last.now) self.now known }
-        ensures { IfOk result (λ read. MatchResult read (λ bytes. Spells digits.now bytes.items) (IsSkippedFor digits.now)) }
-    {
-        match self.known_bytes(digits, last, known) {
-            Some(bytes) => {
-                let bytes = Vec::from_slice(alloc, bytes)?;
-                Ok(Ok(bytes))
-            }
-            None => bytes_of(alloc, digits),
-        }
-    }
-
-    // The bytes of these digits, where they are known.
-    fn known_bytes(&self, digits: &[u8], last: &[u8], known: Option<Feed>) -> Option<&[u8]>
-        requires { HasBytesOf (line_of last.now) self.now known }
-        ensures { IfSome result (λ bytes. Spells digits.now bytes.now) }
+        ensures { IfOk result (λ found. IfSome found (λ bytes. Spells digits.now bytes)) }
     {
         match known {
             Some(feed) if has_digits(last, digits) => self.newest(feed),
-            Some(_) => None,
-            None => None,
+            Some(_) => Ok(None),
+            None => Ok(None),
         }
     }
 }
 
-// Whether a line begins as a datagram's does and has these digits.
+// Tells whether a line begins as a datagram's does and has these digits.
 fn has_digits(text: &[u8], digits: &[u8]) -> bool
     ensures { result ≡ true → (feed : Feed) × (line_of text.now ≡ packet_of feed (fields digits.now)) }
 {

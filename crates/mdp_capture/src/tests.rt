@@ -85,6 +85,36 @@ fn reads_each_kind_of_line(rt: HostRuntime) -> Result<(), Fail> {
 }
 
 #[test]
+fn reads_depths(rt: HostRuntime) -> Result<(), Fail> {
+    let text = "I 1 N O 1\nI 2 M O 10\nI 3 L O\nI 4 CAL C 1 2\n";
+    let capture = read(rt.alloc(), text)?;
+    assert_eq!(rt; capture.skipped(), [].as_slice());
+    assert_eq!(rt; capture.instruments().len(), 4);
+    for (instrument, depth) in capture.instruments().iter().zip([1, 10, 10, 10].iter()) {
+        assert_eq!(rt; instrument.depth, *depth);
+    }
+    Ok(())
+}
+
+#[test]
+fn skips_other_depths(rt: HostRuntime) -> Result<(), Fail> {
+    let text =
+        "I 1 N O\nI 2 M O\nI 3 L O 0\nI 3 L O 11\nI 3 L O 05\nI 3 L O 5 5\nI 3 L O \nI 3 S C 1 2 10\n";
+    let capture = read(rt.alloc(), text)?;
+    assert_eq!(rt; capture.instruments().len(), 2);
+    let wanted = [
+        skipped(3, Skip::LineForm),
+        skipped(4, Skip::LineForm),
+        skipped(5, Skip::LineForm),
+        skipped(6, Skip::LineForm),
+        skipped(7, Skip::LineForm),
+        skipped(8, Skip::LineForm),
+    ];
+    assert_eq!(rt; capture.skipped(), wanted.as_slice());
+    Ok(())
+}
+
+#[test]
 fn drops_one_carriage_return(rt: HostRuntime) -> Result<(), Fail> {
     let capture = read(rt.alloc(), "I 1 N O\nA 00\r\r\n")?;
     assert_eq!(rt; capture.skipped(), [skipped(2, Skip::Hex)].as_slice());

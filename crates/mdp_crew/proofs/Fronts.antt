@@ -2,6 +2,7 @@
 use Rattle.std.proofs.Common.{◌≡◌, ℕ, List, [], ◌∷◌, ◌++◌, map, sym, ap, ◌∙◌, append_assoc}
 use Rattle.std.proofs.lemmas.List.{append-nil}
 use Rattle.mdp_templates.specs.declared.instrument.Instrument.{Instrument}
+use Rattle.mdp_arbiter.specs.declared.start.Start.{Start}
 use Rattle.mdp_arbiter.specs.Accepted.{Event}
 use Rattle.mdp_arbiter.specs.Channel.{channel_of}
 use Rattle.mdp_arbiter.specs.Machine.{Move, go_on, state_at, trace}
@@ -21,19 +22,19 @@ shown_lines_after-append listed before (m ∷ moves) more =
     ∙ sym (append_assoc (shown_lines_of_move listed before m) (shown_lines_after listed now moves) (shown_lines_after listed (before ++ m ∷ moves) more))
 
 -- where the moves of these events begin with those
-pub shown_first : (listed : List Instrument) (room : ℕ) (events more : List Event) (first rest : List Move) → trace (channel_of listed room) events ≡ first ++ rest
-    → (later : List ℕ) × (shown_lines listed (trace (channel_of listed room) (events ++ more)) ≡ shown_lines listed first ++ later)
-shown_first listed room events more first rest front =
-    let channel = channel_of listed room in
+pub shown_first : (listed : List Instrument) (room : ℕ) (from : Start) (events more : List Event) (first rest : List Move) → trace (channel_of listed room from) events ≡ first ++ rest
+    → (later : List ℕ) × (shown_lines listed (trace (channel_of listed room from) (events ++ more)) ≡ shown_lines listed first ++ later)
+shown_first listed room from events more first rest front =
+    let channel = channel_of listed room from in
     let behind = go_on channel events (state_at channel events) more in
     let all : trace channel (events ++ more) ≡ first ++ (rest ++ behind) =
     law_of_fronts channel events more ∙ ap (λ (l : List Move). l ++ behind) front ∙ append_assoc first rest behind in
     (shown_lines_after listed first (rest ++ behind), ap (shown_lines listed) all ∙ shown_lines_after-append listed [] first (rest ++ behind))
 
-pub published_first : (listed : List Instrument) (room : ℕ) (events more : List Event) (first rest : List Move) → trace (channel_of listed room) events ≡ first ++ rest
-    → (later : List Step) × (board_steps listed (trace (channel_of listed room) (events ++ more)) ≡ board_steps listed first ++ later)
-published_first listed room events more first rest front =
-    let channel = channel_of listed room in
+pub published_first : (listed : List Instrument) (room : ℕ) (from : Start) (events more : List Event) (first rest : List Move) → trace (channel_of listed room from) events ≡ first ++ rest
+    → (later : List Step) × (board_steps listed (trace (channel_of listed room from) (events ++ more)) ≡ board_steps listed first ++ later)
+published_first listed room from events more first rest front =
+    let channel = channel_of listed room from in
     let behind = go_on channel events (state_at channel events) more in
     let all : trace channel (events ++ more) ≡ first ++ (rest ++ behind) =
     law_of_fronts channel events more ∙ ap (λ (l : List Move). l ++ behind) front ∙ append_assoc first rest behind in

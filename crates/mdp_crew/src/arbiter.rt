@@ -3,6 +3,7 @@
 ghost use Rattle.std.specs.Prelude.{◌≡◌, ◌++◌, [], List, ℕ, map, IfErr, OnOk};
 ghost use Rattle.mdp_templates.specs.declared.instrument.Instrument.{Instrument};
 ghost use Rattle.mdp_arbiter.specs.Accepted.{Event as Accepted};
+ghost use Rattle.mdp_arbiter.specs.declared.start.Start.{Start};
 ghost use Rattle.mdp_engine.specs.Steps.{event_of};
 ghost use Rattle.mdp_lanes.specs.Items.{ends_taken};
 ghost use Rattle.mdp_crew.specs.Arbitrating.{HasBegun, HasSent, SendsMore, StopsWithin};
@@ -125,7 +126,8 @@ pub fn arbitrate<R: Wait, A: Allocator + Copy>(
     mut receiver: IntakeReceiver<Batch<A>, A>,
     mut senders: Vec<LaneSender<Order<A>, A>, A>,
 ) -> ArbiterOutcome<A>
-    ensures { (listed : List Instrument) (room : ℕ) → HasBegun listed room arbiter → receiver.taken ≡ [] → HasSent listed room receiver senders.items result }
+    ensures { (listed : List Instrument) (room : ℕ) (from : Start) → HasBegun listed room from arbiter → receiver.taken ≡ []
+        → HasSent listed room from receiver senders.items result }
 {
     let sent = take_all(
         rt,

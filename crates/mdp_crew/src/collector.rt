@@ -35,35 +35,35 @@ fn take_round<R: Wait, A: Allocator + Copy>(
     }
 }
 
-// Whether an answer tells reports.
+// Tells whether an answer tells reports.
 fn tells<A: Allocator>(answer: &Answer<A>) -> bool
     ensures { result ≡ is_told answer.now }
 {
     matches!(answer, Answer::Tells(_))
 }
 
-// Whether an answer says that the worker has finished.
+// Tells whether an answer says that the worker has finished.
 fn finishes<A: Allocator>(answer: &Answer<A>) -> bool
     ensures { result ≡ is_finished answer.now }
 {
     matches!(answer, Answer::Finished)
 }
 
-// Whether each answer of a round tells reports.
+// Tells whether each answer of a round tells reports.
 fn all_are_told<A: Allocator>(round: &[Answer<A>]) -> bool
     ensures { result ≡ all_tell round.now }
 {
     round.iter().all(tells)
 }
 
-// Whether each worker of a round has finished.
+// Tells whether each worker of a round has finished.
 fn all_are_finished<A: Allocator>(round: &[Answer<A>]) -> bool
     ensures { result ≡ all_finish round.now }
 {
     round.iter().all(finishes)
 }
 
-// Whether no answer of a round tells reports.
+// Tells whether no answer of a round tells reports.
 fn none_tells<A: Allocator>(round: &[Answer<A>]) -> bool {
     !round.iter().any(tells)
 }
@@ -186,7 +186,7 @@ fn show_round<R: Wait, W: CountedWrite, A: Allocator + Copy>(
     }
 }
 
-// One round: none where the loop goes on, else what became of it.
+// Takes one round, and answers none where the loop goes on, else what became of it.
 fn turn<R: Wait, W: CountedWrite, A: Allocator + Copy>(
     rt: &R,
     alloc: A,

@@ -8,6 +8,7 @@ ghost use Rattle.mdp_crew.specs.declared.batch.Batch.{Batch};
 ghost use Rattle.mdp_crew.specs.declared.order.Order.{Order};
 ghost use Rattle.mdp_lanes.specs.Queues.{IntakeReceiverView, LaneSenderView};
 ghost use Rattle.mdp_templates.specs.declared.instrument.Instrument.{Instrument};
+ghost use Rattle.mdp_arbiter.specs.declared.start.Start.{Start};
 ghost use Rattle.mdp_crew.specs.Batches.{HasTakenMore, events_taken};
 ghost use Rattle.mdp_crew.specs.Counted.{HasCounted};
 ghost use Rattle.mdp_crew.specs.Running.{HasPublished, HasShown, outcome_of};
@@ -22,7 +23,7 @@ use crate::gate::Gate;
 use crate::order::Order;
 use crate::starts::Starts;
 use crate::stop::Stop;
-use mdp_arbiter::Arbiter;
+use mdp_arbiter::{Arbiter, Start};
 use mdp_lanes::{IntakeReceiver, LaneSender, Publisher};
 use mdp_print::CountedWrite;
 use mdp_reports::{Answer, BoardSteps, Collector};
@@ -41,6 +42,7 @@ const ARBITER: usize = 3;
 pub struct SendsOrders<'s, A: Allocator + Copy> {
     pub listed: Snapshot<&'s [Instrument]>,
     pub room: u32,
+    pub start: Start,
     pub receiver: Snapshot<IntakeReceiver<Batch<A>, A>>,
     pub senders: Snapshot<Vec<LaneSender<Order<A>, A>, A>>,
 }
@@ -48,7 +50,7 @@ pub struct SendsOrders<'s, A: Allocator + Copy> {
 impl<'s, A: Allocator + Copy> Promise<ArbiterOutcome<A>> for SendsOrders<'s, A> {
     ghost use Rattle.mdp_crew.specs.Arbitrating.{HasSent};
 
-    ghost kept_by = { λ p outcome. HasSent p.listed.value.now p.room p.receiver.value p.senders.value.items outcome };
+    ghost kept_by = { λ p outcome. HasSent p.listed.value.now p.room p.start p.receiver.value p.senders.value.items outcome };
 }
 
 /// What is left to know of the arbiter: its thread, or what it left where its thread couldn't be started.
@@ -85,6 +87,7 @@ fn prepare<'s, E, R, S, G, A>(
     listed: &'s [Instrument],
     workers: u16,
     window: u32,
+    start: Start,
 ) -> Result<Ready<'s, A>, Memory>
 where
     R: Threads + Wait + Sync,
@@ -96,10 +99,10 @@ where
     requires some { 1 ≤ workers }
     requires least { 1 ≤ window }
     requires most { window ≤ 65536 }
-    ensures { IfOk result (λ ready. IsReady listed.now workers window ready) }
+    ensures { IfOk result (λ ready. IsReady listed.now workers window start ready) }
 {
     let window = RingWindow::new(alloc, u64::from(window))?;
-    let arbiter = Arbiter::new(alloc, listed, window)?;
+    let arbiter = Arbiter::new(alloc, listed, window, start)?;
     let collector = Collector::new(alloc, listed)?;
     let round = Vec::with_capacity(alloc, usize::from(workers))?;
     let (senders, posts) = hire_all(rt, scope, starts, alloc, gate, listed, workers)?;
@@ -121,6 +124,7 @@ fn begin_arbiter<'s, E, R, S, A>(
     alloc: A,
     listed: &'s [Instrument],
     room: u32,
+    start: Start,
     arbiter: Arbiter<A, Ring<A>>,
     receiver: IntakeReceiver<Batch<A>, A>,
     senders: Vec<LaneSender<Order<A>, A>, A>,
@@ -130,11 +134,12 @@ where
     S: Starts,
     A: Allocator + Copy + Send + Sync,
     A: 's,
-    requires begun { HasBegun listed.now room arbiter }
+    requires begun { HasBegun listed.now room start arbiter }
     requires fresh { receiver.taken ≡ [] }
     ensures { MatchResult result
-        (λ h. (h.promise.listed.value.now ≡ listed.now) × (h.promise.room ≡ room) × (h.promise.receiver.value ≡ receiver) × (h.promise.senders.value.items ≡ senders.items))
-        (λ outcome. HasSent listed.now room receiver senders.items outcome) }
+        (λ h. (h.promise.listed.value.now ≡ listed.now) × (h.promise.room ≡ room) × (h.promise.start ≡ start)
+        × (h.promise.receiver.value ≡ receiver) × (h.promise.senders.value.items ≡ senders.items))
+        (λ outcome. HasSent listed.now room start receiver senders.items outcome) }
 {
     if !starts.may_start(ARBITER) {
         let _ = go.set(rt, false);
@@ -143,6 +148,7 @@ where
     let promise = SendsOrders {
         listed: Snapshot::of(&listed),
         room,
+        start,
         receiver: Snapshot::of(&receiver),
         senders: Snapshot::of(&senders),
     };
@@ -163,10 +169,12 @@ fn join_arbiter<'s, R: Threads + Wait, A: Allocator + Copy>(
     rt: &R,
     arbitrating: Arbitrating<'s, A>,
 ) -> ArbiterOutcome<A>
-    ensures { (listed : List Instrument) (room : ℕ) (receiver : IntakeReceiverView (Batch A)) (senders : List (LaneSenderView (Order A))) →
+    ensures { (listed : List Instrument) (room : ℕ) (from : Start) (receiver : IntakeReceiverView (Batch A))
+        (senders : List (LaneSenderView (Order A))) →
         MatchResult arbitrating.entry
-        (λ h. (h.promise.listed.value.now ≡ listed) × (h.promise.room ≡ room) × (h.promise.receiver.value ≡ receiver) × (h.promise.senders.value.items ≡ senders))
-        (λ outcome. HasSent listed room receiver senders outcome) → HasSent listed room receiver senders result }
+        (λ h. (h.promise.listed.value.now ≡ listed) × (h.promise.room ≡ room) × (h.promise.start ≡ from)
+        × (h.promise.receiver.value ≡ receiver) × (h.promise.senders.value.items ≡ senders))
+        (λ outcome. HasSent listed room from receiver senders outcome) → HasSent listed room from receiver senders result }
 {
     match arbitrating {
         Ok(handle) => handle.join(rt),
@@ -174,7 +182,7 @@ fn join_arbiter<'s, R: Threads + Wait, A: Allocator + Copy>(
     }
 }
 
-// What the run comes to: what the collector met goes before what the arbiter met.
+// Tells what the run comes to: what the collector met goes before what the arbiter met.
 fn outcome(
     collected: Result<(), Stop>,
     standing: Result<Standing, Memory>,
@@ -198,6 +206,7 @@ fn run_ready<'s, E, R, S, W, A>(
     listed: &'s [Instrument],
     workers: u16,
     window: u32,
+    start: Start,
     ready: Ready<'s, A>,
     receiver: IntakeReceiver<Batch<A>, A>,
     board: &mut Option<Publisher<A>>,
@@ -212,12 +221,13 @@ where
     requires sound { W.failed writer.old < 2 ^ 64 - 1 }
     requires fit { AreFit listed.now }
     requires some { 1 ≤ workers }
-    requires ready { IsReady listed.now workers window ready }
+    requires ready { IsReady listed.now workers window start ready }
     requires fresh { receiver.taken ≡ [] }
     ensures takes { HasTakenMore receiver result.receiver }
     ensures ends { ends_taken (λ b. b.is_last) result.receiver.taken ≡ 3 }
-    ensures shows { HasShown listed.now window (events_taken result.receiver.taken) (W.taken writer.old) (W.taken writer.new) result.standing }
-    ensures publishes { HasPublished listed.now window (events_taken result.receiver.taken) board.old board.new result.standing }
+    ensures shows { HasShown listed.now window start (events_taken result.receiver.taken)
+        (W.taken writer.old) (W.taken writer.new) result.standing }
+    ensures publishes { HasPublished listed.now window start (events_taken result.receiver.taken) board.old board.new result.standing }
     ensures counts { HasCounted (W.taken writer.old) (W.taken writer.new) result.written }
     ensures failed { FailsByStop result.standing (W.failed writer.old) (W.failed writer.new) }
 {
@@ -229,7 +239,7 @@ where
         mut posts,
     } = ready;
     let arbitrating = begin_arbiter(
-        rt, scope, go, starts, alloc, listed, window, arbiter, receiver, senders,
+        rt, scope, go, starts, alloc, listed, window, start, arbiter, receiver, senders,
     );
     let _ = go.set(rt, true);
     let mut text = Vec::new(alloc);
@@ -265,7 +275,8 @@ where
 /// hand over is taken, and all threads are joined, on every path. Where a thread can't be started the readers are told to stop; where
 /// it is the arbiter's, the caller's thread arbitrates what they put before.
 ///
-/// The number of workers is 1 to 16, and the window covers 1 to 65536 packet numbers.
+/// The number of workers is 1 to 16, and the window covers 1 to 65536 packet numbers. With `Start::Join` no packet passes before a
+/// first jump.
 ///
 /// # Errors
 ///
@@ -281,6 +292,7 @@ pub fn run_crew<'s, E, R, S, G, W, A>(
     listed: &'s [Instrument],
     workers: u16,
     window: u32,
+    start: Start,
     mut receiver: IntakeReceiver<Batch<A>, A>,
     board: &mut Option<Publisher<A>>,
     writer: &mut W,
@@ -300,14 +312,18 @@ where
     requires fresh { receiver.taken ≡ [] }
     ensures takes { HasTakenMore receiver result.receiver }
     ensures ends { ends_taken (λ b. b.is_last) result.receiver.taken ≡ 3 }
-    ensures shows { HasShown listed.now window (events_taken result.receiver.taken) (W.taken writer.old) (W.taken writer.new) result.standing }
-    ensures publishes { HasPublished listed.now window (events_taken result.receiver.taken) board.old board.new result.standing }
+    ensures shows { HasShown listed.now window start (events_taken result.receiver.taken)
+        (W.taken writer.old) (W.taken writer.new) result.standing }
+    ensures publishes { HasPublished listed.now window start (events_taken result.receiver.taken) board.old board.new result.standing }
     ensures counts { HasCounted (W.taken writer.old) (W.taken writer.new) result.written }
     ensures failed { FailsByStop result.standing (W.failed writer.old) (W.failed writer.new) }
 {
-    match prepare(rt, scope, starts, alloc, gate, listed, workers, window) {
+    match prepare(
+        rt, scope, starts, alloc, gate, listed, workers, window, start,
+    ) {
         Ok(ready) => run_ready(
-            rt, scope, go, starts, alloc, listed, workers, window, ready, receiver, board, writer,
+            rt, scope, go, starts, alloc, listed, workers, window, start, ready, receiver, board,
+            writer,
         ),
         Err(Memory) => {
             let _ = go.set(rt, false);

@@ -1,6 +1,6 @@
 -- An entry is for one desk at most, and a message is heard, shown and settled as one step.
 use Rattle.std.proofs.Common.{◌≡◌, ◌≢◌, ℕ, ℤ, zero, suc, ◌+◌, ◌<◌, Bool, true, false, cond, List, [], ◌∷◌, ◌++◌, length, take, drop, min, map, get_or, set, Option, Some, None, refl, sym, ap, subst, ◌∙◌, arith, inl, inr}
-use Rattle.std.specs.Prelude.{◌||◌, nat_lt, slice_get}
+use Rattle.std.specs.Prelude.{◌||◌, nat_lt, slice_get, All}
 use Rattle.std.specs.List.{list_any, AllPairs, flat_map}
 use Rattle.std.proofs.Math.Seq.{map-set_same}
 use Rattle.std.proofs.lemmas.Bool.{cases_Bool}
@@ -8,6 +8,7 @@ use Rattle.std.proofs.lemmas.Bool.Decides.{Decides-int_eq}
 use Rattle.std.proofs.lemmas.List.{get_or-map, length-map}
 use Rattle.mdp_templates.specs.Snapshot.{SnapshotContent}
 use Rattle.mdp_templates.specs.declared.entry.Entry.{Entry}
+use Rattle.mdp_templates.specs.Instrument.{HasDepth}
 use Rattle.mdp_templates.specs.declared.instrument.Instrument.{Instrument}
 use Rattle.mdp_books.specs.declared.book.Place.{Place}
 use Rattle.mdp_books.specs.Book.{after_entry}
@@ -128,12 +129,13 @@ ids_differ (x ∷ xs) differ = λ i j d less below.
     λ same. differ i j x less inside (sym left ∙ same ∙ right)
 
 -- what stands beside the desks before any packet
-pub beside_start : (listed : List Instrument) (ds : List Desk) (ids : List ℤ) (marks : List Bool) → AllPairs (λ (a b : Instrument). a.id ≢ b.id) listed → ds ≡ map desk_at_start listed → ids ≡ ids_of listed → marks ≡ marks_of ds → AreBeside ds ids marks
-beside_start listed ds ids marks differ desks same are =
+pub beside_start : (listed : List Instrument) (ds : List Desk) (ids : List ℤ) (marks : List Bool) → AllPairs (λ (a b : Instrument). a.id ≢ b.id) listed → All HasDepth listed → ds ≡ map desk_at_start listed → ids ≡ ids_of listed → marks ≡ marks_of ds → AreBeside ds ids marks
+beside_start listed ds ids marks differ depths desks same are =
     record {
       same = same ∙ ap ids_of (sym (start_listed listed)) ∙ ap (λ (d : List Desk). ids_of (listed_in d)) (sym desks);
       differ = subst (λ (xs : List ℤ). AllPairs (λ a b. a ≢ b) xs) (sym same) (ids_differ listed differ);
       marks_are = are;
+      depths = subst (λ (is : List Instrument). All HasDepth is) (sym (ap listed_in desks ∙ start_listed listed)) depths;
     }
 
 -- ---- a message

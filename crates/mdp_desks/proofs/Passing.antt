@@ -1,14 +1,16 @@
 -- A desk that isn't marked has no lines at an event end, and is as it was behind it.
-use Rattle.std.proofs.Common.{◌≡◌, ◌<◌, ◌≤◌, ℕ, zero, suc, ◌+◌, Bool, true, false, List, [], ◌∷◌, ◌++◌, length, map, take, drop, get_or, set, replicate, Option, refl, sym, ap, subst, ◌∙◌, arith}
+use Rattle.std.proofs.Common.{◌≡◌, ◌<◌, ◌≤◌, ℕ, zero, suc, ◌+◌, Bool, true, false, List, [], ◌∷◌, ◌++◌, length, map, take, drop, get_or, set, replicate, Option, Some, None, refl, sym, ap, subst, ◌∙◌, arith}
 use Rattle.std.specs.List.{flat_map}
-use Rattle.std.specs.Prelude.{nat_lt}
-use Rattle.std.proofs.lemmas.List.{map-set, get_or-map}
+use Rattle.std.specs.Prelude.{nat_lt, All}
+use Rattle.std.proofs.Math.Seq.{map-set_same}
+use Rattle.std.proofs.lemmas.List.{map-set, get_or-map, length-map}
 use Rattle.mdp_templates.specs.Snapshot.{SnapshotContent}
 use Rattle.mdp_templates.specs.declared.instrument.Instrument.{Instrument}
 use Rattle.mdp_desks.specs.declared.desk.Desk.{Desk}
 use Rattle.mdp_desks.specs.Lines.{text_of}
 use Rattle.mdp_desks.specs.Desks.{desk_at_start, desk_settled, desk_standing, desk_jumped, rebased_desks}
-use Rattle.mdp_desks.specs.Beside.{marks_of}
+use Rattle.mdp_desks.specs.Beside.{listed_in, marks_of}
+use Rattle.mdp_templates.specs.Instrument.{HasDepth}
 
 -- ---- one desk
 
@@ -98,3 +100,22 @@ pub rebased_more : (n : ℕ) (bases : List (Option SnapshotContent)) (ds : List 
 rebased_more n bases ds base here d less short at is =
     let one : suc n ≡ n + 1 = omega arith in
     subst (λ (m : ℕ). take m (set ds n here) ++ rebased_desks (drop m bases) (drop m (set ds n here)) ≡ take n ds ++ rebased_desks (drop n bases) (drop n ds)) one (rebased_next n bases ds base here d less short at is)
+
+-- ---- the listed securities stay, and their depths with them
+
+pub depths_kept : (ds old : List Desk) → listed_in ds ≡ listed_in old → All HasDepth (listed_in old) → All HasDepth (listed_in ds)
+depths_kept ds old same depths = subst (λ (is : List Instrument). All HasDepth is) (sym same) depths
+
+-- the depth of one of them
+pub depth_at : (ds : List Desk) (n : ℕ) (d : Desk) → n < length ds → All HasDepth (listed_in ds) → HasDepth (get_or ds n d).instrument
+depth_at ds n d less depths =
+    let long : length (listed_in ds) ≡ length ds = length-map ds (λ (d : Desk). d.instrument) in
+    subst HasDepth (get_or-map (λ (d : Desk). d.instrument) ds n d d.instrument less) (depths n d.instrument (omega (arith, less, long)))
+
+jumped_instrument : (base : Option SnapshotContent) (d : Desk) → (desk_jumped base d).instrument ≡ d.instrument
+jumped_instrument None d = refl
+jumped_instrument (Some s) d = refl
+
+pub listed_more : (n : ℕ) (ds : List Desk) (base : Option SnapshotContent) (here d : Desk) → here ≡ desk_jumped base (get_or ds n d) → listed_in (set ds n here) ≡ listed_in ds
+listed_more n ds base here d is =
+    map-set_same (λ (d : Desk). d.instrument) ds n here d (ap (λ (d : Desk). d.instrument) is ∙ jumped_instrument base (get_or ds n d))

@@ -1,7 +1,8 @@
 -- What stands beside the desks: the ids of their securities, and their marks.
-use Rattle.std.specs.Prelude.{◌≡◌, ◌≢◌, ◌<◌, ◌≤◌, ℕ, ℤ, Bool, false, List, map, length, get_or}
+use Rattle.std.specs.Prelude.{◌≡◌, ◌≢◌, ◌<◌, ◌≤◌, ℕ, ℤ, Bool, false, List, map, length, get_or, All}
 use Rattle.std.specs.List.{AllPairs}
 use Rattle.mdp_templates.specs.declared.instrument.Instrument.{Instrument}
+use Rattle.mdp_templates.specs.Instrument.{HasDepth}
 use Rattle.mdp_arbiter.specs.Channel.{ids_of}
 use Rattle.mdp_desks.specs.declared.desk.Desk.{Desk}
 
@@ -19,8 +20,9 @@ pub record AreWithin (low high : ℕ) (marks : List Bool) : Type 0 where
   pub before : (n : ℕ) → n < low → get_or marks n false ≡ false
   pub behind : (n : ℕ) → high ≤ n → get_or marks n false ≡ false
 
--- the ids stand in listed order and all differ, and so do the marks beside them
+-- the ids stand in listed order and all differ, and so do the marks beside them; each book has a depth of its kind
 pub record AreBeside (desks : List Desk) (ids : List ℤ) (marks : List Bool) : Type 0 where
   pub same : ids ≡ ids_of (listed_in desks)
   pub differ : AllPairs (λ a b. a ≢ b) ids
   pub marks_are : marks ≡ marks_of desks
+  pub depths : All HasDepth (listed_in desks)

@@ -11,7 +11,7 @@ use Rattle.mdp_desks.specs.Lines.{Seen, lines_of}
 
 -- before any packet
 abbrev pub desk_at_start : Instrument → Desk
-desk_at_start i = record { instrument = i; base = 0; book = empty_book; marked = false }
+desk_at_start i = record { instrument = i; base = 0; book = empty_book i.depth; marked = false }
 
 -- an entry for the security, where its packet stands behind the base
 abbrev pub desk_entered : Place → Entry → Desk → Desk
@@ -83,7 +83,7 @@ passed_text (m ∷ ms) ds = desks_text m ds ++ passed_text ms (desks_after m ds)
 
 -- a jump: the snapshot is the base and the book, and the security is due at the first event end behind it
 abbrev pub desk_rebased : SnapshotContent → Desk → Desk
-desk_rebased s d = record { instrument = d.instrument; base = s.last; book = book_of_snapshot s; marked = true }
+desk_rebased s d = record { instrument = d.instrument; base = s.last; book = book_of_snapshot d.instrument.depth s; marked = true }
 
 abbrev pub desk_jumped : Option SnapshotContent → Desk → Desk
 desk_jumped None d = d

@@ -23,8 +23,8 @@ pub record Seen : Type 0 where
 -- the lines of a book where an event ends: direct, implied and consolidated, or the place of its fault
 abbrev pub book_lines : ℕ → ℕ → List ℕ → Book → List ℕ
 book_lines packet message name (Good sides) =
-    direct_line packet message name sides.bids sides.offers
-    ++ (implied_line packet message name sides.implied_bids sides.implied_offers
+    direct_line packet message name sides.bids.levels sides.offers.levels
+    ++ (implied_line packet message name sides.implied_bids.levels sides.implied_offers.levels
     ++ consolidated_line packet message name (quotes_of sides).bids (quotes_of sides).offers)
 book_lines packet message name (Fault place) = fault_line packet message name place
 

@@ -19,7 +19,7 @@ pub record Start : Type 0 where
   pub book : Book
 
 abbrev pub start_at_snapshot : Instrument → SnapshotContent → Start
-start_at_snapshot i snapshot = record { instrument = i; base = snapshot.last; jumped = true; book = book_of_snapshot snapshot }
+start_at_snapshot i snapshot = record { instrument = i; base = snapshot.last; jumped = true; book = book_of_snapshot i.depth snapshot }
 
 abbrev pub starts_at_jump : List Instrument → List SnapshotContent → List Start
 starts_at_jump [] snapshots = []
@@ -28,7 +28,7 @@ starts_at_jump (i ∷ is) (snapshot ∷ snapshots) = start_at_snapshot i snapsho
 
 -- before any jump
 abbrev pub starts_before_jump : List Instrument → List Start
-starts_before_jump listed = map (λ (i : Instrument). record { instrument = i; base = 0; jumped = false; book = empty_book }) listed
+starts_before_jump listed = map (λ (i : Instrument). record { instrument = i; base = 0; jumped = false; book = empty_book i.depth }) listed
 
 -- the last jump's starts, and the messages passed since
 pub record Standing : Type 0 where

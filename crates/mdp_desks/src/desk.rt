@@ -1,6 +1,7 @@
 //! A listed security: its book, moved forward in place, and its mark.
 
 ghost use Rattle.std.specs.Prelude.{◌≡◌, ◌++◌, IfOk, OnOk};
+ghost use Rattle.mdp_templates.specs.Instrument.{HasDepth};
 ghost use Rattle.mdp_desks.specs.Desks.{desk_at_start, desk_entered, desk_jumped, desk_rebased, desk_settled, desk_standing};
 ghost use Rattle.mdp_desks.specs.Lines.{text_of};
 ghost use Rattle.mdp_desks.specs.Reports.{told_list, told_there};
@@ -23,14 +24,16 @@ pub struct Desk {
 }
 
 impl Desk {
-    /// The desk of a security before any packet.
+    /// Makes the desk of a security before any packet.
     pub fn new(instrument: Instrument) -> Desk
+        requires { HasDepth instrument }
         ensures { result ≡ desk_at_start instrument }
     {
+        let book = Live::empty(instrument.depth);
         Desk {
             instrument,
             base: 0,
-            book: Live::empty(),
+            book,
             marked: false,
         }
     }
@@ -47,15 +50,17 @@ impl Desk {
 
     /// Takes a snapshot of the security as its base, and waits for the first event end behind it.
     pub fn rebase(&mut self, snapshot: &Snapshot)
+        requires { HasDepth self.old.instrument }
         ensures { self.new ≡ desk_rebased snapshot.now self.old }
     {
         self.marked = true;
         self.base = snapshot.last();
-        self.book = Live::of_snapshot(snapshot);
+        self.book = Live::of_snapshot(snapshot, self.instrument.depth);
     }
 
     /// Jumps to a snapshot of the security, if there is one.
     pub fn jump(&mut self, base: &Option<Snapshot>)
+        requires { HasDepth self.old.instrument }
         ensures { self.new ≡ desk_jumped base.now self.old }
     {
         if let Some(snapshot) = base {

@@ -1,7 +1,8 @@
 //! The desks of all listed securities.
 
-ghost use Rattle.std.specs.Prelude.{◌≡◌, ◌≢◌, ◌++◌, ◌≤◌, ℕ, AllPairs, IfOk, OnOk, IfSome, IfNone, Some, slice_get, map, length};
+ghost use Rattle.std.specs.Prelude.{◌≡◌, ◌≢◌, ◌++◌, ◌≤◌, ℕ, All, AllPairs, IfOk, OnOk, IfSome, IfNone, Some, slice_get, map, length};
 ghost use Rattle.std.specs.List.{flat_map};
+ghost use Rattle.mdp_templates.specs.Instrument.{HasDepth};
 ghost use Rattle.mdp_arbiter.specs.Channel.{ids_of};
 ghost use Rattle.mdp_desks.specs.Beside.{listed_in, marks_of};
 ghost use Rattle.mdp_desks.specs.Desks.{desk_at_start, desk_heard, desk_settled, desk_standing, desks_through, rebased_desks};
@@ -35,7 +36,7 @@ impl<A: Allocator> Model for Desks<A> {
     ghost invariant = { λ d. AreBeside d.desks.items d.slots d.marked };
 }
 
-// The place of the security that an entry names, if it is listed.
+// Tells the place of the security that an entry names, if it is listed.
 fn slot_named<A: Allocator + Copy>(slots: &Slots<A>, entry: &Entry) -> Option<usize>
     ensures some { IfSome result (λ slot. slice_get slots.now slot ≡ Some entry.now.security) }
     ensures none { IfNone result ((slot : ℕ) → slice_get slots.now slot ≡ Some entry.now.security → ⊥) }
@@ -105,7 +106,8 @@ fn settle_all<A: Allocator>(desks: &mut [Desk], marked: &mut Marked<A>, packet: 
 
 // Replaces each desk's book by the snapshot beside it, where there is one, and marks it.
 fn rebase_all<A: Allocator>(desks: &mut [Desk], marked: &mut Marked<A>, bases: &[Option<Snapshot>])
-    requires { marked.old ≡ marks_of desks.old }
+    requires marks { marked.old ≡ marks_of desks.old }
+    requires depths { All HasDepth (listed_in desks.old) }
     ensures desks { desks.new ≡ rebased_desks bases.now desks.old }
     ensures marks { marked.new ≡ marks_of desks.new }
 {
@@ -117,9 +119,10 @@ fn rebase_all<A: Allocator>(desks: &mut [Desk], marked: &mut Marked<A>, bases: &
 }
 
 impl<A: Allocator + Copy> Desks<A> {
-    /// Makes the desks of these securities, whose ids all differ, before any packet.
+    /// Makes the desks of these securities, whose ids all differ and whose depths are of their kind, before any packet.
     pub fn new(alloc: A, instruments: &[Instrument]) -> Result<Desks<A>, Memory>
-        requires { AllPairs (λ earlier later. earlier.id ≢ later.id) instruments.now }
+        requires differ { AllPairs (λ earlier later. earlier.id ≢ later.id) instruments.now }
+        requires depths { All HasDepth instruments.now }
         ensures { IfOk result (λ d. d ≡ map desk_at_start instruments.now) }
     {
         let slots = Slots::of(alloc, instruments)?;

@@ -2,13 +2,13 @@
 
 ghost use Rattle.mdp_desks.specs.ShareLaws.{LawOfMoments, LawOfShares};
 
-/// The lines of the moments, one moment after another, are the lines that the moves show.
+/// Proves that the lines of the moments, one moment after another, are the lines that the moves show.
 pub fn law_of_moments()
     ensures { LawOfMoments }
 {}
 
-/// A worker that has its own securities alone, and of each jump their snapshots alone, reports its part of each moment, whatever
-/// came before.
+/// Proves that a worker that has its own securities alone, and of each jump their snapshots alone, reports its part
+/// of each moment, whatever came before.
 pub fn law_of_shares()
     ensures { LawOfShares }
 {}

@@ -25,7 +25,7 @@ impl<A: Allocator> Model for Marked<A> {
     ghost invariant = { λ m. AreWithin m.low m.high m.marks.items };
 }
 
-// The place of the first mark that is set, from `low` on and below `high`; `high` where there is none.
+// Tells the place of the first mark that is set, from `low` on and below `high`; `high` where there is none.
 fn first_marked(marks: &[bool], low: usize, high: usize) -> usize
     requires { high ≤ length marks.now }
     ensures { (n : ℕ) → low ≤ n → n < result → get_or marks.now n false ≡ false }
@@ -39,7 +39,7 @@ fn first_marked(marks: &[bool], low: usize, high: usize) -> usize
 }
 
 impl<A: Allocator> Marked<A> {
-    /// So many marks, none of them set.
+    /// Makes so many marks, none of them set.
     pub fn none(alloc: A, count: usize) -> Result<Marked<A>, Memory>
         ensures { IfOk result (λ marked. marked ≡ replicate count false) }
     {
@@ -50,7 +50,7 @@ impl<A: Allocator> Marked<A> {
         })
     }
 
-    /// Whether the mark at a place is set.
+    /// Tells whether the mark at a place is set.
     pub fn is_set(&self, slot: usize) -> bool
         requires { slot < length self.now }
         ensures { result ≡ get_or self.now slot false }
@@ -58,14 +58,14 @@ impl<A: Allocator> Marked<A> {
         self.marks[slot]
     }
 
-    /// No mark below this place is set.
+    /// Tells a place below which no mark is set.
     pub fn low(&self) -> usize
         ensures { (n : ℕ) → n < result → get_or self.now n false ≡ false }
     {
         self.low
     }
 
-    /// No mark from this place on is set.
+    /// Tells a place from which on no mark is set.
     pub fn high(&self) -> usize
         ensures short { result ≤ length self.now }
         ensures behind { (n : ℕ) → result ≤ n → get_or self.now n false ≡ false }

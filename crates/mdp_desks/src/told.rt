@@ -45,28 +45,28 @@ impl<A: Allocator> ToldSecurity<A> {
         }
     }
 
-    /// The place of the security among the listed ones, from 0.
+    /// Tells the place of the security among the listed ones, from 0.
     pub fn slot(&self) -> u16
         ensures { result ≡ self.now.slot }
     {
         self.slot
     }
 
-    /// The lines of its book, as they are printed.
+    /// Lends the lines of its book, as they are printed.
     pub fn lines(&self) -> &[u8]
         ensures { result.now ≡ self.now.lines }
     {
         &self.lines
     }
 
-    /// Its best levels; none of a faulty book.
+    /// Gives its best levels; none of a faulty book.
     pub fn best(&self) -> Option<Best>
         ensures { result ≡ self.now.best }
     {
         self.best
     }
 
-    /// The top of its consolidated book; none of a faulty book.
+    /// Gives the top of its consolidated book; none of a faulty book.
     pub fn top(&self) -> Option<TopOfBook>
         ensures { result ≡ self.now.top }
     {

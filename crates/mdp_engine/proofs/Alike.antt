@@ -10,7 +10,7 @@ use Rattle.mdp_templates.specs.declared.instrument.Instrument.{Instrument}
 use Rattle.mdp_books.specs.Feed.{Sent, sent_by, book_from, book_at, behind}
 use Rattle.mdp_books.proofs.Feeds.{book_at-append}
 use Rattle.mdp_arbiter.specs.Accepted.{Event}
-use Rattle.mdp_arbiter.specs.Machine.{Move, State, start, after, after_all, trace, state_at}
+use Rattle.mdp_arbiter.specs.Machine.{Move, State, first_state, after, after_all, trace, state_at}
 use Rattle.mdp_arbiter.specs.Machine.Move.{passed, jumped}
 use Rattle.mdp_arbiter.specs.Channel.{Channel, ids_of, channel_of}
 use Rattle.mdp_desks.specs.declared.desk.Desk.{Desk}
@@ -139,16 +139,16 @@ record Ends (listed : List Instrument) (feed : List PacketContent) (next : ℕ) 
   pub listed_are : instruments (footings listed (steps_of moves)) ≡ listed
   pub text : shown_lines listed moves ≡ lines listed feed (steps_of moves)
 
-listed_channel : (listed : List Instrument) (channel : Channel) → channel.ids ≡ ids_of listed → channel ≡ channel_of listed channel.room
-listed_channel listed channel is = ap (λ (ids : List ℤ). record { room = channel.room; ids = ids }) is
+listed_channel : (listed : List Instrument) (channel : Channel) → channel.ids ≡ ids_of listed → channel ≡ channel_of listed channel.room channel.start
+listed_channel listed channel is = ap (λ (ids : List ℤ). record { room = channel.room; ids = ids; start = channel.start }) is
 
 ends : (listed : List Instrument) (feed : List PacketContent) (es : List Event) (v : View) → IsHonest listed feed es → IsSettled listed es v.arbiter → Ends listed feed v.arbiter.next (trace v.arbiter.channel es)
 ends listed feed es v honest settled =
     let moves = trace v.arbiter.channel es in
     let are : AreOf listed feed 1 moves =
-    subst (λ (c : Channel). AreOf listed feed 1 (trace c es)) (sym (listed_channel listed v.arbiter.channel settled.ids)) (honest_moves_agree listed feed v.arbiter.channel.room es honest) in
+    subst (λ (c : Channel). AreOf listed feed 1 (trace c es)) (sym (listed_channel listed v.arbiter.channel settled.ids)) (honest_moves_agree listed feed v.arbiter.channel.room v.arbiter.channel.start es honest) in
     let opened : Agrees feed 1 (footings_before_jump listed) (standing_after listed []) = record { starts = start_starts feed listed; same = start_same (starts_before_jump listed) } in
-    let there : Agrees feed (state_at v.arbiter.channel es).next (footings listed (steps_of moves)) (standing_after listed moves) = agrees_on listed feed [] moves (start v.arbiter.channel) honest.complete opened are in
+    let there : Agrees feed (state_at v.arbiter.channel es).next (footings listed (steps_of moves)) (standing_after listed moves) = agrees_on listed feed [] moves (first_state v.arbiter.channel) honest.complete opened are in
     let agrees : Agrees feed v.arbiter.next (footings listed (steps_of moves)) (standing_after listed moves) = subst (λ (s : State). Agrees feed s.next (footings listed (steps_of moves)) (standing_after listed moves)) (sym settled.state) there in
     record {
       fed = honest.complete;

@@ -1,10 +1,10 @@
 -- The recovery machine's moves ascend.
-use Rattle.std.proofs.Common.{◌≡◌, ◌≤◌, ◌<◌, ℕ, ◌+◌, zero, suc, List, [], ◌∷◌, ◌++◌, length, Option, Some, None, refl, ap, arith}
+use Rattle.std.proofs.Common.{◌≡◌, ◌≤◌, ℕ, ◌+◌, zero, suc, List, [], ◌∷◌, ◌++◌, length, Option, Some, None, refl, ap, arith}
 use Rattle.std.proofs.lemmas.List.{length-map}
 use Rattle.mdp_templates.specs.Snapshot.{SnapshotContent}
 use Rattle.mdp_templates.specs.declared.instrument.Instrument.{Instrument}
 use Rattle.mdp_arbiter.specs.Accepted.{Event, newest_snapshot, highest}
-use Rattle.mdp_arbiter.specs.Machine.{Move, State, start, next_move, after, after_all, moves, settle, go_on, IsRecovery}
+use Rattle.mdp_arbiter.specs.Machine.{Move, State, first_state, next_move, after, after_all, moves, settle, go_on, IsRecovery}
 use Rattle.mdp_arbiter.specs.Machine.Move.{passed, jumped}
 use Rattle.mdp_arbiter.specs.Channel.{Channel, channel_of}
 use Rattle.mdp_arbiter.proofs.Runs.{law_of_passes}
@@ -40,8 +40,7 @@ made (suc most) listed channel es s long first = by_move (next_move channel es s
         record { ascend = (law.0, first, rest.ascend); first = rest.first }
     by_move (Some (jumped old new ss)) is more =
         let law = law_of_jumps channel es s old new ss is in
-        let on : old < new = law.on in
-        let rest = more (after s (jumped old new ss)) (omega (arith, on)) in
+        let rest = more (after s (jumped old new ss)) law.begun in
         record { ascend = (many listed channel es s old new ss long law, rest.ascend); first = rest.first }
 
 go_ascends : (listed : List Instrument) (channel : Channel) (past : List Event) (s : State) (es : List Event) → length channel.ids ≡ length listed → 1 ≤ s.next → Ascend listed s.next (go_on channel past s es)
@@ -52,4 +51,4 @@ go_ascends listed channel past s (e ∷ es) long first =
     (go_ascends listed channel (past ++ e ∷ []) (after_all s (settle channel (past ++ e ∷ []) s)) es long here.first)
 
 pub law_of_ascent : LawOfAscent
-law_of_ascent listed room es = go_ascends listed (channel_of listed room) [] (start (channel_of listed room)) es (length-map listed (λ (i : Instrument). i.id)) (omega arith)
+law_of_ascent listed room from es = go_ascends listed (channel_of listed room from) [] (first_state (channel_of listed room from)) es (length-map listed (λ (i : Instrument). i.id)) (omega arith)

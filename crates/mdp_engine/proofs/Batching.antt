@@ -57,10 +57,10 @@ pub law_of_first_rounds : LawOfFirstRounds
 law_of_first_rounds listed rounds more = first_rounds listed (kept_at_start listed) rounds more
 
 pub law_of_runs : LawOfRuns
-law_of_runs n listed feed room es batches some differ honest cut =
+law_of_runs n listed feed room from es batches some differ honest cut =
     ap (collected_text listed) (law_of_batches n batches some ∙ ap (map (round_of n)) (sym cut))
-    ∙ law_of_workers n listed (trace (channel_of listed room) es) some differ (law_of_ascent listed room es)
-    ∙ shows_what_is_owed listed feed (trace (channel_of listed room) es) honest.complete (honest_moves_agree listed feed room es honest)
+    ∙ law_of_workers n listed (trace (channel_of listed room from) es) some differ (law_of_ascent listed room from es)
+    ∙ shows_what_is_owed listed feed (trace (channel_of listed room from) es) honest.complete (honest_moves_agree listed feed room from es honest)
 
 pub moments-append : (listed : List Instrument) (before moves more : List Move) → moments_after listed before (moves ++ more) ≡ moments_after listed before moves ++ moments_after listed (before ++ moves) more
 moments-append listed before [] more = ap (λ (b : List Move). moments_after listed b more) (sym (append-nil before))

@@ -8,7 +8,7 @@ use Rattle.mdp_templates.specs.declared.instrument.Instrument.{Instrument}
 use Rattle.mdp_books.specs.Feed.{sent_in}
 use Rattle.mdp_print.specs.Texts.{jump_line}
 use Rattle.mdp_arbiter.specs.Accepted.{Event, newest_snapshots, newest_snapshot}
-use Rattle.mdp_arbiter.specs.Machine.{State, Move, Settles, start, next_move, after, after_all, state_at, trace}
+use Rattle.mdp_arbiter.specs.Machine.{State, Move, Settles, first_state, next_move, after, after_all, state_at, trace}
 use Rattle.mdp_arbiter.specs.Machine.Move.{passed, jumped}
 use Rattle.mdp_arbiter.specs.Channel.{Channel, ids_of}
 use Rattle.mdp_arbiter.specs.Arbiter.{View as ArbiterView, state}
@@ -186,12 +186,12 @@ stands_further listed es e drained old mid new taken keeps channel desks held ke
 
 -- before any event
 pub stands_at_start : (listed : List Instrument) (arbiter : ArbiterView) (desks : List Desk) (v : View) → v.arbiter ≡ arbiter → v.desks ≡ desks → v.held ≡ []
-    → StandsAt [] arbiter → state arbiter ≡ start arbiter.channel → arbiter.channel.ids ≡ ids_of listed → desks ≡ map desk_at_start listed → Stands listed [] [] v
+    → StandsAt [] arbiter → state arbiter ≡ first_state arbiter.channel → arbiter.channel.ids ≡ ids_of listed → desks ≡ map desk_at_start listed → Stands listed [] [] v
 stands_at_start listed arbiter desks v arb ds held stands begins ids are = record {
   settled = record {
     stands = subst (StandsAt []) (sym arb) stands;
     ids = ap (λ (a : ArbiterView). a.channel.ids) arb ∙ ids;
-    state = ap state arb ∙ begins ∙ ap (λ (a : ArbiterView). start a.channel) (sym arb);
+    state = ap state arb ∙ begins ∙ ap (λ (a : ArbiterView). first_state a.channel) (sym arb);
   };
   shows = subst (λ (h : List ℕ). Shows listed [] v.desks h) (sym held) (shows_nothing listed v.desks (ds ∙ are));
 }

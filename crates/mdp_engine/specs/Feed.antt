@@ -21,10 +21,12 @@ pub record IsIn (feed : List PacketContent) (packet : PacketContent) : Type 0 wh
   pub first : 1 ≤ packet.number
   pub place : slice_get feed (packet.number - 1) ≡ Some packet
 
--- a snapshot's book is the complete feed's after its last packet
+-- a snapshot's book is the complete feed's after its last packet, and neither direct side is longer than it can be
 pub record IsSnapshotOf (feed : List PacketContent) (i : Instrument) (snapshot : SnapshotContent) : Type 0 where
   pub within : snapshot.last ≤ length feed
-  pub book : book_of_snapshot snapshot ≡ book_at i (sent_by (take snapshot.last feed))
+  pub short_bids : length snapshot.bids ≤ i.depth
+  pub short_offers : length snapshot.offers ≤ i.depth
+  pub book : book_of_snapshot i.depth snapshot ≡ book_at i (sent_by (take snapshot.last feed))
 
 -- a snapshot of the feed that leaves out no packet behind a jump to this number
 pub record IsJumpedTo (feed : List PacketContent) (next : ℕ) (i : Instrument) (snapshot : SnapshotContent) : Type 0 where

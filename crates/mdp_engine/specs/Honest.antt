@@ -4,6 +4,7 @@ use Rattle.std.specs.List.{AllByRecursion, Contains}
 use Rattle.mdp_templates.specs.Packet.{PacketContent}
 use Rattle.mdp_templates.specs.Snapshot.{SnapshotContent}
 use Rattle.mdp_templates.specs.declared.instrument.Instrument.{Instrument}
+use Rattle.mdp_arbiter.specs.declared.start.Start.{Start}
 use Rattle.mdp_arbiter.specs.Accepted.{Event, accepted_packets, accepted_snapshots, first_of, newest_snapshot}
 use Rattle.mdp_arbiter.specs.Machine.{trace}
 use Rattle.mdp_arbiter.specs.Channel.{ids_of, channel_of}
@@ -19,8 +20,8 @@ pub record IsHonest (listed : List Instrument) (feed : List PacketContent) (es :
 
 -- the moves of honest events are the complete feed's
 abbrev pub HonestMovesAgree : Type 0
-HonestMovesAgree = (listed : List Instrument) (feed : List PacketContent) (room : ℕ) (es : List Event)
-    → IsHonest listed feed es → AreOf listed feed 1 (trace (channel_of listed room) es)
+HonestMovesAgree = (listed : List Instrument) (feed : List PacketContent) (room : ℕ) (from : Start) (es : List Event)
+    → IsHonest listed feed es → AreOf listed feed 1 (trace (channel_of listed room from) es)
 
 -- Where each packet has a number that a complete feed can have, and no snapshot is of a listed security, there
 -- is a complete feed that the events agree with.

@@ -3,6 +3,7 @@ use Rattle.std.specs.Prelude.{Option, Some, None, ℕ, ◌+◌, ◌==◌, ◌||�
 use Rattle.std.specs.List.{flat_map, list_any}
 use Rattle.mdp_templates.specs.declared.instrument.Instrument.{Instrument}
 use Rattle.mdp_quotes.specs.declared.best.Best.{Best}
+use Rattle.mdp_templates.specs.Entry.{direct_depth}
 use Rattle.mdp_books.specs.Book.{empty_book}
 use Rattle.mdp_quotes.specs.Best.{best_of}
 use Rattle.mdp_print.specs.Texts.{jump_line}
@@ -40,7 +41,7 @@ abbrev pub kept_after : List Told → List (Option Best) → List (Option Best)
 kept_after ts kept = fold kept_with kept ts
 
 abbrev pub kept_at_start : List Instrument → List (Option Best)
-kept_at_start listed = map (λ _. best_of empty_book) listed
+kept_at_start listed = map (λ _. best_of (empty_book direct_depth)) listed
 
 abbrev pub best_kept : Option (Option Best) → Option Best
 best_kept None = None

@@ -38,14 +38,14 @@ fn put_verdicts<A: Allocator>(
     }
 }
 
-// Whether one of three marks is set.
+// Tells whether one of three marks is set.
 fn is_one_set(spread: bool, leg1: bool, leg2: bool) -> bool
     ensures { result ≡ (spread || leg1 || leg2) }
 {
     spread || leg1 || leg2
 }
 
-// Whether the packet stands behind the bases of all three.
+// Tells whether the packet stands behind the bases of all three.
 fn are_current(packet: u32, spread: &Desk, leg1: &Desk, leg2: &Desk) -> bool
     ensures { result ≡ (nat_lt spread.now.base packet && nat_lt leg1.now.base packet && nat_lt leg2.now.base packet) }
 {

@@ -19,7 +19,7 @@ ghost use Rattle.mdp_engine.specs.Steps.{event_of, stepped_desks, stepped_text};
 
 use crate::audited_desks::AuditedDesks;
 use crate::event::Event;
-use mdp_arbiter::{Arbiter, Step};
+use mdp_arbiter::{Arbiter, Start, Step};
 use mdp_templates::{Instrument, Memory, Packet};
 use mdp_window::{Put, Window};
 use std::alloc::Allocator;
@@ -53,27 +53,33 @@ impl<A: Allocator, W: Window<Packet<A>> + Drop> Model for Engine<A, W> {
 }
 
 impl<A: Allocator + Copy, W: Window<Packet<A>> + Drop> Engine<A, W> {
-    /// An engine that has taken in nothing. The instruments are fit, and the window begins at 1 and holds nothing.
-    pub fn new(alloc: A, instruments: &[Instrument], window: W) -> Result<Engine<A, W>, Memory>
+    /// Makes an engine that has taken in nothing. The instruments are fit, and the window begins at 1 and holds
+    /// nothing.
+    pub fn new(
+        alloc: A,
+        instruments: &[Instrument],
+        window: W,
+        start: Start,
+    ) -> Result<Engine<A, W>, Memory>
         requires fit { AreFit instruments.now }
         requires first { (W.view window).first ≡ 1 }
         requires empty { (W.view window).held ≡ map.empty }
         ensures stands { IfOk result (λ engine. Stands instruments.now [] [] engine) }
         ensures under { IfOk result (λ engine. (feed : List PacketContent) → IsFeed feed → StandsUnder instruments.now feed [] [] engine) }
         ensures channel { IfOk result (λ engine. engine.arbiter.channel
-            ≡ channel_of instruments.now (W.view window).room) }
+            ≡ channel_of instruments.now (W.view window).room start) }
         ensures sound { IfOk result (λ engine. engine.has_failed ≡ false) }
         ensures empty { IfOk result (λ engine. engine.held ≡ []) }
     {
         Ok(Engine {
-            arbiter: Arbiter::new(alloc, instruments, window)?,
+            arbiter: Arbiter::new(alloc, instruments, window, start)?,
             desks: AuditedDesks::new(alloc, instruments)?,
             held: Vec::new(alloc),
             has_failed: false,
         })
     }
 
-    /// The number of the packet that passes next, from 1 to 4294967296.
+    /// Tells the number of the packet that passes next, from 1 to 4294967296.
     pub fn next(&self) -> u64
         ensures next { result ≡ self.now.arbiter.next }
         ensures stands { (listed : List Instrument) (es : List Accepted) (drained : List ℕ) → Stands listed es drained self.now
@@ -82,7 +88,8 @@ impl<A: Allocator + Copy, W: Window<Packet<A>> + Drop> Engine<A, W> {
         self.arbiter.next()
     }
 
-    /// Whether the receiver is lost: a packet came that is so far ahead that the next one is given up.
+    /// Tells whether the receiver is lost: it has not joined the channel, or a packet came that is so far ahead that
+    /// the next one is given up.
     pub fn lost(&self) -> bool
         ensures now { result ≡ is_lost_now self.now.arbiter }
         ensures stands { (listed : List Instrument) (es : List Accepted) (drained : List ℕ) → Stands listed es drained self.now
@@ -220,7 +227,7 @@ impl<A: Allocator + Copy, W: Window<Packet<A>> + Drop> Engine<A, W> {
     }
 }
 
-/// The lines that these events owe, from an engine of its own. The conditions are those of [`Engine::new`].
+/// Gives the lines that these events owe, from an engine of its own. The conditions are those of [`Engine::new`].
 ///
 /// # Errors
 ///
@@ -230,15 +237,16 @@ pub fn replay<A: Allocator + Copy, W: Window<Packet<A>> + Drop>(
     events: &[Event<A>],
     instruments: &[Instrument],
     window: W,
+    start: Start,
 ) -> Result<Vec<u8, A>, Memory>
     requires fit { AreFit instruments.now }
     requires first { (W.view window).first ≡ 1 }
     requires empty { (W.view window).held ≡ map.empty }
     ensures { IfOk result (λ text. (feed : List PacketContent) → IsHonest instruments.now feed (map event_of events.now)
         → text.items ≡ lines instruments.now feed
-        (steps_of (trace (channel_of instruments.now (W.view window).room) (map event_of events.now)))) }
+        (steps_of (trace (channel_of instruments.now (W.view window).room start) (map event_of events.now)))) }
 {
-    let mut engine = Engine::new(alloc, instruments, window)?;
+    let mut engine = Engine::new(alloc, instruments, window, start)?;
     for event in events {
         engine.on(event.copy(alloc)?)?;
     }

@@ -19,7 +19,7 @@ pub enum Event<A: Allocator> {
 }
 
 impl<A: Allocator> Event<A> {
-    /// The event of a snapshot, or want of memory.
+    /// Makes the event of a snapshot, or answers want of memory.
     pub fn snapshot(alloc: A, snapshot: Snapshot) -> Result<Event<A>, Memory>
         ensures { IfOk result (λ event. event_of event ≡ recovered snapshot) }
     {
@@ -28,7 +28,7 @@ impl<A: Allocator> Event<A> {
 }
 
 impl<A: Allocator + Copy> Event<A> {
-    /// An equal event, or want of memory.
+    /// Makes an equal event, or answers want of memory.
     pub fn copy(&self, alloc: A) -> Result<Event<A>, Memory>
         ensures { IfOk result (λ event. event_of event ≡ event_of self.now) }
     {

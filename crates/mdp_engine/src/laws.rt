@@ -6,62 +6,63 @@ ghost use Rattle.mdp_engine.specs.Honest.{HonestMovesAgree, LawOfHonestFeeds};
 ghost use Rattle.mdp_engine.specs.Marks.{LawOfMarks};
 ghost use Rattle.mdp_engine.specs.RoundLaws.{LawOfAscent, LawOfBatches, LawOfCuts, LawOfFirstRounds, LawOfRuns, LawOfWorkers};
 
-/// Moves that are a complete feed's show exactly the lines that the feed owes.
+/// Proves that moves that are a complete feed's show exactly the lines that the feed owes.
 pub fn shows_what_is_owed()
     ensures { ShowsWhatIsOwed }
 {}
 
-/// The moves of events that agree with a complete feed are that feed's: each packet that passes is the feed's
-/// next, and each jump's snapshots are its books.
+/// Proves that the moves of events that agree with a complete feed are that feed's: each packet that passes is the
+/// feed's next, and each jump's snapshots are its books.
 pub fn honest_moves_agree()
     ensures { HonestMovesAgree }
 {}
 
-/// An engine whose events agree with a complete feed stands at what their moves show exactly where it stands at
-/// what the feed has.
+/// Proves that an engine whose events agree with a complete feed stands at what their moves show exactly where it
+/// stands at what the feed has.
 pub fn stands_alike()
     ensures { StandsAlike }
 {}
 
-/// There is a complete feed that the events agree with wherever each packet has a number that a feed can have, and
-/// no snapshot is of a listed security.
+/// Proves that there is a complete feed that the events agree with wherever each packet has a number that a feed can
+/// have, and no snapshot is of a listed security.
 pub fn honest_feeds_exist()
     ensures { LawOfHonestFeeds }
 {}
 
-/// When a security is due can be read off the whole feed or off what stands behind its base: it is the same.
+/// Proves that when a security is due can be read off the whole feed or off what stands behind its base: it is the
+/// same.
 pub fn marks_are_the_feeds()
     ensures { LawOfMarks }
 {}
 
-/// Whatever the number of workers, what the collector makes of their reports is what the moves show.
+/// Proves that whatever the number of workers, what the collector makes of their reports is what the moves show.
 pub fn law_of_workers()
     ensures { LawOfWorkers }
 {}
 
-/// The recovery machine's moves ascend, whatever came: packets pass in number order, and each jump has a snapshot of each
-/// listed security.
+/// Proves that the recovery machine's moves ascend, whatever came: packets pass in number order, and each jump has a
+/// snapshot of each listed security.
 pub fn law_of_ascent()
     ensures { LawOfAscent }
 {}
 
-/// Batches of reports are the rounds of all their moments, wherever they are cut.
+/// Proves that batches of reports are the rounds of all their moments, wherever they are cut.
 pub fn law_of_batches()
     ensures { LawOfBatches }
 {}
 
-/// What is made of the first rounds begins what is made of all.
+/// Proves that what is made of the first rounds begins what is made of all.
 pub fn law_of_first_rounds()
     ensures { LawOfFirstRounds }
 {}
 
-/// The moments of moves that come batch by batch are those of all of them.
+/// Proves that the moments of moves that come batch by batch are those of all of them.
 pub fn law_of_cuts()
     ensures { LawOfCuts }
 {}
 
-/// Whatever the number of workers and wherever their reports are cut into batches, the collector's text is the one that a
-/// complete feed owes which agrees with the events.
+/// Proves that whatever the number of workers and wherever their reports are cut into batches, the collector's text
+/// is the one that a complete feed owes which agrees with the events.
 pub fn law_of_runs()
     ensures { LawOfRuns }
 {}

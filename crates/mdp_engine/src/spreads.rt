@@ -15,14 +15,14 @@ pub struct Spread {
     pub leg2: usize,
 }
 
-// The place of the security with this id, if it is listed.
+// Tells the place of the security with this id, if it is listed.
 fn place_of<A: Allocator + Copy>(slots: &Slots<A>, id: i32) -> Option<usize>
     ensures { result ≡ slot_in slots.now id }
 {
     slots.slot_of(id)
 }
 
-// The spread of these places, where both legs have one.
+// Gives the spread of these places, where both legs have one.
 fn spread_at(slot: usize, leg1: Option<usize>, leg2: Option<usize>) -> Option<Spread>
     ensures { result ≡ spread_at slot leg1 leg2 }
 {
@@ -32,7 +32,7 @@ fn spread_at(slot: usize, leg1: Option<usize>, leg2: Option<usize>) -> Option<Sp
     }
 }
 
-// The places of an instrument and its legs, where it is a calendar spread whose legs are listed.
+// Gives the places of an instrument and its legs, where it is a calendar spread whose legs are listed.
 fn spread_of<A: Allocator + Copy>(
     slots: &Slots<A>,
     slot: usize,

@@ -6,6 +6,7 @@ ghost use Rattle.mdp_templates.specs.Instrument.{AreFit};
 
 use crate::{Engine, Event, replay};
 use arrayvec::{ArrayString, ArrayVec};
+use mdp_arbiter::Start;
 use mdp_templates::{
     Action, Entry, Instrument, InstrumentKind, Kind, Level, Memory, Message, Name, Packet,
     Snapshot, are_fit,
@@ -148,6 +149,7 @@ fn near() -> Result<[Instrument; 1], Fail>
         id: 1,
         name: Name::new(text),
         kind: InstrumentKind::Outright,
+        depth: 10,
     }];
     if !are_fit(&listed) {
         return Err("unfit".into());
@@ -220,7 +222,13 @@ fn text_of(alloc: Global, rows: &[Row]) -> Result<Vec<u8>, Memory> {
 /// Replays a table.
 fn replays(rt: &impl Abort, alloc: Global, rows: &[Row]) -> Result<(), Fail> {
     let events = events_of(alloc, rows)?;
-    let text = replay(alloc, &events, &near()?, MapWindow::new(alloc, 4))?;
+    let text = replay(
+        alloc,
+        &events,
+        &near()?,
+        MapWindow::new(alloc, 4),
+        Start::FromOne,
+    )?;
     assert_eq!(rt; text.as_slice(), text_of(alloc, rows)?.as_slice());
     Ok(())
 }
@@ -253,7 +261,7 @@ fn follow_all(
 
 /// Follows a table from a new engine.
 fn follows(rt: &impl Abort, alloc: Global, rows: &[Row]) -> Result<(), Fail> {
-    let mut engine = Engine::new(alloc, &near()?, MapWindow::new(alloc, 4))?;
+    let mut engine = Engine::new(alloc, &near()?, MapWindow::new(alloc, 4), Start::FromOne)?;
     follow_all(rt, alloc, &mut engine, rows)
 }
 

@@ -8,6 +8,8 @@ use Rattle.clap.specs.declared.builder.value_parser.ValueParser.{ValueParser}
 use Rattle.clap.specs.declared.builder.value_parser.ValueParser.TheVariants.{Signed}
 use Rattle.clap.specs.declared.error.kind.ErrorKind.{ErrorKind}
 use Rattle.clap.specs.declared.error.kind.ErrorKind.TheVariants as kind
+use Rattle.mdp_arbiter.specs.declared.start.Start.{Start}
+use Rattle.mdp_arbiter.specs.declared.start.Start.TheVariants.{FromOne, Join}
 use Rattle.mdp_handler.specs.declared.settings.Settings.{Settings}
 
 -- a number from 1 to `most`
@@ -34,10 +36,11 @@ plain = let app = new_app (codes "mdp_handler") in record app { top = record app
 -- the program with its options
 abbrev pub options : App
 options =
-    with_rule (with_rule (with_rule plain
+    with_rule (with_rule (with_rule (with_rule plain
     (option (codes "window") (up_to 65536) (codes "1024")))
     (option (codes "workers") (up_to 16) (codes "2")))
-    (flag (codes "in-order"))
+    (flag (codes "in-order")))
+    (flag (codes "join"))
 
 -- the words have options of the program alone, each at most once and with a value in its range
 abbrev pub AsksToRun : List Text → Type 0
@@ -75,11 +78,21 @@ IsFlag name words given =
     let read = one_of name (matches_of options words) in
     (read ≡ Some (codes "true") → given ≡ true) × (read ≡ Some (codes "false") → given ≡ false) × (read ≡ None → given ≡ false)
 
+-- where a run starts that joins a running channel, or doesn't
+abbrev pub start_asked : Bool → Start
+start_asked true = Join
+start_asked false = FromOne
+
+-- a run joins a running channel where the words say so
+abbrev pub IsStart : List Text → Start → Type 0
+IsStart words start = (joins : Bool) × IsFlag (codes "join") words joins × (start ≡ start_asked joins)
+
 -- the settings are those that the words give
 pub record AreSettings (words : List Text) (settings : Settings) : Type 0 where
   pub window : IsSetting (codes "window") 65536 1024 words settings.window
   pub workers : IsSetting (codes "workers") 16 2 words settings.workers
   pub in_order : IsFlag (codes "in-order") words settings.in_order
+  pub start : IsStart words settings.start
 
 -- a window that covers 1 to 65536 packet numbers, and 1 to 16 workers
 pub record AreLawful (settings : Settings) : Type 0 where

@@ -14,10 +14,10 @@ IsAskedFor capture in_order merge = in_order ≡ true → IsByLine capture.a cap
 abbrev pub HasPrinted : CaptureContent → Settings → List ℕ → List ℕ → Type 0
 HasPrinted capture settings before after =
     (text : List ℕ) × (next : ℕ) × (lost : Bool) × (merge : List Tagged) × (after ≡ before ++ text) × IsAskedFor capture settings.in_order merge
-    × Prints capture.instruments settings.window capture.a capture.b capture.s merge text next lost
+    × Prints capture.instruments settings.window settings.start capture.a capture.b capture.s merge text next lost
 
 -- The same where the run ended early, of a front of its text.
 abbrev pub HasBegun : CaptureContent → Settings → List ℕ → List ℕ → Type 0
 HasBegun capture settings before after =
     (merge : List Tagged) × IsAskedFor capture settings.in_order merge
-    × Begins capture.instruments settings.window capture.a capture.b capture.s merge before after
+    × Begins capture.instruments settings.window settings.start capture.a capture.b capture.s merge before after

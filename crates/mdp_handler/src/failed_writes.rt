@@ -21,7 +21,7 @@ const FAILURES: [Failure; 3] = [
     Failure::NoByte,
 ];
 
-// What is told of a write that failed behind so many bytes.
+// Tells what is told of a write that failed behind so many bytes.
 fn told(alloc: Global, written: usize) -> Result<Vec<u8>, Fail> {
     let mut text = Vec::new(alloc);
     text.extend_from_slice(b"42 Output after ")?;

@@ -42,7 +42,7 @@ pub fn tell_input<F: CountedWrite>(faults: &mut F)
     tell(faults, b"43 Input\n");
 }
 
-// The number and the name of a fault, and the line feed after them.
+// Gives the number and the name of a fault, and the line feed after them.
 fn fault_text(number: u8, name: &str) -> ShortText
     requires { length name.now ≤ 14 }
     ensures text { result ≡ decimal number ++ codes " " ++ name.now ++ codes "\n" }

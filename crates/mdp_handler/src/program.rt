@@ -30,7 +30,7 @@ pub const FAILED: u8 = 1;
 /// The exit status where the command line or the capture is refused.
 pub const REFUSED: u8 = 2;
 
-/// The program. It reads the command line `words`, of which the first is the program's name, then a capture from
+/// Runs the program: reads the command line `words`, of which the first is the program's name, then a capture from
 /// `input`, writes the text of the run to `output`, and tells what went wrong on `faults`. Answers the exit status:
 /// 0 for a run to the end and for help, 1 where memory ran out or a read or a write of the output failed, and 2 where
 /// the command line or the capture is refused; then nothing is written to `output`. Only where the words ask for a run
@@ -234,9 +234,9 @@ where
 {
     let instruments = capture.instruments();
     let (a, b, s) = (capture.a(), capture.b(), capture.s());
-    let window = settings.window;
+    let Settings { window, start, .. } = settings;
     if settings.in_order {
-        return run_in_order(alloc, instruments, a, b, s, window, output);
+        return run_in_order(alloc, instruments, a, b, s, window, start, output);
     }
     let workers = u16::from(settings.workers);
     run(
@@ -248,6 +248,7 @@ where
         s,
         workers,
         window,
+        start,
         &Open,
         output,
     )

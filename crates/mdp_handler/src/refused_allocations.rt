@@ -45,7 +45,7 @@ fn refuse_each<R: Threads + Wait + Sync + Abort>(
     Err("no run without a refused allocation".into())
 }
 
-// The same on one thread, and with 1, 2 and 3 workers.
+// Does the same on one thread, and with 1, 2 and 3 workers.
 fn refuse_each_all_ways<R: Threads + Wait + Sync + Abort>(
     rt: &R,
     alloc: Global,

@@ -2,10 +2,11 @@
 
 ghost use Rattle.std.specs.Prelude.{◌≡◌, ◌≤◌, IfOk, codes, false, map};
 ghost use Rattle.clap.specs.Words.{FailsBy, app_of, fault_of, rule_of};
-ghost use Rattle.mdp_handler.specs.CommandLine.{AreLawful, AreSettings, flag, option, options, up_to};
+ghost use Rattle.mdp_handler.specs.CommandLine.{AreLawful, AreSettings, flag, option, options, start_asked, up_to};
 
 use clap::builder::ValueParser;
 use clap::{Arg, ArgAction, Command, Error, value_parser};
+use mdp_arbiter::Start;
 use std::alloc::{AllocError, Global};
 
 /// What the command line asks for.
@@ -17,6 +18,8 @@ pub struct Settings {
     pub workers: u8,
     /// Whether one thread takes the records of all feeds in the order of their lines.
     pub in_order: bool,
+    /// Whether packet 1 is the first to pass, or the run joins a running channel by a jump.
+    pub start: Start,
 }
 
 const ABOUT: &str =
@@ -24,7 +27,8 @@ const ABOUT: &str =
 
 const MORE: &str = "\
 The capture is text, one record a line:
-  I ID NAME O            an outright
+  I ID NAME O            an outright with a direct book of ten levels
+  I ID NAME O DEPTH      the same with 1 to 10 levels
   I ID NAME C LEG1 LEG2  a calendar spread, leg 1 minus leg 2
   A HEX, B HEX           a datagram of incremental feed A or B
   S HEX                  a datagram of the snapshot feed
@@ -32,7 +36,9 @@ The capture is text, one record a line:
 Instruments come first. A datagram has at most 2,048 bytes. Each feed is read in a
 thread of its own, and of the two copies of a packet the one that comes first is
 used; with --in-order one thread takes all records in the order of their lines.
-The books are kept in --workers threads; how many changes no line.
+The books are kept in --workers threads; how many changes no line. With --join the
+capture may begin in the middle of a day: no packet is taken before snapshots of all
+securities have come.
 
 At each event end these lines are printed for each security that it names, and after
 a jump for each security at the first event end past its snapshot. K.J is the
@@ -45,11 +51,12 @@ and then, for each calendar spread of which the spread or a leg was printed, if 
 three are past their snapshots and none has a fault:
   A K.J NAME bid VERDICT offer VERDICT
                                 its implied quotes against what its legs make
-Where packets are lost and snapshots of all securities make up for them, J OLD NEW
-is printed: packet OLD would have come next, and now it is packet NEW.
+Where packets are lost and snapshots of all securities make up for them, and where
+--join takes the first snapshots, J OLD NEW is printed: packet OLD would have come
+next, and now it is packet NEW.
 After these comes X FEED LINE NUMBER NAME for each refused datagram, and at the
 end Z NEXT live, or Z NEXT lost where a packet came --window or more ahead of NEXT,
-which is the number of the packet that would come next.
+which is the number of the packet that would come next, or where --join still waits.
 Prices are in units of 10^-9.
 
 Example, which begins with a bid of 5 at a price of 100:
@@ -66,7 +73,7 @@ Exit status, with the text on standard error:
   2  a fault of the command line, or a capture that is refused, as
      'line 2: 31 DuplicateId'";
 
-// An option with a value.
+// Makes an option with a value.
 fn number_arg<'a>(
     alloc: Global,
     name: &'a str,
@@ -85,7 +92,7 @@ fn number_arg<'a>(
         .default_value(default)
 }
 
-// The option `--window`.
+// Makes the option `--window`.
 fn window_arg<'a>(alloc: Global) -> Arg<'a>
     ensures rule { rule_of result ≡ option (codes "window") (up_to 65536) (codes "1024") }
     ensures own { result.global ≡ false }
@@ -95,7 +102,7 @@ fn window_arg<'a>(alloc: Global) -> Arg<'a>
     number_arg(alloc, "window", range, "1024", help)
 }
 
-// The option `--workers`.
+// Makes the option `--workers`.
 fn workers_arg<'a>(alloc: Global) -> Arg<'a>
     ensures rule { rule_of result ≡ option (codes "workers") (up_to 16) (codes "2") }
     ensures own { result.global ≡ false }
@@ -105,7 +112,7 @@ fn workers_arg<'a>(alloc: Global) -> Arg<'a>
     number_arg(alloc, "workers", range, "2", help)
 }
 
-// The flag `--in-order`.
+// Makes the flag `--in-order`.
 fn in_order_arg<'a>(alloc: Global) -> Arg<'a>
     ensures rule { rule_of result ≡ flag (codes "in-order") }
     ensures own { result.global ≡ false }
@@ -116,7 +123,18 @@ fn in_order_arg<'a>(alloc: Global) -> Arg<'a>
         .action(ArgAction::SetTrue)
 }
 
-// The command line that is understood.
+// Makes the flag `--join`.
+fn join_arg<'a>(alloc: Global) -> Arg<'a>
+    ensures rule { rule_of result ≡ flag (codes "join") }
+    ensures own { result.global ≡ false }
+{
+    Arg::new(alloc, "join")
+        .long("join")
+        .help("Join a running channel: take no packet before a first jump")
+        .action(ArgAction::SetTrue)
+}
+
+// Makes the command line that is understood.
 fn command<'a>(alloc: Global) -> Result<Command<'a>, AllocError>
     ensures { IfOk result (λ command. app_of command ≡ options) }
 {
@@ -126,7 +144,15 @@ fn command<'a>(alloc: Global) -> Result<Command<'a>, AllocError>
         .after_help(MORE)
         .arg(window_arg(alloc))?
         .arg(workers_arg(alloc))?
-        .arg(in_order_arg(alloc))
+        .arg(in_order_arg(alloc))?
+        .arg(join_arg(alloc))
+}
+
+// Tells where a run starts that joins a running channel, or doesn't.
+fn start_of(joins: bool) -> Start
+    ensures { result ≡ start_asked joins }
+{
+    if joins { Start::Join } else { Start::FromOne }
 }
 
 /// Reads the command line, of which the first word is the program's name.
@@ -147,5 +173,6 @@ pub fn read_settings(alloc: Global, words: &[&str]) -> Result<Settings, Error>
         window: window.clamp(1, 65536),
         workers: workers.clamp(1, 16),
         in_order: matches.get_flag("in-order"),
+        start: start_of(matches.get_flag("join")),
     })
 }

@@ -5,6 +5,7 @@ ghost use Rattle.std.specs.Prelude.{◌<◌, ◌-◌, ◌^◌};
 use crate::program::program;
 use crate::settings::{Settings, read_settings};
 use clap::error::ErrorKind as ClapKind;
+use mdp_arbiter::Start;
 use mdp_capture::{CountedRead, CountingReader};
 use refusing::Refusing;
 use std::alloc::Global;
@@ -14,12 +15,7 @@ use std::process::Abort;
 use std::sync::Wait;
 use std::test::Fail;
 use std::thread::Threads;
-use worked_runs::{Failure, Kept};
-
-const CAPTURE: &[u8] =
-    b"I 1 NEAR O\nA 01000000000000000000000038000b002e000100090000000000000000008000002000016400000000000000050000000100000000000000010000000100300000000000\n";
-
-const TEXT: &[u8] = b"D 1.1 NEAR B 100x5 O\nI 1.1 NEAR B O\nC 1.1 NEAR B 100x5 O\nZ 2 live\n";
+use worked_runs::{Failure, Kept, PLAIN, PLAIN_TEXT};
 
 const WORDS: &[&str] = &["mdp_handler", "--in-order"];
 
@@ -54,7 +50,7 @@ fn a_failed_read_prints_nothing(rt: HostRuntime) -> Result<(), Fail> {
     let mut failed = 0u64;
     for fail_at in 1..100u64 {
         let mut input = CountingReader::new(Halting {
-            rest: CAPTURE,
+            rest: PLAIN,
             most: 10,
             calls: 0,
             fail_at,
@@ -72,7 +68,7 @@ fn a_failed_read_prints_nothing(rt: HostRuntime) -> Result<(), Fail> {
         );
         if status == 0 {
             assert_eq!(rt; input.failures(), 0);
-            assert_eq!(rt; output.bytes.as_slice(), TEXT);
+            assert_eq!(rt; output.bytes.as_slice(), PLAIN_TEXT);
             assert_eq!(rt; faults.bytes.as_slice(), b"".as_slice());
             break;
         }
@@ -90,7 +86,7 @@ fn a_failed_read_prints_nothing(rt: HostRuntime) -> Result<(), Fail> {
 fn a_failed_write_tells_what_went_out(rt: HostRuntime) -> Result<(), Fail> {
     let alloc = rt.alloc();
     for words in RUNS {
-        let mut input = CountingReader::new(CAPTURE);
+        let mut input = CountingReader::new(PLAIN);
         let mut output = Kept::slow(alloc, 1, 30, Failure::Error(ErrorKind::Other));
         let mut faults = Kept::new(alloc);
         let status = program(
@@ -103,8 +99,8 @@ fn a_failed_write_tells_what_went_out(rt: HostRuntime) -> Result<(), Fail> {
             &mut faults,
         );
         assert_eq!(rt; status, 1);
-        assert_eq!(rt; TEXT.len(), 66);
-        assert_eq!(rt; output.bytes.as_slice(), &TEXT[..29]);
+        assert_eq!(rt; PLAIN_TEXT.len(), 66);
+        assert_eq!(rt; output.bytes.as_slice(), &PLAIN_TEXT[..29]);
         assert_eq!(rt; output.calls, 30);
         assert_eq!(rt;
             faults.bytes.as_slice(),
@@ -119,7 +115,7 @@ fn each_refused_allocation_ends_the_run(rt: HostRuntime) -> Result<(), Fail> {
     let mut refused = 0u64;
     for number in 1..1000u64 {
         let heap = Refusing::new(rt.alloc(), number);
-        let mut input = CountingReader::new(CAPTURE);
+        let mut input = CountingReader::new(PLAIN);
         let mut output = Kept::new(rt.alloc());
         let mut faults = Kept::new(rt.alloc());
         let status = program(
@@ -134,13 +130,13 @@ fn each_refused_allocation_ends_the_run(rt: HostRuntime) -> Result<(), Fail> {
         let printed = output.bytes.as_slice();
         if !heap.has_refused() {
             assert_eq!(rt; status, 0);
-            assert_eq!(rt; printed, TEXT);
+            assert_eq!(rt; printed, PLAIN_TEXT);
             break;
         }
         refused = number;
         assert_eq!(rt; status, 1);
         assert_eq!(rt; faults.bytes.as_slice(), b"41 Memory\n".as_slice());
-        assert!(rt; TEXT.starts_with(printed));
+        assert!(rt; PLAIN_TEXT.starts_with(printed));
     }
     assert!(rt; refused > 5);
     Ok(())
@@ -218,7 +214,7 @@ fn help_reads_nothing_and_shows_each_option(rt: HostRuntime) -> Result<(), Fail>
     let alloc = rt.alloc();
     let words = ["mdp_handler", "--window", "3", "--help"];
     let mut input = CountingReader::new(Halting {
-        rest: CAPTURE,
+        rest: PLAIN,
         most: 1,
         calls: 0,
         fail_at: 1,
@@ -237,7 +233,13 @@ fn help_reads_nothing_and_shows_each_option(rt: HostRuntime) -> Result<(), Fail>
     assert_eq!(rt; status, 0);
     assert_eq!(rt; input.failures(), 0);
     assert_eq!(rt; faults.calls, 0);
-    for option in ["--window <N>", "--workers <N>", "--in-order", "--version"] {
+    for option in [
+        "--window <N>",
+        "--workers <N>",
+        "--in-order",
+        "--join",
+        "--version",
+    ] {
         assert!(rt;
             output
                 .bytes
@@ -270,7 +272,7 @@ fn the_version_is_shown(rt: HostRuntime) -> Result<(), Fail> {
     let mut output = Kept::new(alloc);
     let mut faults = Kept::new(alloc);
     assert_eq!(rt;
-        run_over(&rt, alloc, &words, CAPTURE, &mut output, &mut faults),
+        run_over(&rt, alloc, &words, PLAIN, &mut output, &mut faults),
         0
     );
     assert_eq!(rt; output.bytes.as_slice(), b"mdp_handler 0.1.0\n".as_slice());
@@ -285,7 +287,7 @@ fn a_fault_of_the_command_line_is_told_alone(rt: HostRuntime) -> Result<(), Fail
     let mut output = Kept::new(alloc);
     let mut faults = Kept::new(alloc);
     assert_eq!(rt;
-        run_over(&rt, alloc, &words, CAPTURE, &mut output, &mut faults),
+        run_over(&rt, alloc, &words, PLAIN, &mut output, &mut faults),
         2
     );
     assert_eq!(rt; output.calls, 0);
@@ -340,16 +342,27 @@ fn skipped_lines_are_told_in_their_order(rt: HostRuntime) -> Result<(), Fail> {
 #[test]
 fn the_words_give_the_settings(rt: HostRuntime) -> Result<(), Fail> {
     let alloc = rt.alloc();
-    let lines: [(&[&str], Settings); 4] = [
-        (&["mdp_handler"], settings(1024, 2, false)),
-        (&["mdp_handler", "--window", "3"], settings(3, 2, false)),
+    let lines: [(&[&str], Settings); 6] = [
+        (&["mdp_handler"], settings(1024, 2, false, Start::FromOne)),
+        (
+            &["mdp_handler", "--window", "3"],
+            settings(3, 2, false, Start::FromOne),
+        ),
         (
             &["mdp_handler", "--in-order", "--workers=16"],
-            settings(1024, 16, true),
+            settings(1024, 16, true, Start::FromOne),
         ),
         (
             &["mdp_handler", "--window=65536", "--workers", "1"],
-            settings(65536, 1, false),
+            settings(65536, 1, false, Start::FromOne),
+        ),
+        (
+            &["mdp_handler", "--join"],
+            settings(1024, 2, false, Start::Join),
+        ),
+        (
+            &["mdp_handler", "--in-order", "--join", "--window=4"],
+            settings(4, 2, true, Start::Join),
         ),
     ];
     for (words, wanted) in lines {
@@ -358,18 +371,19 @@ fn the_words_give_the_settings(rt: HostRuntime) -> Result<(), Fail> {
     Ok(())
 }
 
-fn settings(window: u32, workers: u8, in_order: bool) -> Settings {
+fn settings(window: u32, workers: u8, in_order: bool, start: Start) -> Settings {
     Settings {
         window,
         workers,
         in_order,
+        start,
     }
 }
 
 #[test]
 fn words_that_are_no_settings(rt: HostRuntime) -> Result<(), Fail> {
     let alloc = rt.alloc();
-    let lines: [(&[&str], ClapKind); 7] = [
+    let lines: [(&[&str], ClapKind); 9] = [
         (&["mdp_handler", "--window", "0"], ClapKind::ValueValidation),
         (
             &["mdp_handler", "--window=65537"],
@@ -379,6 +393,11 @@ fn words_that_are_no_settings(rt: HostRuntime) -> Result<(), Fail> {
             &["mdp_handler", "--workers", "17"],
             ClapKind::ValueValidation,
         ),
+        (
+            &["mdp_handler", "--join", "--window", "0"],
+            ClapKind::ValueValidation,
+        ),
+        (&["mdp_handler", "--join=yes"], ClapKind::TooManyValues),
         (&["mdp_handler", "--workers"], ClapKind::InvalidValue),
         (&["mdp_handler", "capture"], ClapKind::UnknownArgument),
         (&["mdp_handler", "--help"], ClapKind::DisplayHelp),

@@ -65,7 +65,7 @@ impl Board {
     }
 }
 
-// A copy on which nothing was published.
+// Makes a copy on which nothing was published.
 fn blank<A: Allocator + Copy>(alloc: A, slots: usize, front: &Front) -> Result<Sheet<A>, Memory>
     ensures { IfOk result (λ sheet. (sheet.rows.items ≡ replicate slots Never) × (sheet.length ≡ 0) × (sheet.front ≡ front.now)) }
 {
@@ -77,7 +77,7 @@ fn blank<A: Allocator + Copy>(alloc: A, slots: usize, front: &Front) -> Result<S
     })
 }
 
-// An update that changes no row.
+// Makes an update that changes no row.
 fn unchanged<A: Allocator + Copy>(alloc: A, front: &Front) -> Update<A>
     ensures rows { (rows : List Row) → changed_rows rows result.change ≡ rows }
     ensures none { (result.length ≡ 0) × (result.front ≡ front.now) }

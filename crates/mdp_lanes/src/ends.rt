@@ -7,7 +7,7 @@ pub trait Ends: Drop {
     /// Whether it is the last item of its sender.
     ghost is_end: { Self → Bool };
 
-    /// Whether it is the last item of its sender.
+    /// Tells whether it is the last item of its sender.
     fn is_end(&self) -> bool
         ensures { result ≡ is_end self.now };
 }

@@ -128,7 +128,7 @@ impl<I: Ends, A: Allocator + Copy> Model for IntakeReceiver<I, A> {
 }
 
 impl<I: Ends, A: Allocator + Copy> IntakeSender<I, A> {
-    /// Whether it has put its last item.
+    /// Tells whether it has put its last item.
     pub fn ended(&self) -> bool
         ensures { result ≡ list_any I.is_end self.now.sent }
     {
@@ -148,7 +148,7 @@ impl<I: Ends, A: Allocator + Copy> IntakeSender<I, A> {
 }
 
 impl<I: Ends, A: Allocator + Copy> IntakeReceiver<I, A> {
-    /// How many last items it has taken, of 3 senders at most.
+    /// Tells how many last items it has taken, of 3 senders at most.
     pub fn ends(&self) -> u8
         ensures count { result ≡ ends_taken I.is_end self.now.taken }
         ensures most { result ≤ 3 }
@@ -175,8 +175,8 @@ pub struct Intake<I> {
 }
 
 impl<I: Ends> Intake<I> {
-    /// The senders with the tags A, B and S, and the receiver, of an empty queue with room for this many items, 1 to
-    /// 65536. It takes all of the queue's memory, or answers `Memory`; no other call takes any.
+    /// Makes the senders with the tags A, B and S, and the receiver, of an empty queue with room for this many items,
+    /// 1 to 65536. It takes all of the queue's memory, or answers `Memory`; no other call takes any.
     pub fn new<A: Allocator + Copy>(
         alloc: A,
         capacity: usize,

@@ -136,8 +136,8 @@ pub struct Lane<T> {
 }
 
 impl<T: Drop> Lane<T> {
-    /// The sender and the receiver of an empty queue with room for this many items, 1 to 65536. It takes all of the
-    /// queue's memory, or answers `Memory`; no other call takes any.
+    /// Makes the sender and the receiver of an empty queue with room for this many items, 1 to 65536. It takes all of
+    /// the queue's memory, or answers `Memory`; no other call takes any.
     pub fn new<A: Allocator + Copy>(
         alloc: A,
         capacity: usize,

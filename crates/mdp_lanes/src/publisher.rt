@@ -141,7 +141,7 @@ impl<A: Allocator + Copy> Publisher<A> {
         Ok(())
     }
 
-    /// A token of all that was published. A reader that learns it never shows less from then on.
+    /// Makes a token of all that was published. A reader that learns it never shows less from then on.
     pub fn tell(&mut self) -> Told
         ensures told { result ≡ self.old }
         ensures same { self.new ≡ self.old }

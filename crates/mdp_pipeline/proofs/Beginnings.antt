@@ -13,6 +13,7 @@ use Rattle.mdp_templates.specs.declared.instrument.Instrument.{Instrument}
 use Rattle.mdp_templates.proofs.OneAnswer.{one_packet, one_datagram}
 use Rattle.mdp_templates.specs.declared.feed.Feed.{Feed}
 use Rattle.mdp_capture.specs.Record.{RecordContent, Received, Datagram, Close}
+use Rattle.mdp_arbiter.specs.declared.start.Start.{Start}
 use Rattle.mdp_arbiter.specs.Accepted.{Event, came, recovered, closed}
 use Rattle.mdp_arbiter.specs.Machine.{state_at, trace, go_on}
 use Rattle.mdp_arbiter.specs.Channel.{Channel, channel_of}
@@ -68,54 +69,54 @@ readings-append arrivals left readings more are later = record {
 
 -- ---- the text of the whole
 
-abbrev end_of : List Instrument → ℕ → List Reading → List ℕ
-end_of listed room readings = end_lines listed room (refusals_text (by_feed readings)) (events_of readings)
+abbrev end_of : List Instrument → ℕ → Start → List Reading → List ℕ
+end_of listed room from readings = end_lines listed room from (refusals_text (by_feed readings)) (events_of readings)
 
-abbrev text_of : List Instrument → ℕ → List Reading → List ℕ
-text_of listed room readings = shown_output listed room (refusals_text (by_feed readings)) (events_of readings)
+abbrev text_of : List Instrument → ℕ → Start → List Reading → List ℕ
+text_of listed room from readings = shown_output listed room from (refusals_text (by_feed readings)) (events_of readings)
 
-text_prints : (listed : List Instrument) (room : ℕ) (arrivals : List Arrival) (readings : List Reading) → AreReadings arrivals readings
-    → PrintsAll listed room arrivals (text_of listed room readings) (next_after listed room (events_of readings)) (is_lost_after listed room (events_of readings))
-text_prints listed room arrivals readings are = record { readings = readings; are = are; next_is = refl; lost_is = refl; shown = refl }
+text_prints : (listed : List Instrument) (room : ℕ) (from : Start) (arrivals : List Arrival) (readings : List Reading) → AreReadings arrivals readings
+    → PrintsAll listed room from arrivals (text_of listed room from readings) (next_after listed room from (events_of readings)) (is_lost_after listed room from (events_of readings))
+text_prints listed room from arrivals readings are = record { readings = readings; are = are; next_is = refl; lost_is = refl; shown = refl }
 
 -- what is shown of the readings behind these ones
-abbrev shown_later : List Instrument → ℕ → List Reading → List Reading → List ℕ
-shown_later listed room readings more =
-    let moves = moves_of listed room (events_of readings) in
-    shown_lines_after listed moves (go_on (channel_of listed room) (events_of readings) (state_at (channel_of listed room) (events_of readings)) (events_of more))
+abbrev shown_later : List Instrument → ℕ → Start → List Reading → List Reading → List ℕ
+shown_later listed room from readings more =
+    let moves = moves_of listed room from (events_of readings) in
+    shown_lines_after listed moves (go_on (channel_of listed room from) (events_of readings) (state_at (channel_of listed room from) (events_of readings)) (events_of more))
 
-shown-front : (listed : List Instrument) (room : ℕ) (readings more : List Reading) → shown_lines listed (moves_of listed room (events_of (readings ++ more))) ≡ shown_lines listed (moves_of listed room (events_of readings)) ++ shown_later listed room readings more
-shown-front listed room readings more =
+shown-front : (listed : List Instrument) (room : ℕ) (from : Start) (readings more : List Reading) → shown_lines listed (moves_of listed room from (events_of (readings ++ more))) ≡ shown_lines listed (moves_of listed room from (events_of readings)) ++ shown_later listed room from readings more
+shown-front listed room from readings more =
     let es = events_of readings in
-    let later = go_on (channel_of listed room) es (state_at (channel_of listed room) es) (events_of more) in
-    ap (λ (t : List Event). shown_lines listed (trace (channel_of listed room) t)) (flat_map-append (λ (r : Reading). brought_by r.said) readings more)
-    ∙ ap (shown_lines listed) (law_of_fronts (channel_of listed room) es (events_of more))
-    ∙ shown_lines_after-append listed [] (moves_of listed room (events_of readings)) later
+    let later = go_on (channel_of listed room from) es (state_at (channel_of listed room from) es) (events_of more) in
+    ap (λ (t : List Event). shown_lines listed (trace (channel_of listed room from) t)) (flat_map-append (λ (r : Reading). brought_by r.said) readings more)
+    ∙ ap (shown_lines listed) (law_of_fronts (channel_of listed room from) es (events_of more))
+    ∙ shown_lines_after-append listed [] (moves_of listed room from (events_of readings)) later
 
 -- ---- a beginning
 
 -- Nothing went out.
-pub begins_none : (listed : List Instrument) (room : ℕ) (arrivals : List Arrival) (taken : List ℕ) → BeginsAll listed room arrivals taken taken
-begins_none listed room arrivals taken =
+pub begins_none : (listed : List Instrument) (room : ℕ) (from : Start) (arrivals : List Arrival) (taken : List ℕ) → BeginsAll listed room from arrivals taken taken
+begins_none listed room from arrivals taken =
     let readings = readings_exist arrivals in
     record {
-      text = text_of listed room readings.0;
-      next = next_after listed room (events_of readings.0);
-      lost = is_lost_after listed room (events_of readings.0);
-      prints = text_prints listed room arrivals readings.0 readings.1;
+      text = text_of listed room from readings.0;
+      next = next_after listed room from (events_of readings.0);
+      lost = is_lost_after listed room from (events_of readings.0);
+      prints = text_prints listed room from arrivals readings.0 readings.1;
       sent = [];
-      rest = text_of listed room readings.0;
+      rest = text_of listed room from readings.0;
       taken_is = sym (append-nil taken);
       whole = refl;
     }
 
 -- the text of all readings, where so much was sent of what the first ones show, and so much is held
-text_begins : (listed : List Instrument) (room : ℕ) (readings more : List Reading) (sent held : List ℕ) (n : ℕ) → sent ++ held ≡ shown_lines listed (moves_of listed room (events_of readings))
-    → text_of listed room (readings ++ more) ≡ (sent ++ take n held) ++ (drop n held ++ (shown_later listed room readings more ++ end_of listed room (readings ++ more)))
-text_begins listed room readings more sent held n shown =
-    let later = shown_later listed room readings more in
-    let end = end_of listed room (readings ++ more) in
-    ap (λ (t : List ℕ). t ++ end) (shown-front listed room readings more)
+text_begins : (listed : List Instrument) (room : ℕ) (from : Start) (readings more : List Reading) (sent held : List ℕ) (n : ℕ) → sent ++ held ≡ shown_lines listed (moves_of listed room from (events_of readings))
+    → text_of listed room from (readings ++ more) ≡ (sent ++ take n held) ++ (drop n held ++ (shown_later listed room from readings more ++ end_of listed room from (readings ++ more)))
+text_begins listed room from readings more sent held n shown =
+    let later = shown_later listed room from readings more in
+    let end = end_of listed room from (readings ++ more) in
+    ap (λ (t : List ℕ). t ++ end) (shown-front listed room from readings more)
     ∙ ap (λ (t : List ℕ). (t ++ later) ++ end) (sym shown)
     ∙ append_assoc (sent ++ held) later end
     ∙ ap (λ (t : List ℕ). (sent ++ t) ++ (later ++ end)) (sym (take-append-drop n held))
@@ -123,43 +124,43 @@ text_begins listed room readings more sent held n shown =
     ∙ append_assoc (sent ++ take n held) (drop n held) (later ++ end)
 
 -- The first records were taken, and of the text that is held so many bytes went out.
-pub begins_so_far : (listed : List Instrument) (room : ℕ) (arrivals done left : List Arrival) (start taken taken' : List ℕ) (engine : View) (held : List ℕ) (refusals : RefusalTexts) (n : ℕ)
-    → arrivals ≡ done ++ left → taken' ≡ taken ++ take n held → Writes listed room done start taken engine held refusals → BeginsAll listed room arrivals start taken'
-begins_so_far listed room arrivals done left start taken taken' engine held refusals n parts went so_far =
+pub begins_so_far : (listed : List Instrument) (room : ℕ) (from : Start) (arrivals done left : List Arrival) (start taken taken' : List ℕ) (engine : View) (held : List ℕ) (refusals : RefusalTexts) (n : ℕ)
+    → arrivals ≡ done ++ left → taken' ≡ taken ++ take n held → Writes listed room from done start taken engine held refusals → BeginsAll listed room from arrivals start taken'
+begins_so_far listed room from arrivals done left start taken taken' engine held refusals n parts went so_far =
     let readings = so_far.over.readings in
     let more = readings_exist left in
     let all = readings ++ more.0 in
     let run = so_far.over.run in
     let front = so_far.sent ++ held in
-    let shown : front ≡ shown_lines listed (moves_of listed room (events_of readings)) =
+    let shown : front ≡ shown_lines listed (moves_of listed room from (events_of readings)) =
     sym (append-nil front) ∙ ap (λ (t : List ℕ). front ++ t) (sym run.drained) ∙ run.stands.shows.text_is
     ∙ ap (λ (c : Channel). shown_lines listed (trace c (events_of readings))) run.channel in
     record {
-      text = text_of listed room all;
-      next = next_after listed room (events_of all);
-      lost = is_lost_after listed room (events_of all);
-      prints = text_prints listed room arrivals all (subst (λ (t : List Arrival). AreReadings t all) (sym parts) (readings-append done left readings more.0 so_far.over.are more.1));
+      text = text_of listed room from all;
+      next = next_after listed room from (events_of all);
+      lost = is_lost_after listed room from (events_of all);
+      prints = text_prints listed room from arrivals all (subst (λ (t : List Arrival). AreReadings t all) (sym parts) (readings-append done left readings more.0 so_far.over.are more.1));
       sent = so_far.sent ++ take n held;
-      rest = drop n held ++ (shown_later listed room readings more.0 ++ end_of listed room all);
+      rest = drop n held ++ (shown_later listed room from readings more.0 ++ end_of listed room from all);
       taken_is = went ∙ ap (λ (t : List ℕ). t ++ take n held) so_far.taken_is ∙ append_assoc start so_far.sent (take n held);
-      whole = text_begins listed room readings more.0 so_far.sent held n shown;
+      whole = text_begins listed room from readings more.0 so_far.sent held n shown;
     }
 
 -- ---- a run
 
 -- a run whose records are not all taken
-pub taken_begins : (listed : List Instrument) (room : ℕ) (a b s : List RecordContent) (start taken : List ℕ) (engine : View) (held : List ℕ) (refusals : RefusalTexts) (a' b' s' : List RecordContent)
-    → HasTaken listed room a b s start taken engine held refusals a' b' s' → BeginsAll listed room (in_order a b s) start taken
-taken_begins listed room a b s start taken engine held refusals a' b' s' so_far =
-    begins_so_far listed room (in_order a b s) so_far.done (in_order a' b' s') start taken taken engine held refusals 0 so_far.left (sym (append-nil taken)) so_far.writes
+pub taken_begins : (listed : List Instrument) (room : ℕ) (from : Start) (a b s : List RecordContent) (start taken : List ℕ) (engine : View) (held : List ℕ) (refusals : RefusalTexts) (a' b' s' : List RecordContent)
+    → HasTaken listed room from a b s start taken engine held refusals a' b' s' → BeginsAll listed room from (in_order a b s) start taken
+taken_begins listed room from a b s start taken engine held refusals a' b' s' so_far =
+    begins_so_far listed room from (in_order a b s) so_far.done (in_order a' b' s') start taken taken engine held refusals 0 so_far.left (sym (append-nil taken)) so_far.writes
 
 -- a run whose text was to go out after one record more
-pub piece_begins : {A : Type 0} (listed : List Instrument) (room : ℕ) (a b s : List RecordContent) (start taken taken' : List ℕ) (old new : Run A) (a' b' s' a'' b'' s'' : List RecordContent) (feed : Feed) (entry : RecordContent) (n : ℕ)
+pub piece_begins : {A : Type 0} (listed : List Instrument) (room : ℕ) (from : Start) (a b s : List RecordContent) (start taken taken' : List ℕ) (old new : Run A) (a' b' s' a'' b'' s'' : List RecordContent) (feed : Feed) (entry : RecordContent) (n : ℕ)
     → in_order a' b' s' ≡ (record { feed = feed; entry = entry }) ∷ in_order a'' b'' s''
     → TakesAs (kind_of feed) feed entry.line entry.received old new
     → taken' ≡ taken ++ take n new.text.items
-    → HasTaken listed room a b s start taken old.engine old.text.items old.refusals a' b' s'
-    → BeginsAll listed room (in_order a b s) start taken'
-piece_begins listed room a b s start taken taken' old new a' b' s' a'' b'' s'' feed entry n next takes went so_far =
-    let on = taken_more listed room a b s start taken taken old new new a' b' s' a'' b'' s'' feed entry next takes (λ arrivals writes. writes) so_far in
-    begins_so_far listed room (in_order a b s) on.done (in_order a'' b'' s'') start taken taken' new.engine new.text.items new.refusals n on.left went on.writes
+    → HasTaken listed room from a b s start taken old.engine old.text.items old.refusals a' b' s'
+    → BeginsAll listed room from (in_order a b s) start taken'
+piece_begins listed room from a b s start taken taken' old new a' b' s' a'' b'' s'' feed entry n next takes went so_far =
+    let on = taken_more listed room from a b s start taken taken old new new a' b' s' a'' b'' s'' feed entry next takes (λ arrivals writes. writes) so_far in
+    begins_so_far listed room from (in_order a b s) on.done (in_order a'' b'' s'') start taken taken' new.engine new.text.items new.refusals n on.left went on.writes

@@ -4,6 +4,7 @@ use Rattle.std.specs.Prelude.{Result, Ok, Err, IfOk, IfErr, OnOk}
 use Rattle.std.proofs.lemmas.List.{append-nil, take-append-drop}
 use Rattle.mdp_templates.specs.declared.instrument.Instrument.{Instrument}
 use Rattle.mdp_print.specs.Texts.{last_line}
+use Rattle.mdp_arbiter.specs.declared.start.Start.{Start}
 use Rattle.mdp_arbiter.specs.Accepted.{Event}
 use Rattle.mdp_arbiter.specs.Channel.{Channel, channel_of}
 use Rattle.mdp_arbiter.specs.Machine.{go_on, is_lost, state_at, trace}
@@ -26,51 +27,51 @@ use Rattle.mdp_pipeline.specs.Running.{BeginsAll, EndsAs, EndsEarly, HandsOn, Ha
 -- ---- the text so far
 
 -- what was sent and what is held is what the moves show
-shown_so_far : (listed : List Instrument) (room : ℕ) (events : List Event) (start taken : List ℕ) (engine : View) (held : List ℕ) → (so_far : HasShown listed room events start taken engine held) → so_far.sent ++ held ≡ shown_lines listed (moves_of listed room events)
-shown_so_far listed room events start taken engine held so_far =
+shown_so_far : (listed : List Instrument) (room : ℕ) (from : Start) (events : List Event) (start taken : List ℕ) (engine : View) (held : List ℕ) → (so_far : HasShown listed room from events start taken engine held) → so_far.sent ++ held ≡ shown_lines listed (moves_of listed room from events)
+shown_so_far listed room from events start taken engine held so_far =
     let front = so_far.sent ++ held in
     sym (append-nil front) ∙ ap (λ (t : List ℕ). front ++ t) (sym so_far.drained) ∙ so_far.stands.shows.text_is
     ∙ ap (λ (c : Channel). shown_lines listed (trace c events)) so_far.channel
 
 -- what more events show
-abbrev shown_later : List Instrument → ℕ → List Event → List Event → List ℕ
-shown_later listed room events more =
-    let channel = channel_of listed room in
-    shown_lines_after listed (moves_of listed room events) (go_on channel events (state_at channel events) more)
+abbrev shown_later : List Instrument → ℕ → Start → List Event → List Event → List ℕ
+shown_later listed room from events more =
+    let channel = channel_of listed room from in
+    shown_lines_after listed (moves_of listed room from events) (go_on channel events (state_at channel events) more)
 
-shown_front : (listed : List Instrument) (room : ℕ) (events more : List Event) → shown_lines listed (moves_of listed room (events ++ more)) ≡ shown_lines listed (moves_of listed room events) ++ shown_later listed room events more
-shown_front listed room events more =
-    let channel = channel_of listed room in
+shown_front : (listed : List Instrument) (room : ℕ) (from : Start) (events more : List Event) → shown_lines listed (moves_of listed room from (events ++ more)) ≡ shown_lines listed (moves_of listed room from events) ++ shown_later listed room from events more
+shown_front listed room from events more =
+    let channel = channel_of listed room from in
     ap (shown_lines listed) (law_of_fronts channel events more)
-    ∙ shown_lines_after-append listed [] (moves_of listed room events) (go_on channel events (state_at channel events) more)
+    ∙ shown_lines_after-append listed [] (moves_of listed room from events) (go_on channel events (state_at channel events) more)
 
 -- of the text that is held so many bytes went out; whatever comes behind these events, it is a beginning of the whole
-pub early : (listed : List Instrument) (room : ℕ) (events more : List Event) (refusals start taken taken' : List ℕ) (engine : View) (held : List ℕ) (n : ℕ) → taken' ≡ taken ++ take n held
-    → HasShown listed room events start taken engine held → EndsEarly listed room (events ++ more) refusals start taken'
-early listed room events more refusals start taken taken' engine held n went so_far =
-    let later = shown_later listed room events more in
-    let end = end_lines listed room refusals (events ++ more) in
+pub early : (listed : List Instrument) (room : ℕ) (from : Start) (events more : List Event) (refusals start taken taken' : List ℕ) (engine : View) (held : List ℕ) (n : ℕ) → taken' ≡ taken ++ take n held
+    → HasShown listed room from events start taken engine held → EndsEarly listed room from (events ++ more) refusals start taken'
+early listed room from events more refusals start taken taken' engine held n went so_far =
+    let later = shown_later listed room from events more in
+    let end = end_lines listed room from refusals (events ++ more) in
     record {
       sent = so_far.sent ++ take n held;
       rest = drop n held ++ (later ++ end);
       taken_is = went ∙ ap (λ (t : List ℕ). t ++ take n held) so_far.taken_is ∙ append_assoc start so_far.sent (take n held);
       whole =
-          ap (λ (t : List ℕ). t ++ end) (shown_front listed room events more)
-          ∙ ap (λ (t : List ℕ). (t ++ later) ++ end) (sym (shown_so_far listed room events start taken engine held so_far))
+          ap (λ (t : List ℕ). t ++ end) (shown_front listed room from events more)
+          ∙ ap (λ (t : List ℕ). (t ++ later) ++ end) (sym (shown_so_far listed room from events start taken engine held so_far))
           ∙ append_assoc (so_far.sent ++ held) later end
           ∙ ap (λ (t : List ℕ). (so_far.sent ++ t) ++ (later ++ end)) (sym (take-append-drop n held))
           ∙ ap (λ (t : List ℕ). t ++ (later ++ end)) (sym (append_assoc so_far.sent (take n held) (drop n held)))
           ∙ append_assoc (so_far.sent ++ take n held) (drop n held) (later ++ end);
     }
 
-pub early_here : (listed : List Instrument) (room : ℕ) (events : List Event) (refusals start taken taken' : List ℕ) (engine : View) (held : List ℕ) (n : ℕ) → taken' ≡ taken ++ take n held
-    → HasShown listed room events start taken engine held → EndsEarly listed room events refusals start taken'
-early_here listed room events refusals start taken taken' engine held n went so_far =
-    subst (λ (es : List Event). EndsEarly listed room es refusals start taken') (append-nil events) (early listed room events [] refusals start taken taken' engine held n went so_far)
+pub early_here : (listed : List Instrument) (room : ℕ) (from : Start) (events : List Event) (refusals start taken taken' : List ℕ) (engine : View) (held : List ℕ) (n : ℕ) → taken' ≡ taken ++ take n held
+    → HasShown listed room from events start taken engine held → EndsEarly listed room from events refusals start taken'
+early_here listed room from events refusals start taken taken' engine held n went so_far =
+    subst (λ (es : List Event). EndsEarly listed room from es refusals start taken') (append-nil events) (early listed room from events [] refusals start taken taken' engine held n went so_far)
 
 -- nothing went out
-pub early_none : (listed : List Instrument) (room : ℕ) (events : List Event) (refusals start : List ℕ) → EndsEarly listed room events refusals start start
-early_none listed room events refusals start = record { sent = []; rest = shown_output listed room refusals events; taken_is = sym (append-nil start); whole = refl }
+pub early_none : (listed : List Instrument) (room : ℕ) (from : Start) (events : List Event) (refusals start : List ℕ) → EndsEarly listed room from events refusals start start
+early_none listed room from events refusals start = record { sent = []; rest = shown_output listed room from refusals events; taken_is = sym (append-nil start); whole = refl }
 
 -- ---- the end
 
@@ -80,34 +81,34 @@ TellsNext engine next = (listed : List Instrument) (es : List Event) (drained : 
 abbrev pub TellsLost : View → Bool → Type 0
 TellsLost engine lost = (listed : List Instrument) (es : List Event) (drained : List ℕ) → Stands listed es drained engine → lost ≡ is_lost engine.arbiter.channel es (state_at engine.arbiter.channel es)
 
-pub ends_as : (listed : List Instrument) (room : ℕ) (events : List Event) (start taken taken' : List ℕ) (engine : View) (held end : List ℕ) (refusals : RefusalTexts) (next : ℕ) (lost : Bool)
+pub ends_as : (listed : List Instrument) (room : ℕ) (from : Start) (events : List Event) (start taken taken' : List ℕ) (engine : View) (held end : List ℕ) (refusals : RefusalTexts) (next : ℕ) (lost : Bool)
     → taken' ≡ (taken ++ held) ++ end → end ≡ joined_texts refusals ++ last_line next lost → TellsNext engine next → TellsLost engine lost
-    → HasShown listed room events start taken engine held → EndsAs listed room events (joined_texts refusals) start taken' next lost
-ends_as listed room events start taken taken' engine held end refusals next lost went end_is next_is lost_is so_far =
+    → HasShown listed room from events start taken engine held → EndsAs listed room from events (joined_texts refusals) start taken' next lost
+ends_as listed room from events start taken taken' engine held end refusals next lost went end_is next_is lost_is so_far =
     let front = so_far.sent ++ held in
-    let next_after_all : next ≡ next_after listed room events = next_is listed events front so_far.stands ∙ ap (λ (c : Channel). (state_at c events).next) so_far.channel in
-    let lost_after_all : lost ≡ is_lost_after listed room events = lost_is listed events front so_far.stands ∙ ap (λ (c : Channel). is_lost c events (state_at c events)) so_far.channel in
-    let ending : end ≡ end_lines listed room (joined_texts refusals) events =
+    let next_after_all : next ≡ next_after listed room from events = next_is listed events front so_far.stands ∙ ap (λ (c : Channel). (state_at c events).next) so_far.channel in
+    let lost_after_all : lost ≡ is_lost_after listed room from events = lost_is listed events front so_far.stands ∙ ap (λ (c : Channel). is_lost c events (state_at c events)) so_far.channel in
+    let ending : end ≡ end_lines listed room from (joined_texts refusals) events =
     end_is
     ∙ ap (λ (n : ℕ). joined_texts refusals ++ last_line n lost) next_after_all
-    ∙ ap (λ (l : Bool). joined_texts refusals ++ last_line (next_after listed room events) l) lost_after_all in
+    ∙ ap (λ (l : Bool). joined_texts refusals ++ last_line (next_after listed room from events) l) lost_after_all in
     record {
       text = front ++ end;
       taken_is = went ∙ ap (λ (t : List ℕ). (t ++ held) ++ end) so_far.taken_is ∙ ap (λ (t : List ℕ). t ++ end) (append_assoc start so_far.sent held) ∙ append_assoc start front end;
       next_is = next_after_all;
       lost_is = lost_after_all;
       shown =
-          ap (λ (t : List ℕ). t ++ end) (shown_so_far listed room events start taken engine held so_far)
-          ∙ ap (λ (t : List ℕ). shown_lines listed (moves_of listed room events) ++ t) ending;
+          ap (λ (t : List ℕ). t ++ end) (shown_so_far listed room from events start taken engine held so_far)
+          ∙ ap (λ (t : List ℕ). shown_lines listed (moves_of listed room from events) ++ t) ending;
     }
 
 -- the text went out, and of the refusals and the last line so many bytes
-pub early_in_end : (listed : List Instrument) (room : ℕ) (events : List Event) (start taken taken' : List ℕ) (engine : View) (held end : List ℕ) (refusals : RefusalTexts) (next : ℕ) (lost : Bool) (n : ℕ)
+pub early_in_end : (listed : List Instrument) (room : ℕ) (from : Start) (events : List Event) (start taken taken' : List ℕ) (engine : View) (held end : List ℕ) (refusals : RefusalTexts) (next : ℕ) (lost : Bool) (n : ℕ)
     → taken' ≡ (taken ++ held) ++ take n end → end ≡ joined_texts refusals ++ last_line next lost → TellsNext engine next → TellsLost engine lost
-    → HasShown listed room events start taken engine held → EndsEarly listed room events (joined_texts refusals) start taken'
+    → HasShown listed room from events start taken engine held → EndsEarly listed room from events (joined_texts refusals) start taken'
 unfolding ends_as
-early_in_end listed room events start taken taken' engine held end refusals next lost n went end_is next_is lost_is so_far =
-    let all = ends_as listed room events start taken ((taken ++ held) ++ end) engine held end refusals next lost refl end_is next_is lost_is so_far in
+early_in_end listed room from events start taken taken' engine held end refusals next lost n went end_is next_is lost_is so_far =
+    let all = ends_as listed room from events start taken ((taken ++ held) ++ end) engine held end refusals next lost refl end_is next_is lost_is so_far in
     let front = so_far.sent ++ held in
     record {
       sent = front ++ take n end;
@@ -117,41 +118,41 @@ early_in_end listed room events start taken taken' engine held end refusals next
     }
 
 -- ends told by equal numbers
-pub told_as : (listed : List Instrument) (room : ℕ) (events : List Event) (refusals start taken : List ℕ) (next next' : ℕ) (lost lost' : Bool) → next' ≡ next → lost' ≡ lost
-    → EndsAs listed room events refusals start taken next lost → EndsAs listed room events refusals start taken next' lost'
-told_as listed room events refusals start taken next next' lost lost' next_is lost_is ends =
-    subst (λ (n : ℕ). EndsAs listed room events refusals start taken n lost') (sym next_is) (subst (λ (l : Bool). EndsAs listed room events refusals start taken next l) (sym lost_is) ends)
+pub told_as : (listed : List Instrument) (room : ℕ) (from : Start) (events : List Event) (refusals start taken : List ℕ) (next next' : ℕ) (lost lost' : Bool) → next' ≡ next → lost' ≡ lost
+    → EndsAs listed room from events refusals start taken next lost → EndsAs listed room from events refusals start taken next' lost'
+told_as listed room from events refusals start taken next next' lost lost' next_is lost_is ends =
+    subst (λ (n : ℕ). EndsAs listed room from events refusals start taken n lost') (sym next_is) (subst (λ (l : Bool). EndsAs listed room from events refusals start taken next l) (sym lost_is) ends)
 
 -- what the end comes to, where all of the text went out
 pub ends_of : (taken mid after : List ℕ) (engine : View) (held : List ℕ) (refusals : RefusalTexts) (next : ℕ) (lost : Bool) (result : Result Summary RunFault)
     → TellsNext engine next → TellsLost engine lost → mid ≡ taken ++ held
     → IfOk result (λ (summary : Summary). (summary.next ≡ next) × (summary.lost ≡ lost)) → OnOk result (after ≡ mid ++ (joined_texts refusals ++ last_line next lost))
-    → IfOk result (λ (summary : Summary). (listed : List Instrument) (room : ℕ) (events : List Event) (start : List ℕ) → HasShown listed room events start taken engine held
-    → EndsAs listed room events (joined_texts refusals) start after summary.next summary.lost)
-ends_of taken mid after engine held refusals next lost (Ok summary) next_is lost_is text tells went = λ listed room events start so_far.
+    → IfOk result (λ (summary : Summary). (listed : List Instrument) (room : ℕ) (from : Start) (events : List Event) (start : List ℕ) → HasShown listed room from events start taken engine held
+    → EndsAs listed room from events (joined_texts refusals) start after summary.next summary.lost)
+ends_of taken mid after engine held refusals next lost (Ok summary) next_is lost_is text tells went = λ listed room from events start so_far.
     let end = joined_texts refusals ++ last_line next lost in
-    let ends = ends_as listed room events start taken after engine held end refusals next lost (went ∙ ap (λ (t : List ℕ). t ++ end) text) refl next_is lost_is so_far in
-    told_as listed room events (joined_texts refusals) start after next summary.next lost summary.lost tells.0 tells.1 ends
+    let ends = ends_as listed room from events start taken after engine held end refusals next lost (went ∙ ap (λ (t : List ℕ). t ++ end) text) refl next_is lost_is so_far in
+    told_as listed room from events (joined_texts refusals) start after next summary.next lost summary.lost tells.0 tells.1 ends
 ends_of taken mid after engine held refusals next lost (Err fault) next_is lost_is text tells went = tt
 
 pub early_of : (taken mid after : List ℕ) (engine : View) (held : List ℕ) (refusals : RefusalTexts) (next : ℕ) (lost : Bool) (result : Result Summary RunFault)
     → TellsNext engine next → TellsLost engine lost → mid ≡ taken ++ held
     → IfErr result (λ (fault : RunFault). (n : ℕ) × (after ≡ mid ++ take n (joined_texts refusals ++ last_line next lost)))
-    → IfErr result (λ (fault : RunFault). (listed : List Instrument) (room : ℕ) (events : List Event) (start : List ℕ) → HasShown listed room events start taken engine held
-    → EndsEarly listed room events (joined_texts refusals) start after)
+    → IfErr result (λ (fault : RunFault). (listed : List Instrument) (room : ℕ) (from : Start) (events : List Event) (start : List ℕ) → HasShown listed room from events start taken engine held
+    → EndsEarly listed room from events (joined_texts refusals) start after)
 early_of taken mid after engine held refusals next lost (Ok summary) next_is lost_is text begins = tt
-early_of taken mid after engine held refusals next lost (Err fault) next_is lost_is text begins = λ listed room events start so_far.
+early_of taken mid after engine held refusals next lost (Err fault) next_is lost_is text begins = λ listed room from events start so_far.
     let end = joined_texts refusals ++ last_line next lost in
-    early_in_end listed room events start taken after engine held end refusals next lost begins.0 (begins.1 ∙ ap (λ (t : List ℕ). t ++ take begins.0 end) text) refl next_is lost_is so_far
+    early_in_end listed room from events start taken after engine held end refusals next lost begins.0 (begins.1 ∙ ap (λ (t : List ℕ). t ++ take begins.0 end) text) refl next_is lost_is so_far
 
 -- ---- the end of a run over threads
 
 -- the refusals and the last line went out behind what the moves show
-pub ends_behind : (listed : List Instrument) (room : ℕ) (events : List Event) (start taken after : List ℕ) (standing : Standing) (refusals : RefusalTexts)
-    → after ≡ taken ++ (joined_texts refusals ++ last_line standing.next standing.lost) → HasShownAll listed room events start taken standing
-    → EndsAs listed room events (joined_texts refusals) start after standing.next standing.lost
-ends_behind listed room events start taken after standing refusals went shown =
-    let lines = shown_lines listed (moves_of listed room events) in
+pub ends_behind : (listed : List Instrument) (room : ℕ) (from : Start) (events : List Event) (start taken after : List ℕ) (standing : Standing) (refusals : RefusalTexts)
+    → after ≡ taken ++ (joined_texts refusals ++ last_line standing.next standing.lost) → HasShownAll listed room from events start taken standing
+    → EndsAs listed room from events (joined_texts refusals) start after standing.next standing.lost
+ends_behind listed room from events start taken after standing refusals went shown =
+    let lines = shown_lines listed (moves_of listed room from events) in
     let end = joined_texts refusals ++ last_line standing.next standing.lost in
     record {
       text = lines ++ end;
@@ -160,18 +161,18 @@ ends_behind listed room events start taken after standing refusals went shown =
       lost_is = shown.lost_is;
       shown =
           ap (λ (n : ℕ). lines ++ (joined_texts refusals ++ last_line n standing.lost)) shown.next_is
-          ∙ ap (λ (l : Bool). lines ++ (joined_texts refusals ++ last_line (next_after listed room events) l)) shown.lost_is;
+          ∙ ap (λ (l : Bool). lines ++ (joined_texts refusals ++ last_line (next_after listed room from events) l)) shown.lost_is;
     }
 
 -- so many bytes of them went out
-pub early_behind : (listed : List Instrument) (room : ℕ) (events : List Event) (start taken after : List ℕ) (standing : Standing) (refusals : RefusalTexts) (n : ℕ)
-    → after ≡ taken ++ take n (joined_texts refusals ++ last_line standing.next standing.lost) → HasShownAll listed room events start taken standing
-    → EndsEarly listed room events (joined_texts refusals) start after
+pub early_behind : (listed : List Instrument) (room : ℕ) (from : Start) (events : List Event) (start taken after : List ℕ) (standing : Standing) (refusals : RefusalTexts) (n : ℕ)
+    → after ≡ taken ++ take n (joined_texts refusals ++ last_line standing.next standing.lost) → HasShownAll listed room from events start taken standing
+    → EndsEarly listed room from events (joined_texts refusals) start after
 unfolding ends_behind
-early_behind listed room events start taken after standing refusals n went shown =
-    let lines = shown_lines listed (moves_of listed room events) in
+early_behind listed room from events start taken after standing refusals n went shown =
+    let lines = shown_lines listed (moves_of listed room from events) in
     let end = joined_texts refusals ++ last_line standing.next standing.lost in
-    let all = ends_behind listed room events start taken (taken ++ end) standing refusals refl shown in
+    let all = ends_behind listed room from events start taken (taken ++ end) standing refusals refl shown in
     record {
       sent = lines ++ take n end;
       rest = drop n end;
@@ -180,24 +181,24 @@ early_behind listed room events start taken after standing refusals n went shown
     }
 
 -- all that the moves show is a beginning of what they show with more events
-some_of_all : (listed : List Instrument) (room : ℕ) (events : List Event) (start taken : List ℕ) (standing : Standing) → HasShownAll listed room events start taken standing → HasShownSome listed room events start taken
-some_of_all listed room events start taken standing shown = record {
-  sent = shown_lines listed (moves_of listed room events);
+some_of_all : (listed : List Instrument) (room : ℕ) (from : Start) (events : List Event) (start taken : List ℕ) (standing : Standing) → HasShownAll listed room from events start taken standing → HasShownSome listed room from events start taken
+some_of_all listed room from events start taken standing shown = record {
+  sent = shown_lines listed (moves_of listed room from events);
   taken_is = shown.shown;
-  begins = λ more. (shown_later listed room events more, shown_front listed room events more);
+  begins = λ more. (shown_later listed room from events more, shown_front listed room from events more);
 }
 
-some_shown : (listed : List Instrument) (room : ℕ) (events : List Event) (start taken : List ℕ) (outcome : Result Standing Stop) → HasShownOf listed room events start taken outcome → HasShownSome listed room events start taken
-some_shown listed room events start taken (Ok standing) shown = some_of_all listed room events start taken standing shown.all
-some_shown listed room events start taken (Err stop) shown = shown.some
+some_shown : (listed : List Instrument) (room : ℕ) (from : Start) (events : List Event) (start taken : List ℕ) (outcome : Result Standing Stop) → HasShownOf listed room from events start taken outcome → HasShownSome listed room from events start taken
+some_shown listed room from events start taken (Ok standing) shown = some_of_all listed room from events start taken standing shown.all
+some_shown listed room from events start taken (Err stop) shown = shown.some
 
 -- whatever a run comes to, what went out is a beginning of the whole text, whatever comes behind these events
-pub early_shown : (listed : List Instrument) (room : ℕ) (events more : List Event) (refusals start taken : List ℕ) (outcome : Result Standing Stop) → HasShownOf listed room events start taken outcome
-    → EndsEarly listed room (events ++ more) refusals start taken
-early_shown listed room events more refusals start taken outcome shown =
-    let some = some_shown listed room events start taken outcome shown in
+pub early_shown : (listed : List Instrument) (room : ℕ) (from : Start) (events more : List Event) (refusals start taken : List ℕ) (outcome : Result Standing Stop) → HasShownOf listed room from events start taken outcome
+    → EndsEarly listed room from (events ++ more) refusals start taken
+early_shown listed room from events more refusals start taken outcome shown =
+    let some = some_shown listed room from events start taken outcome shown in
     let front = some.begins more in
-    let end = end_lines listed room refusals (events ++ more) in
+    let end = end_lines listed room from refusals (events ++ more) in
     record {
       sent = some.sent;
       rest = front.0 ++ end;
@@ -207,9 +208,9 @@ early_shown listed room events more refusals start taken outcome shown =
 
 -- ---- runs over records of all feeds in one list
 
-pub writes_shown : (listed : List Instrument) (room : ℕ) (arrivals : List Arrival) (start taken : List ℕ) (engine : View) (held : List ℕ) (refusals : RefusalTexts)
-    → (so_far : Writes listed room arrivals start taken engine held refusals) → HasShown listed room (events_of so_far.over.readings) start taken engine held
-writes_shown listed room arrivals start taken engine held refusals so_far = record {
+pub writes_shown : (listed : List Instrument) (room : ℕ) (from : Start) (arrivals : List Arrival) (start taken : List ℕ) (engine : View) (held : List ℕ) (refusals : RefusalTexts)
+    → (so_far : Writes listed room from arrivals start taken engine held refusals) → HasShown listed room from (events_of so_far.over.readings) start taken engine held
+writes_shown listed room from arrivals start taken engine held refusals so_far = record {
   sent = so_far.sent;
   taken_is = so_far.taken_is;
   stands = so_far.over.run.stands;
@@ -217,10 +218,10 @@ writes_shown listed room arrivals start taken engine held refusals so_far = reco
   channel = so_far.over.run.channel;
 }
 
-pub prints_all : (listed : List Instrument) (room : ℕ) (arrivals : List Arrival) (start taken taken' : List ℕ) (engine : View) (held : List ℕ) (refusals : RefusalTexts) (next : ℕ) (lost : Bool)
-    → (so_far : Writes listed room arrivals start taken engine held refusals) → EndsAs listed room (events_of so_far.over.readings) (joined_texts refusals) start taken' next lost
-    → (text : List ℕ) × (taken' ≡ start ++ text) × PrintsAll listed room arrivals text next lost
-prints_all listed room arrivals start taken taken' engine held refusals next lost so_far ends = (
+pub prints_all : (listed : List Instrument) (room : ℕ) (from : Start) (arrivals : List Arrival) (start taken taken' : List ℕ) (engine : View) (held : List ℕ) (refusals : RefusalTexts) (next : ℕ) (lost : Bool)
+    → (so_far : Writes listed room from arrivals start taken engine held refusals) → EndsAs listed room from (events_of so_far.over.readings) (joined_texts refusals) start taken' next lost
+    → (text : List ℕ) × (taken' ≡ start ++ text) × PrintsAll listed room from arrivals text next lost
+prints_all listed room from arrivals start taken taken' engine held refusals next lost so_far ends = (
   ends.text,
   ends.taken_is,
   record {
@@ -228,31 +229,31 @@ prints_all listed room arrivals start taken taken' engine held refusals next los
     are = so_far.over.are;
     next_is = ends.next_is;
     lost_is = ends.lost_is;
-    shown = ends.shown ∙ ap (λ (t : RefusalTexts). shown_output listed room (joined_texts t) (events_of so_far.over.readings)) so_far.over.run.refusals_are;
+    shown = ends.shown ∙ ap (λ (t : RefusalTexts). shown_output listed room from (joined_texts t) (events_of so_far.over.readings)) so_far.over.run.refusals_are;
   },
 )
 
-pub begins_all : (listed : List Instrument) (room : ℕ) (arrivals : List Arrival) (start taken taken' : List ℕ) (engine : View) (held : List ℕ) (refusals : RefusalTexts)
-    → (so_far : Writes listed room arrivals start taken engine held refusals) → EndsEarly listed room (events_of so_far.over.readings) (joined_texts refusals) start taken'
-    → BeginsAll listed room arrivals start taken'
-begins_all listed room arrivals start taken taken' engine held refusals so_far ends =
+pub begins_all : (listed : List Instrument) (room : ℕ) (from : Start) (arrivals : List Arrival) (start taken taken' : List ℕ) (engine : View) (held : List ℕ) (refusals : RefusalTexts)
+    → (so_far : Writes listed room from arrivals start taken engine held refusals) → EndsEarly listed room from (events_of so_far.over.readings) (joined_texts refusals) start taken'
+    → BeginsAll listed room from arrivals start taken'
+begins_all listed room from arrivals start taken taken' engine held refusals so_far ends =
     let events = events_of so_far.over.readings in
     record {
-      text = shown_output listed room (refusals_text (by_feed so_far.over.readings)) events;
-      next = next_after listed room events;
-      lost = is_lost_after listed room events;
+      text = shown_output listed room from (refusals_text (by_feed so_far.over.readings)) events;
+      next = next_after listed room from events;
+      lost = is_lost_after listed room from events;
       prints = record { readings = so_far.over.readings; are = so_far.over.are; next_is = refl; lost_is = refl; shown = refl };
       sent = ends.sent;
       rest = ends.rest;
       taken_is = ends.taken_is;
-      whole = sym (ap (λ (t : RefusalTexts). shown_output listed room (joined_texts t) events) so_far.over.run.refusals_are) ∙ ends.whole;
+      whole = sym (ap (λ (t : RefusalTexts). shown_output listed room from (joined_texts t) events) so_far.over.run.refusals_are) ∙ ends.whole;
     }
 
 -- ---- a front of the text goes out
 
-pub shown_on : {A : Type 0} (listed : List Instrument) (room : ℕ) (events : List Event) (start taken taken' : List ℕ) (old new : Run A) → HandsOn taken taken' old new
-    → HasShown listed room events start taken old.engine old.text.items → HasShown listed room events start taken' new.engine new.text.items
-shown_on listed room events start taken taken' old new on so_far = record {
+pub shown_on : {A : Type 0} (listed : List Instrument) (room : ℕ) (from : Start) (events : List Event) (start taken taken' : List ℕ) (old new : Run A) → HandsOn taken taken' old new
+    → HasShown listed room from events start taken old.engine old.text.items → HasShown listed room from events start taken' new.engine new.text.items
+shown_on listed room from events start taken taken' old new on so_far = record {
   sent = so_far.sent ++ on.sent;
   taken_is = on.went ∙ ap (λ (t : List ℕ). t ++ on.sent) so_far.taken_is ∙ append_assoc start so_far.sent on.sent;
   stands =
@@ -262,15 +263,15 @@ shown_on listed room events start taken taken' old new on so_far = record {
   channel = ap (λ (v : View). v.arbiter.channel) on.engine ∙ so_far.channel;
 }
 
-pub writes_on : {A : Type 0} (listed : List Instrument) (room : ℕ) (arrivals : List Arrival) (start taken taken' : List ℕ) (old new : Run A) → HandsOn taken taken' old new
-    → Writes listed room arrivals start taken old.engine old.text.items old.refusals → Writes listed room arrivals start taken' new.engine new.text.items new.refusals
-writes_on listed room arrivals start taken taken' old new on so_far =
+pub writes_on : {A : Type 0} (listed : List Instrument) (room : ℕ) (from : Start) (arrivals : List Arrival) (start taken taken' : List ℕ) (old new : Run A) → HandsOn taken taken' old new
+    → Writes listed room from arrivals start taken old.engine old.text.items old.refusals → Writes listed room from arrivals start taken' new.engine new.text.items new.refusals
+writes_on listed room from arrivals start taken taken' old new on so_far =
     let same : so_far.sent ++ old.text.items ≡ (so_far.sent ++ on.sent) ++ new.text.items = ap (λ (t : List ℕ). so_far.sent ++ t) on.kept ∙ sym (append_assoc so_far.sent on.sent new.text.items) in
     record {
       sent = so_far.sent ++ on.sent;
       taken_is = on.went ∙ ap (λ (t : List ℕ). t ++ on.sent) so_far.taken_is ∙ append_assoc start so_far.sent on.sent;
       over =
-          subst (λ (v : View). RunsOver listed room arrivals v ((so_far.sent ++ on.sent) ++ new.text.items) new.refusals) (sym on.engine)
-          (subst (λ (t : RefusalTexts). RunsOver listed room arrivals old.engine ((so_far.sent ++ on.sent) ++ new.text.items) t) (sym on.refusals)
-          (subst (λ (t : List ℕ). RunsOver listed room arrivals old.engine t old.refusals) same so_far.over));
+          subst (λ (v : View). RunsOver listed room from arrivals v ((so_far.sent ++ on.sent) ++ new.text.items) new.refusals) (sym on.engine)
+          (subst (λ (t : RefusalTexts). RunsOver listed room from arrivals old.engine ((so_far.sent ++ on.sent) ++ new.text.items) t) (sym on.refusals)
+          (subst (λ (t : List ℕ). RunsOver listed room from arrivals old.engine t old.refusals) same so_far.over));
     }

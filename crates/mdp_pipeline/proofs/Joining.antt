@@ -9,6 +9,7 @@ use Rattle.mdp_templates.specs.declared.feed.Feed.TheVariants as feeds
 use Rattle.mdp_templates.specs.Feed.{feed_letter}
 use Rattle.mdp_templates.specs.declared.instrument.Instrument.{Instrument}
 use Rattle.mdp_capture.specs.Record.{RecordContent}
+use Rattle.mdp_arbiter.specs.declared.start.Start.{Start}
 use Rattle.mdp_arbiter.specs.Accepted.{Event}
 use Rattle.mdp_engine.proofs.Agreeing.{shows_what_is_owed}
 use Rattle.mdp_engine.proofs.Honesty.{honest_moves_agree}
@@ -116,9 +117,9 @@ from_s a b s =
     ∙ from_all feeds.S feeds.S s true refl
 
 -- whatever the records say, nothing of its text went out, and nothing was published
-pub begins_nothing : (listed : List Instrument) (room : ℕ) (a b s : List RecordContent) (start : List ℕ) (board : Option Published)
-    → (steps : List Step) × (board ≡ published_on board steps) × BeginsToPublishMerge listed room a b s start start steps
-begins_nothing listed room a b s start board =
+pub begins_nothing : (listed : List Instrument) (room : ℕ) (from : Start) (a b s : List RecordContent) (start : List ℕ) (board : Option Published)
+    → (steps : List Step) × (board ≡ published_on board steps) × BeginsToPublishMerge listed room from a b s start start steps
+begins_nothing listed room from a b s start board =
     let read_a = readings_exist (arrivals feeds.A a) in
     let read_b = readings_exist (arrivals feeds.B b) in
     let read_s = readings_exist (arrivals feeds.S s) in
@@ -127,16 +128,16 @@ begins_nothing listed room a b s start board =
     let es = events_of read_s.0 in
     let readings : Readings = record { a = read_a.0; b = read_b.0; s = read_s.0 } in
     let merge = rests ea eb es in
-    let text = shown_output listed room (refusals_text readings) (events_in merge) in
-    let steps = board_steps listed (moves_of listed room (events_in merge)) in (
+    let text = shown_output listed room from (refusals_text readings) (events_in merge) in
+    let steps = board_steps listed (moves_of listed room from (events_in merge)) in (
       [],
       published_nothing board,
       (
         merge,
         record {
           text = text;
-          next = next_after listed room (events_in merge);
-          lost = is_lost_after listed room (events_in merge);
+          next = next_after listed room from (events_in merge);
+          lost = is_lost_after listed room from (events_in merge);
           prints = record {
             readings = readings;
             are = record { a_are = read_a.1; b_are = read_b.1; s_are = read_s.1 };
@@ -144,14 +145,14 @@ begins_nothing listed room a b s start board =
             next_is = refl;
             lost_is = refl;
             shown = refl;
-            owed = λ feed honest. ap (λ (t : List ℕ). t ++ end_lines listed room (refusals_text readings) (events_in merge)) (shows_what_is_owed listed feed (moves_of listed room (events_in merge)) honest.complete (honest_moves_agree listed feed room (events_in merge) honest));
+            owed = λ feed honest. ap (λ (t : List ℕ). t ++ end_lines listed room from (refusals_text readings) (events_in merge)) (shows_what_is_owed listed feed (moves_of listed room from (events_in merge)) honest.complete (honest_moves_agree listed feed room from (events_in merge) honest));
           };
           sent = [];
           rest = text;
           taken_is = sym (append-nil start);
           whole = refl;
         },
-        record { steps = steps; publishes = publishes listed room (events_in merge); rest = steps; whole = refl },
+        record { steps = steps; publishes = publishes listed room from (events_in merge); rest = steps; whole = refl },
       ),
     )
 
@@ -254,9 +255,9 @@ module _ {A : Type 0} where
       ∙ ap (λ (t : List Event). events_taken receiver.taken ++ t) (rests_in ra rb rs)
 
   -- the text of the merge
-  prints : (receiver : IntakeReceiverView (Batch A)) (a b s : List RecordContent) (left_a left_b left_s : ReaderOutcome A) (joined : Joined receiver a b s left_a left_b left_s) (listed : List Instrument) (room : ℕ)
-      → Prints listed room a b s (merge_in joined) (shown_output listed room (refusals_text (readings_in joined)) (events_in (merge_in joined))) (next_after listed room (events_in (merge_in joined))) (is_lost_after listed room (events_in (merge_in joined)))
-  prints receiver a b s left_a left_b left_s joined listed room =
+  prints : (receiver : IntakeReceiverView (Batch A)) (a b s : List RecordContent) (left_a left_b left_s : ReaderOutcome A) (joined : Joined receiver a b s left_a left_b left_s) (listed : List Instrument) (room : ℕ) (from : Start)
+      → Prints listed room from a b s (merge_in joined) (shown_output listed room from (refusals_text (readings_in joined)) (events_in (merge_in joined))) (next_after listed room from (events_in (merge_in joined))) (is_lost_after listed room from (events_in (merge_in joined)))
+  prints receiver a b s left_a left_b left_s joined listed room from =
       let es = events_in (merge_in joined) in
       record {
         readings = readings_in joined;
@@ -265,13 +266,13 @@ module _ {A : Type 0} where
         next_is = refl;
         lost_is = refl;
         shown = refl;
-        owed = λ feed honest. ap (λ (t : List ℕ). t ++ end_lines listed room (refusals_text (readings_in joined)) es) (shows_what_is_owed listed feed (moves_of listed room es) honest.complete (honest_moves_agree listed feed room es honest));
+        owed = λ feed honest. ap (λ (t : List ℕ). t ++ end_lines listed room from (refusals_text (readings_in joined)) es) (shows_what_is_owed listed feed (moves_of listed room from es) honest.complete (honest_moves_agree listed feed room from es honest));
       }
 
-  pub begins_merge : (receiver : IntakeReceiverView (Batch A)) (a b s : List RecordContent) (left_a left_b left_s : ReaderOutcome A) (joined : Joined receiver a b s left_a left_b left_s) (listed : List Instrument) (room : ℕ) (start taken : List ℕ) (was now : Option Published)
-      → EndsEarly listed room (events_taken receiver.taken ++ rest_in joined) (refusals_text (readings_in joined)) start taken → HasPublishedSome listed room (events_taken receiver.taken) was now
-      → (steps : List Step) × (now ≡ published_on was steps) × BeginsToPublishMerge listed room a b s start taken steps
-  begins_merge receiver a b s left_a left_b left_s joined listed room start taken was now ends published =
+  pub begins_merge : (receiver : IntakeReceiverView (Batch A)) (a b s : List RecordContent) (left_a left_b left_s : ReaderOutcome A) (joined : Joined receiver a b s left_a left_b left_s) (listed : List Instrument) (room : ℕ) (from : Start) (start taken : List ℕ) (was now : Option Published)
+      → EndsEarly listed room from (events_taken receiver.taken ++ rest_in joined) (refusals_text (readings_in joined)) start taken → HasPublishedSome listed room from (events_taken receiver.taken) was now
+      → (steps : List Step) × (now ≡ published_on was steps) × BeginsToPublishMerge listed room from a b s start taken steps
+  begins_merge receiver a b s left_a left_b left_s joined listed room from start taken was now ends published =
       let es = events_in (merge_in joined) in
       let all = merge_events receiver a b s left_a left_b left_s joined in (
         published.steps,
@@ -279,45 +280,45 @@ module _ {A : Type 0} where
         (
           merge_in joined,
           record {
-            text = shown_output listed room (refusals_text (readings_in joined)) es;
-            next = next_after listed room es;
-            lost = is_lost_after listed room es;
-            prints = prints receiver a b s left_a left_b left_s joined listed room;
+            text = shown_output listed room from (refusals_text (readings_in joined)) es;
+            next = next_after listed room from es;
+            lost = is_lost_after listed room from es;
+            prints = prints receiver a b s left_a left_b left_s joined listed room from;
             sent = ends.sent;
             rest = ends.rest;
             taken_is = ends.taken_is;
-            whole = ap (shown_output listed room (refusals_text (readings_in joined))) all ∙ ends.whole;
+            whole = ap (shown_output listed room from (refusals_text (readings_in joined))) all ∙ ends.whole;
           },
-          subst (λ (events : List Event). BeginsToPublish listed room events published.steps) (sym all) (begins_steps listed room (events_taken receiver.taken) (rest_in joined) was now published),
+          subst (λ (events : List Event). BeginsToPublish listed room from events published.steps) (sym all) (begins_steps listed room from (events_taken receiver.taken) (rest_in joined) was now published),
         ),
       )
 
-  pub prints_merge : (receiver : IntakeReceiverView (Batch A)) (a b s : List RecordContent) (left_a left_b left_s : ReaderOutcome A) (joined : Joined receiver a b s left_a left_b left_s) (listed : List Instrument) (room : ℕ) (refusals start taken : List ℕ) (next : ℕ) (lost : Bool) (was now : Option Published)
-      → rest_in joined ≡ [] → refusals ≡ refusals_text (readings_in joined) → EndsAs listed room (events_taken receiver.taken) refusals start taken next lost
-      → now ≡ published_on was (board_steps listed (moves_of listed room (events_taken receiver.taken)))
-      → (text : List ℕ) × (steps : List Step) × (taken ≡ start ++ text) × (now ≡ published_on was steps) × PublishesMerge listed room a b s text next lost steps
+  pub prints_merge : (receiver : IntakeReceiverView (Batch A)) (a b s : List RecordContent) (left_a left_b left_s : ReaderOutcome A) (joined : Joined receiver a b s left_a left_b left_s) (listed : List Instrument) (room : ℕ) (from : Start) (refusals start taken : List ℕ) (next : ℕ) (lost : Bool) (was now : Option Published)
+      → rest_in joined ≡ [] → refusals ≡ refusals_text (readings_in joined) → EndsAs listed room from (events_taken receiver.taken) refusals start taken next lost
+      → now ≡ published_on was (board_steps listed (moves_of listed room from (events_taken receiver.taken)))
+      → (text : List ℕ) × (steps : List Step) × (taken ≡ start ++ text) × (now ≡ published_on was steps) × PublishesMerge listed room from a b s text next lost steps
   unfolding prints
-  prints_merge receiver a b s left_a left_b left_s joined listed room refusals start taken next lost was now none told ends published =
+  prints_merge receiver a b s left_a left_b left_s joined listed room from refusals start taken next lost was now none told ends published =
       let es = events_in (merge_in joined) in
       let all : events_taken receiver.taken ≡ es = sym (append-nil (events_taken receiver.taken)) ∙ ap (λ (t : List Event). events_taken receiver.taken ++ t) (sym none) ∙ sym (merge_events receiver a b s left_a left_b left_s joined) in
-      let is = prints receiver a b s left_a left_b left_s joined listed room in
-      let text_is : ends.text ≡ shown_output listed room (refusals_text (readings_in joined)) es = ends.shown ∙ ap (λ (r : List ℕ). shown_output listed room r (events_taken receiver.taken)) told ∙ ap (shown_output listed room (refusals_text (readings_in joined))) all in (
+      let is = prints receiver a b s left_a left_b left_s joined listed room from in
+      let text_is : ends.text ≡ shown_output listed room from (refusals_text (readings_in joined)) es = ends.shown ∙ ap (λ (r : List ℕ). shown_output listed room from r (events_taken receiver.taken)) told ∙ ap (shown_output listed room from (refusals_text (readings_in joined))) all in (
         ends.text,
-        board_steps listed (moves_of listed room es),
+        board_steps listed (moves_of listed room from es),
         ends.taken_is,
-        published ∙ ap (λ (events : List Event). published_on was (board_steps listed (moves_of listed room events))) all,
+        published ∙ ap (λ (events : List Event). published_on was (board_steps listed (moves_of listed room from events))) all,
         (
           merge_in joined,
           record {
             readings = is.readings;
             are = is.are;
             merges = is.merges;
-            next_is = ends.next_is ∙ ap (next_after listed room) all;
-            lost_is = ends.lost_is ∙ ap (is_lost_after listed room) all;
+            next_is = ends.next_is ∙ ap (next_after listed room from) all;
+            lost_is = ends.lost_is ∙ ap (is_lost_after listed room from) all;
             shown = text_is;
             owed = λ feed honest. text_is ∙ is.owed feed honest;
           },
-          publishes listed room es,
+          publishes listed room from es,
         ),
       )
 
@@ -335,41 +336,41 @@ module _ {A : Type 0} where
       (taken after : List ℕ) (outcome : Result Standing Stop) (standing : Standing) (refusals : RefusalTexts) (result : Result Summary RunFault)
       → outcome ≡ Ok standing → rest_in joined ≡ [] → joined_texts refusals ≡ refusals_text (readings_in joined)
       → IfOk result (λ (summary : Summary). (summary.next ≡ standing.next) × (summary.lost ≡ standing.lost)) → OnOk result (after ≡ taken ++ (joined_texts refusals ++ last_line standing.next standing.lost))
-      → IfOk result (λ (summary : Summary). (listed : List Instrument) (room : ℕ) (start : List ℕ) (was now : Option Published) → HasShown listed room (events_taken receiver.taken) start taken outcome
-      → HasPublished listed room (events_taken receiver.taken) was now outcome
-      → (text : List ℕ) × (steps : List Step) × (after ≡ start ++ text) × (now ≡ published_on was steps) × PublishesMerge listed room a b s text summary.next summary.lost steps)
-  ends_well receiver a b s left_a left_b left_s joined taken after outcome standing refusals (Ok summary) is none told tells went = λ listed room start was now shown published.
+      → IfOk result (λ (summary : Summary). (listed : List Instrument) (room : ℕ) (from : Start) (start : List ℕ) (was now : Option Published) → HasShown listed room from (events_taken receiver.taken) start taken outcome
+      → HasPublished listed room from (events_taken receiver.taken) was now outcome
+      → (text : List ℕ) × (steps : List Step) × (after ≡ start ++ text) × (now ≡ published_on was steps) × PublishesMerge listed room from a b s text summary.next summary.lost steps)
+  ends_well receiver a b s left_a left_b left_s joined taken after outcome standing refusals (Ok summary) is none told tells went = λ listed room from start was now shown published.
       let events = events_taken receiver.taken in
-      let all = subst (λ (o : Result Standing Stop). IfOk o (λ (st : Standing). HasShownAll listed room events start taken st)) is shown.all in
-      let posted = subst (λ (o : Result Standing Stop). OnOk o (now ≡ published_on was (board_steps listed (moves_of listed room events)))) is published.all in
-      prints_merge receiver a b s left_a left_b left_s joined listed room (joined_texts refusals) start after summary.next summary.lost was now none told
-      (told_as listed room events (joined_texts refusals) start after standing.next summary.next standing.lost summary.lost tells.0 tells.1 (ends_behind listed room events start taken after standing refusals went all)) posted
+      let all = subst (λ (o : Result Standing Stop). IfOk o (λ (st : Standing). HasShownAll listed room from events start taken st)) is shown.all in
+      let posted = subst (λ (o : Result Standing Stop). OnOk o (now ≡ published_on was (board_steps listed (moves_of listed room from events)))) is published.all in
+      prints_merge receiver a b s left_a left_b left_s joined listed room from (joined_texts refusals) start after summary.next summary.lost was now none told
+      (told_as listed room from events (joined_texts refusals) start after standing.next summary.next standing.lost summary.lost tells.0 tells.1 (ends_behind listed room from events start taken after standing refusals went all)) posted
   ends_well receiver a b s left_a left_b left_s joined taken after outcome standing refusals (Err fault) is none told tells went = tt
 
   pub ends_early : (receiver : IntakeReceiverView (Batch A)) (a b s : List RecordContent) (left_a left_b left_s : ReaderOutcome A) (joined : Joined receiver a b s left_a left_b left_s)
       (taken after : List ℕ) (outcome : Result Standing Stop) (standing : Standing) (refusals : RefusalTexts) (result : Result Summary RunFault)
       → outcome ≡ Ok standing → rest_in joined ≡ [] → joined_texts refusals ≡ refusals_text (readings_in joined)
       → IfErr result (λ (fault : RunFault). (n : ℕ) × (after ≡ taken ++ take n (joined_texts refusals ++ last_line standing.next standing.lost)))
-      → IfErr result (λ (fault : RunFault). (listed : List Instrument) (room : ℕ) (start : List ℕ) (was now : Option Published) → HasShown listed room (events_taken receiver.taken) start taken outcome
-      → HasPublished listed room (events_taken receiver.taken) was now outcome → (steps : List Step) × (now ≡ published_on was steps) × BeginsToPublishMerge listed room a b s start after steps)
+      → IfErr result (λ (fault : RunFault). (listed : List Instrument) (room : ℕ) (from : Start) (start : List ℕ) (was now : Option Published) → HasShown listed room from (events_taken receiver.taken) start taken outcome
+      → HasPublished listed room from (events_taken receiver.taken) was now outcome → (steps : List Step) × (now ≡ published_on was steps) × BeginsToPublishMerge listed room from a b s start after steps)
   ends_early receiver a b s left_a left_b left_s joined taken after outcome standing refusals (Ok summary) is none told begins = tt
-  ends_early receiver a b s left_a left_b left_s joined taken after outcome standing refusals (Err fault) is none told begins = λ listed room start was now shown published.
+  ends_early receiver a b s left_a left_b left_s joined taken after outcome standing refusals (Err fault) is none told begins = λ listed room from start was now shown published.
       let events = events_taken receiver.taken in
-      let all = subst (λ (o : Result Standing Stop). IfOk o (λ (st : Standing). HasShownAll listed room events start taken st)) is shown.all in
-      begins_merge receiver a b s left_a left_b left_s joined listed room start after was now
-      (subst (λ (r : List ℕ). EndsEarly listed room (events ++ rest_in joined) r start after) told
-      (subst (λ (es : List Event). EndsEarly listed room es (joined_texts refusals) start after) (sym (append-nil events) ∙ ap (λ (t : List Event). events ++ t) (sym none))
-      (early_behind listed room events start taken after standing refusals begins.0 begins.1 all)))
-      (some_on_board listed room events was now outcome published)
+      let all = subst (λ (o : Result Standing Stop). IfOk o (λ (st : Standing). HasShownAll listed room from events start taken st)) is shown.all in
+      begins_merge receiver a b s left_a left_b left_s joined listed room from start after was now
+      (subst (λ (r : List ℕ). EndsEarly listed room from (events ++ rest_in joined) r start after) told
+      (subst (λ (es : List Event). EndsEarly listed room from es (joined_texts refusals) start after) (sym (append-nil events) ∙ ap (λ (t : List Event). events ++ t) (sym none))
+      (early_behind listed room from events start taken after standing refusals begins.0 begins.1 all)))
+      (some_on_board listed room from events was now outcome published)
 
   -- the crew stopped early, or a reader met want of memory
   pub ends_short : (receiver : IntakeReceiverView (Batch A)) (a b s : List RecordContent) (left_a left_b left_s : ReaderOutcome A) → Joined receiver a b s left_a left_b left_s
-      → (taken : List ℕ) (outcome : Result Standing Stop) (listed : List Instrument) (room : ℕ) (start : List ℕ) (was now : Option Published) → HasShown listed room (events_taken receiver.taken) start taken outcome
-      → HasPublished listed room (events_taken receiver.taken) was now outcome → (steps : List Step) × (now ≡ published_on was steps) × BeginsToPublishMerge listed room a b s start taken steps
-  ends_short receiver a b s left_a left_b left_s joined taken outcome listed room start was now shown published =
-      begins_merge receiver a b s left_a left_b left_s joined listed room start taken was now
-      (early_shown listed room (events_taken receiver.taken) (rest_in joined) (refusals_text (readings_in joined)) start taken outcome shown)
-      (some_on_board listed room (events_taken receiver.taken) was now outcome published)
+      → (taken : List ℕ) (outcome : Result Standing Stop) (listed : List Instrument) (room : ℕ) (from : Start) (start : List ℕ) (was now : Option Published) → HasShown listed room from (events_taken receiver.taken) start taken outcome
+      → HasPublished listed room from (events_taken receiver.taken) was now outcome → (steps : List Step) × (now ≡ published_on was steps) × BeginsToPublishMerge listed room from a b s start taken steps
+  ends_short receiver a b s left_a left_b left_s joined taken outcome listed room from start was now shown published =
+      begins_merge receiver a b s left_a left_b left_s joined listed room from start taken was now
+      (early_shown listed room from (events_taken receiver.taken) (rest_in joined) (refusals_text (readings_in joined)) start taken outcome shown)
+      (some_on_board listed room from (events_taken receiver.taken) was now outcome published)
 
 -- a run that has not stopped early met no failed write
 pub none_failed : (outcome : Result Standing Stop) (before after most : ℕ) → before < most → FailsByStop outcome before after → IfOk outcome (λ (standing : Standing). after < most)

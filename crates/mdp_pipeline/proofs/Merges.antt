@@ -9,6 +9,7 @@ use Rattle.mdp_templates.specs.declared.feed.Feed.{Feed}
 use Rattle.mdp_templates.specs.declared.feed.Feed.TheVariants as feeds
 use Rattle.mdp_templates.specs.Feed.{feed_letter}
 use Rattle.mdp_capture.specs.Record.{RecordContent}
+use Rattle.mdp_arbiter.specs.declared.start.Start.{Start}
 use Rattle.mdp_arbiter.specs.Accepted.{Event}
 use Rattle.mdp_engine.proofs.Agreeing.{shows_what_is_owed}
 use Rattle.mdp_engine.proofs.Honesty.{honest_moves_agree}
@@ -175,36 +176,36 @@ merges_by_feed readings = record { a = events_on feeds.A readings; b = events_on
 -- ---- the text
 
 -- what all records print in the order of their lines is what their merge prints, and what is owed under a complete feed
-prints_merge : (listed : List Instrument) (room : ℕ) (a b s : List RecordContent) (text : List ℕ) (next : ℕ) (lost : Bool) (all : PrintsAll listed room (in_order a b s) text next lost) → Prints listed room a b s (flat_map tagged_by all.readings) text next lost
-prints_merge listed room a b s text next lost all =
+prints_merge : (listed : List Instrument) (room : ℕ) (from : Start) (a b s : List RecordContent) (text : List ℕ) (next : ℕ) (lost : Bool) (all : PrintsAll listed room from (in_order a b s) text next lost) → Prints listed room from a b s (flat_map tagged_by all.readings) text next lost
+prints_merge listed room from a b s text next lost all =
     let readings = all.readings in
     let same : events_of readings ≡ events_in (flat_map tagged_by readings) = sym (events_tagged readings) in
     record {
       readings = by_feed readings;
       are = are_by_feed a b s readings all.are;
       merges = merges_by_feed readings;
-      next_is = all.next_is ∙ ap (λ (es : List Event). next_after listed room es) same;
-      lost_is = all.lost_is ∙ ap (λ (es : List Event). is_lost_after listed room es) same;
-      shown = all.shown ∙ ap (λ (es : List Event). shown_output listed room (refusals_text (by_feed readings)) es) same;
+      next_is = all.next_is ∙ ap (λ (es : List Event). next_after listed room from es) same;
+      lost_is = all.lost_is ∙ ap (λ (es : List Event). is_lost_after listed room from es) same;
+      shown = all.shown ∙ ap (λ (es : List Event). shown_output listed room from (refusals_text (by_feed readings)) es) same;
       owed = λ feed honest.
           let es : List Event = events_in (flat_map tagged_by readings) in
           all.shown
-          ∙ ap (λ (es : List Event). shown_output listed room (refusals_text (by_feed readings)) es) same
-          ∙ ap (λ (t : List ℕ). t ++ end_lines listed room (refusals_text (by_feed readings)) es) (shows_what_is_owed listed feed (moves_of listed room es) honest.complete (honest_moves_agree listed feed room es honest));
+          ∙ ap (λ (es : List Event). shown_output listed room from (refusals_text (by_feed readings)) es) same
+          ∙ ap (λ (t : List ℕ). t ++ end_lines listed room from (refusals_text (by_feed readings)) es) (shows_what_is_owed listed feed (moves_of listed room from es) honest.complete (honest_moves_agree listed feed room from es honest));
     }
 
-pub prints_by_line : (listed : List Instrument) (room : ℕ) (a b s : List RecordContent) (text : List ℕ) (next : ℕ) (lost : Bool) → PrintsAll listed room (in_order a b s) text next lost → PrintsByLine listed room a b s text next lost
-prints_by_line listed room a b s text next lost all = (flat_map tagged_by all.readings, (all.readings, all.are, refl), prints_merge listed room a b s text next lost all)
+pub prints_by_line : (listed : List Instrument) (room : ℕ) (from : Start) (a b s : List RecordContent) (text : List ℕ) (next : ℕ) (lost : Bool) → PrintsAll listed room from (in_order a b s) text next lost → PrintsByLine listed room from a b s text next lost
+prints_by_line listed room from a b s text next lost all = (flat_map tagged_by all.readings, (all.readings, all.are, refl), prints_merge listed room from a b s text next lost all)
 
-pub begins_by_line : (listed : List Instrument) (room : ℕ) (a b s : List RecordContent) (start taken : List ℕ) → BeginsAll listed room (in_order a b s) start taken → BeginsByLine listed room a b s start taken
-begins_by_line listed room a b s start taken all = (
+pub begins_by_line : (listed : List Instrument) (room : ℕ) (from : Start) (a b s : List RecordContent) (start taken : List ℕ) → BeginsAll listed room from (in_order a b s) start taken → BeginsByLine listed room from a b s start taken
+begins_by_line listed room from a b s start taken all = (
   flat_map tagged_by all.prints.readings,
   (all.prints.readings, all.prints.are, refl),
   record {
     text = all.text;
     next = all.next;
     lost = all.lost;
-    prints = prints_merge listed room a b s all.text all.next all.lost all.prints;
+    prints = prints_merge listed room from a b s all.text all.next all.lost all.prints;
     sent = all.sent;
     rest = all.rest;
     taken_is = all.taken_is;
@@ -214,14 +215,14 @@ begins_by_line listed room a b s start taken all = (
 
 -- ---- what a run answers
 
-pub ended_by_line : (listed : List Instrument) (room : ℕ) (a b s : List RecordContent) (start after : List ℕ) (result : Result Summary RunFault)
-    → IfOk result (λ (summary : Summary). (text : List ℕ) × (after ≡ start ++ text) × PrintsAll listed room (in_order a b s) text summary.next summary.lost)
-    → IfOk result (λ (summary : Summary). (text : List ℕ) × (after ≡ start ++ text) × PrintsByLine listed room a b s text summary.next summary.lost)
-ended_by_line listed room a b s start after (Ok summary) all = (all.0, all.1, prints_by_line listed room a b s all.0 summary.next summary.lost all.2)
-ended_by_line listed room a b s start after (Err fault) all = tt
+pub ended_by_line : (listed : List Instrument) (room : ℕ) (from : Start) (a b s : List RecordContent) (start after : List ℕ) (result : Result Summary RunFault)
+    → IfOk result (λ (summary : Summary). (text : List ℕ) × (after ≡ start ++ text) × PrintsAll listed room from (in_order a b s) text summary.next summary.lost)
+    → IfOk result (λ (summary : Summary). (text : List ℕ) × (after ≡ start ++ text) × PrintsByLine listed room from a b s text summary.next summary.lost)
+ended_by_line listed room from a b s start after (Ok summary) all = (all.0, all.1, prints_by_line listed room from a b s all.0 summary.next summary.lost all.2)
+ended_by_line listed room from a b s start after (Err fault) all = tt
 
-pub failed_by_line : (listed : List Instrument) (room : ℕ) (a b s : List RecordContent) (start after : List ℕ) (result : Result Summary RunFault)
-    → IfErr result (λ (fault : RunFault). BeginsAll listed room (in_order a b s) start after)
-    → IfErr result (λ (fault : RunFault). BeginsByLine listed room a b s start after)
-failed_by_line listed room a b s start after (Ok summary) all = tt
-failed_by_line listed room a b s start after (Err fault) all = begins_by_line listed room a b s start after all
+pub failed_by_line : (listed : List Instrument) (room : ℕ) (from : Start) (a b s : List RecordContent) (start after : List ℕ) (result : Result Summary RunFault)
+    → IfErr result (λ (fault : RunFault). BeginsAll listed room from (in_order a b s) start after)
+    → IfErr result (λ (fault : RunFault). BeginsByLine listed room from a b s start after)
+failed_by_line listed room from a b s start after (Ok summary) all = tt
+failed_by_line listed room from a b s start after (Err fault) all = begins_by_line listed room from a b s start after all

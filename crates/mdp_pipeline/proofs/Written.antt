@@ -11,6 +11,7 @@ use Rattle.mdp_templates.specs.declared.instrument.Instrument.{Instrument}
 use Rattle.mdp_templates.specs.declared.feed.Feed.{Feed}
 use Rattle.mdp_templates.specs.declared.feed.Feed.TheVariants as feeds
 use Rattle.mdp_capture.specs.Record.{RecordContent}
+use Rattle.mdp_arbiter.specs.declared.start.Start.{Start}
 use Rattle.mdp_arbiter.specs.Accepted.{Event, recovered}
 use Rattle.mdp_engine.specs.Engine.{View, Stands}
 use Rattle.mdp_pipeline.specs.declared.progress.Run.{Run}
@@ -81,10 +82,10 @@ refusals-push readings feeds.S entry (refused refusal) =
     same_texts _ _ _ _ _ _ (lines-push feeds.A readings r ∙ append-nil (refusal_lines (readings_on feeds.A readings))) (lines-push feeds.B readings r ∙ append-nil (refusal_lines (readings_on feeds.B readings))) (lines-push feeds.S readings r)
 
 -- a record more
-read_more : {A : Type 0} (listed : List Instrument) (room : ℕ) (readings : List Reading) (feed : Feed) (entry : RecordContent) (sent : List ℕ) (old new : Run A)
-    → (takes : TakesAs (kind_of feed) feed entry.line entry.received old new) → HasRun listed room readings old.engine (sent ++ old.text.items) old.refusals
-    → HasRun listed room (readings ++ reading_of (record { feed = feed; entry = entry }) takes.said ∷ []) new.engine (sent ++ new.text.items) new.refusals
-read_more listed room readings feed entry sent old new takes run =
+read_more : {A : Type 0} (listed : List Instrument) (room : ℕ) (from : Start) (readings : List Reading) (feed : Feed) (entry : RecordContent) (sent : List ℕ) (old new : Run A)
+    → (takes : TakesAs (kind_of feed) feed entry.line entry.received old new) → HasRun listed room from readings old.engine (sent ++ old.text.items) old.refusals
+    → HasRun listed room from (readings ++ reading_of (record { feed = feed; entry = entry }) takes.said ∷ []) new.engine (sent ++ new.text.items) new.refusals
+read_more listed room from readings feed entry sent old new takes run =
     let reading = reading_of (record { feed = feed; entry = entry }) takes.said in
     record {
       stands = subst (λ (es : List Event). Stands listed es (sent ++ new.text.items) new.engine) (sym (events-push readings reading)) (takes.takes.goes.stands listed (events_of readings) sent run.stands);
@@ -95,57 +96,57 @@ read_more listed room readings feed entry sent old new takes run =
 
 -- ---- what went out
 
-pub writes_none : (listed : List Instrument) (room : ℕ) (taken : List ℕ) (engine : View) (text : List ℕ) (refusals : RefusalTexts) → text ≡ [] → HasRun listed room [] engine [] refusals → Writes listed room [] taken taken engine text refusals
-writes_none listed room taken engine text refusals empty run = record {
+pub writes_none : (listed : List Instrument) (room : ℕ) (from : Start) (taken : List ℕ) (engine : View) (text : List ℕ) (refusals : RefusalTexts) → text ≡ [] → HasRun listed room from [] engine [] refusals → Writes listed room from [] taken taken engine text refusals
+writes_none listed room from taken engine text refusals empty run = record {
   sent = [];
   taken_is = sym (append-nil taken);
-  over = record { readings = []; are = record { of = refl; each = tt }; run = subst (λ (t : List ℕ). HasRun listed room [] engine t refusals) (sym empty) run };
+  over = record { readings = []; are = record { of = refl; each = tt }; run = subst (λ (t : List ℕ). HasRun listed room from [] engine t refusals) (sym empty) run };
 }
 
-pub writes_more : {A : Type 0} (listed : List Instrument) (room : ℕ) (arrivals : List Arrival) (feed : Feed) (entry : RecordContent) (start taken : List ℕ) (old new : Run A)
-    → TakesAs (kind_of feed) feed entry.line entry.received old new → Writes listed room arrivals start taken old.engine old.text.items old.refusals
-    → Writes listed room (arrivals ++ (record { feed = feed; entry = entry }) ∷ []) start taken new.engine new.text.items new.refusals
-writes_more listed room arrivals feed entry start taken old new takes so_far = record {
+pub writes_more : {A : Type 0} (listed : List Instrument) (room : ℕ) (from : Start) (arrivals : List Arrival) (feed : Feed) (entry : RecordContent) (start taken : List ℕ) (old new : Run A)
+    → TakesAs (kind_of feed) feed entry.line entry.received old new → Writes listed room from arrivals start taken old.engine old.text.items old.refusals
+    → Writes listed room from (arrivals ++ (record { feed = feed; entry = entry }) ∷ []) start taken new.engine new.text.items new.refusals
+writes_more listed room from arrivals feed entry start taken old new takes so_far = record {
   sent = so_far.sent;
   taken_is = so_far.taken_is;
   over = record {
     readings = so_far.over.readings ++ reading_of (record { feed = feed; entry = entry }) takes.said ∷ [];
     are = readings-push arrivals so_far.over.readings (reading_of (record { feed = feed; entry = entry }) takes.said) so_far.over.are takes.says;
-    run = read_more listed room so_far.over.readings feed entry so_far.sent old new takes so_far.over.run;
+    run = read_more listed room from so_far.over.readings feed entry so_far.sent old new takes so_far.over.run;
   };
 }
 
 -- ---- the records that are left
 
 -- the records so far, in the order of their lines, and what was written of them
-pub record HasTaken (listed : List Instrument) (room : ℕ) (a b s : List RecordContent) (start taken : List ℕ) (engine : View) (held : List ℕ) (refusals : RefusalTexts) (a' b' s' : List RecordContent) : Type 0 where
+pub record HasTaken (listed : List Instrument) (room : ℕ) (from : Start) (a b s : List RecordContent) (start taken : List ℕ) (engine : View) (held : List ℕ) (refusals : RefusalTexts) (a' b' s' : List RecordContent) : Type 0 where
   pub done : List Arrival
   pub left : in_order a b s ≡ done ++ in_order a' b' s'
-  pub writes : Writes listed room done start taken engine held refusals
+  pub writes : Writes listed room from done start taken engine held refusals
 
-pub taken_none : (listed : List Instrument) (room : ℕ) (a b s : List RecordContent) (taken : List ℕ) (engine : View) (text : List ℕ) (refusals : RefusalTexts) → text ≡ [] → HasRun listed room [] engine [] refusals
-    → HasTaken listed room a b s taken taken engine text refusals a b s
-taken_none listed room a b s taken engine text refusals empty run = record { done = []; left = refl; writes = writes_none listed room taken engine text refusals empty run }
+pub taken_none : (listed : List Instrument) (room : ℕ) (from : Start) (a b s : List RecordContent) (taken : List ℕ) (engine : View) (text : List ℕ) (refusals : RefusalTexts) → text ≡ [] → HasRun listed room from [] engine [] refusals
+    → HasTaken listed room from a b s taken taken engine text refusals a b s
+taken_none listed room from a b s taken engine text refusals empty run = record { done = []; left = refl; writes = writes_none listed room from taken engine text refusals empty run }
 
-pub taken_more : {A : Type 0} (listed : List Instrument) (room : ℕ) (a b s : List RecordContent) (start taken taken' : List ℕ) (old new sent : Run A) (a' b' s' a'' b'' s'' : List RecordContent) (feed : Feed) (entry : RecordContent)
+pub taken_more : {A : Type 0} (listed : List Instrument) (room : ℕ) (from : Start) (a b s : List RecordContent) (start taken taken' : List ℕ) (old new sent : Run A) (a' b' s' a'' b'' s'' : List RecordContent) (feed : Feed) (entry : RecordContent)
     → in_order a' b' s' ≡ (record { feed = feed; entry = entry }) ∷ in_order a'' b'' s''
     → TakesAs (kind_of feed) feed entry.line entry.received old new
-    → ((arrivals : List Arrival) → Writes listed room arrivals start taken new.engine new.text.items new.refusals → Writes listed room arrivals start taken' sent.engine sent.text.items sent.refusals)
-    → HasTaken listed room a b s start taken old.engine old.text.items old.refusals a' b' s'
-    → HasTaken listed room a b s start taken' sent.engine sent.text.items sent.refusals a'' b'' s''
-taken_more listed room a b s start taken taken' old new sent a' b' s' a'' b'' s'' feed entry next takes goes_out so_far =
+    → ((arrivals : List Arrival) → Writes listed room from arrivals start taken new.engine new.text.items new.refusals → Writes listed room from arrivals start taken' sent.engine sent.text.items sent.refusals)
+    → HasTaken listed room from a b s start taken old.engine old.text.items old.refusals a' b' s'
+    → HasTaken listed room from a b s start taken' sent.engine sent.text.items sent.refusals a'' b'' s''
+taken_more listed room from a b s start taken taken' old new sent a' b' s' a'' b'' s'' feed entry next takes goes_out so_far =
     let arrival : Arrival = record { feed = feed; entry = entry } in
     record {
       done = so_far.done ++ arrival ∷ [];
       left = so_far.left ∙ ap (λ (t : List Arrival). so_far.done ++ t) next ∙ sym (append_assoc so_far.done (arrival ∷ []) (in_order a'' b'' s''));
-      writes = goes_out (so_far.done ++ arrival ∷ []) (writes_more listed room so_far.done feed entry start taken old new takes so_far.writes);
+      writes = goes_out (so_far.done ++ arrival ∷ []) (writes_more listed room from so_far.done feed entry start taken old new takes so_far.writes);
     }
 
-pub taken_all : (listed : List Instrument) (room : ℕ) (a b s : List RecordContent) (start taken : List ℕ) (engine : View) (held : List ℕ) (refusals : RefusalTexts) (a' b' s' : List RecordContent) → in_order a' b' s' ≡ []
-    → HasTaken listed room a b s start taken engine held refusals a' b' s' → Writes listed room (in_order a b s) start taken engine held refusals
-taken_all listed room a b s start taken engine held refusals a' b' s' none so_far =
+pub taken_all : (listed : List Instrument) (room : ℕ) (from : Start) (a b s : List RecordContent) (start taken : List ℕ) (engine : View) (held : List ℕ) (refusals : RefusalTexts) (a' b' s' : List RecordContent) → in_order a' b' s' ≡ []
+    → HasTaken listed room from a b s start taken engine held refusals a' b' s' → Writes listed room from (in_order a b s) start taken engine held refusals
+taken_all listed room from a b s start taken engine held refusals a' b' s' none so_far =
     let all : in_order a b s ≡ so_far.done = so_far.left ∙ ap (λ (t : List Arrival). so_far.done ++ t) none ∙ append-nil so_far.done in
-    subst (λ (arrivals : List Arrival). Writes listed room arrivals start taken engine held refusals) (sym all) so_far.writes
+    subst (λ (arrivals : List Arrival). Writes listed room from arrivals start taken engine held refusals) (sym all) so_far.writes
 
 -- ---- how much went out
 
@@ -167,25 +168,25 @@ fault_counted start taken after written (Ok summary) told so_far = tt
 fault_counted start taken after written (Err fault) told so_far = told start so_far
 
 -- a run over all records has ended
-pub run_printed : (listed : List Instrument) (room : ℕ) (arrivals : List Arrival) (start taken after : List ℕ) (engine : View) (held : List ℕ) (refusals : RefusalTexts) (result : Result Summary RunFault)
-    → IfOk result (λ (summary : Summary). (listed : List Instrument) (room : ℕ) (events : List Event) (start : List ℕ) → HasShown listed room events start taken engine held
-    → EndsAs listed room events (joined_texts refusals) start after summary.next summary.lost)
-    → Writes listed room arrivals start taken engine held refusals
-    → IfOk result (λ (summary : Summary). (text : List ℕ) × (after ≡ start ++ text) × PrintsAll listed room arrivals text summary.next summary.lost)
-run_printed listed room arrivals start taken after engine held refusals (Ok summary) ends so_far =
-    prints_all listed room arrivals start taken after engine held refusals summary.next summary.lost so_far
-    (ends listed room (events_of so_far.over.readings) start (writes_shown listed room arrivals start taken engine held refusals so_far))
-run_printed listed room arrivals start taken after engine held refusals (Err fault) ends so_far = tt
+pub run_printed : (listed : List Instrument) (room : ℕ) (from : Start) (arrivals : List Arrival) (start taken after : List ℕ) (engine : View) (held : List ℕ) (refusals : RefusalTexts) (result : Result Summary RunFault)
+    → IfOk result (λ (summary : Summary). (listed : List Instrument) (room : ℕ) (from : Start) (events : List Event) (start : List ℕ) → HasShown listed room from events start taken engine held
+    → EndsAs listed room from events (joined_texts refusals) start after summary.next summary.lost)
+    → Writes listed room from arrivals start taken engine held refusals
+    → IfOk result (λ (summary : Summary). (text : List ℕ) × (after ≡ start ++ text) × PrintsAll listed room from arrivals text summary.next summary.lost)
+run_printed listed room from arrivals start taken after engine held refusals (Ok summary) ends so_far =
+    prints_all listed room from arrivals start taken after engine held refusals summary.next summary.lost so_far
+    (ends listed room from (events_of so_far.over.readings) start (writes_shown listed room from arrivals start taken engine held refusals so_far))
+run_printed listed room from arrivals start taken after engine held refusals (Err fault) ends so_far = tt
 
-pub run_begins : (listed : List Instrument) (room : ℕ) (arrivals : List Arrival) (start taken after : List ℕ) (engine : View) (held : List ℕ) (refusals : RefusalTexts) (result : Result Summary RunFault)
-    → IfErr result (λ (fault : RunFault). (listed : List Instrument) (room : ℕ) (events : List Event) (start : List ℕ) → HasShown listed room events start taken engine held
-    → EndsEarly listed room events (joined_texts refusals) start after)
-    → Writes listed room arrivals start taken engine held refusals
-    → IfErr result (λ (fault : RunFault). BeginsAll listed room arrivals start after)
-run_begins listed room arrivals start taken after engine held refusals (Ok summary) ends so_far = tt
-run_begins listed room arrivals start taken after engine held refusals (Err fault) ends so_far =
-    begins_all listed room arrivals start taken after engine held refusals so_far
-    (ends listed room (events_of so_far.over.readings) start (writes_shown listed room arrivals start taken engine held refusals so_far))
+pub run_begins : (listed : List Instrument) (room : ℕ) (from : Start) (arrivals : List Arrival) (start taken after : List ℕ) (engine : View) (held : List ℕ) (refusals : RefusalTexts) (result : Result Summary RunFault)
+    → IfErr result (λ (fault : RunFault). (listed : List Instrument) (room : ℕ) (from : Start) (events : List Event) (start : List ℕ) → HasShown listed room from events start taken engine held
+    → EndsEarly listed room from events (joined_texts refusals) start after)
+    → Writes listed room from arrivals start taken engine held refusals
+    → IfErr result (λ (fault : RunFault). BeginsAll listed room from arrivals start after)
+run_begins listed room from arrivals start taken after engine held refusals (Ok summary) ends so_far = tt
+run_begins listed room from arrivals start taken after engine held refusals (Err fault) ends so_far =
+    begins_all listed room from arrivals start taken after engine held refusals so_far
+    (ends listed room from (events_of so_far.over.readings) start (writes_shown listed room from arrivals start taken engine held refusals so_far))
 
 -- ---- snapshots
 

@@ -3,6 +3,7 @@ use Rattle.std.specs.Prelude.{◌≡◌, ℕ, List, [], ◌∷◌, ◌++◌, Boo
 use Rattle.mdp_templates.specs.declared.instrument.Instrument.{Instrument}
 use Rattle.mdp_templates.specs.declared.feed.Feed.{Feed}
 use Rattle.mdp_templates.specs.declared.feed.Feed.TheVariants as feeds
+use Rattle.mdp_arbiter.specs.declared.start.Start.{Start}
 use Rattle.mdp_arbiter.specs.Channel.{channel_of}
 use Rattle.mdp_arbiter.specs.Accepted.{Event}
 use Rattle.mdp_engine.specs.Engine.{View, Stands}
@@ -41,39 +42,44 @@ pub record TakesAs {A : Type 0} (kind : Kind) (feed : Feed) (line : ℕ) (receiv
   pub takes : TakesSaid feed line said old new
 
 -- the engine stands at the events of these readings after the text so far, and holds no line back
-pub record HasRun (listed : List Instrument) (room : ℕ) (readings : List Reading) (engine : View) (text : List ℕ) (refusals : RefusalTexts) : Type 0 where
+pub record HasRun (listed : List Instrument) (room : ℕ) (from : Start) (readings : List Reading) (engine : View) (text : List ℕ)
+    (refusals : RefusalTexts) : Type 0 where
   pub stands : Stands listed (events_of readings) text engine
   pub drained : engine.held ≡ []
-  pub channel : engine.arbiter.channel ≡ channel_of listed room
+  pub channel : engine.arbiter.channel ≡ channel_of listed room from
   pub refusals_are : refusals ≡ refusals_of readings
 
 -- a record more, and what it says
-pub record HasRead (listed : List Instrument) (room : ℕ) (readings : List Reading) (arrival : Arrival) (engine : View) (text : List ℕ) (refusals : RefusalTexts) : Type 0 where
+pub record HasRead (listed : List Instrument) (room : ℕ) (from : Start) (readings : List Reading) (arrival : Arrival) (engine : View)
+    (text : List ℕ) (refusals : RefusalTexts) : Type 0 where
   pub said : Said
   pub says : Says (kind_of arrival.feed) arrival.entry.received said
-  pub run : HasRun listed room (readings ++ (record { arrival = arrival; said = said }) ∷ []) engine text refusals
+  pub run : HasRun listed room from (readings ++ (record { arrival = arrival; said = said }) ∷ []) engine text refusals
 
 -- a run over these records
-pub record RunsOver (listed : List Instrument) (room : ℕ) (arrivals : List Arrival) (engine : View) (text : List ℕ) (refusals : RefusalTexts) : Type 0 where
+pub record RunsOver (listed : List Instrument) (room : ℕ) (from : Start) (arrivals : List Arrival) (engine : View) (text : List ℕ)
+    (refusals : RefusalTexts) : Type 0 where
   pub readings : List Reading
   pub are : AreReadings arrivals readings
-  pub run : HasRun listed room readings engine text refusals
+  pub run : HasRun listed room from readings engine text refusals
 
 -- a run over these records whose text went out as far as the writer took it; the rest is held
-pub record Writes (listed : List Instrument) (room : ℕ) (arrivals : List Arrival) (start taken : List ℕ) (engine : View) (held : List ℕ) (refusals : RefusalTexts) : Type 0 where
+pub record Writes (listed : List Instrument) (room : ℕ) (from : Start) (arrivals : List Arrival) (start taken : List ℕ) (engine : View)
+    (held : List ℕ) (refusals : RefusalTexts) : Type 0 where
   pub sent : List ℕ
   pub taken_is : taken ≡ start ++ sent
-  pub over : RunsOver listed room arrivals engine (sent ++ held) refusals
+  pub over : RunsOver listed room from arrivals engine (sent ++ held) refusals
 
 -- ---- what the caller's thread has shown of the events that it took, whatever the feeds
 
 -- the engine stands at these events, and what it shows of them went out as far as the writer took it; the rest is held
-pub record HasShown (listed : List Instrument) (room : ℕ) (events : List Event) (start taken : List ℕ) (engine : View) (held : List ℕ) : Type 0 where
+pub record HasShown (listed : List Instrument) (room : ℕ) (from : Start) (events : List Event) (start taken : List ℕ) (engine : View)
+    (held : List ℕ) : Type 0 where
   pub sent : List ℕ
   pub taken_is : taken ≡ start ++ sent
   pub stands : Stands listed events (sent ++ held) engine
   pub drained : engine.held ≡ []
-  pub channel : engine.arbiter.channel ≡ channel_of listed room
+  pub channel : engine.arbiter.channel ≡ channel_of listed room from
 
 -- a front of the text went out
 pub record HandsOn {A : Type 0} (taken taken' : List ℕ) (old new : Run A) : Type 0 where
@@ -88,36 +94,39 @@ abbrev pub joined_texts : RefusalTexts → List ℕ
 joined_texts texts = texts.a ++ (texts.b ++ texts.s)
 
 -- the whole text went out
-pub record EndsAs (listed : List Instrument) (room : ℕ) (events : List Event) (refusals start taken : List ℕ) (next : ℕ) (lost : Bool) : Type 0 where
+pub record EndsAs (listed : List Instrument) (room : ℕ) (from : Start) (events : List Event) (refusals start taken : List ℕ) (next : ℕ)
+    (lost : Bool) : Type 0 where
   pub text : List ℕ
   pub taken_is : taken ≡ start ++ text
-  pub next_is : next ≡ next_after listed room events
-  pub lost_is : lost ≡ is_lost_after listed room events
-  pub shown : text ≡ shown_output listed room refusals events
+  pub next_is : next ≡ next_after listed room from events
+  pub lost_is : lost ≡ is_lost_after listed room from events
+  pub shown : text ≡ shown_output listed room from refusals events
 
 -- a beginning of the text went out
-pub record EndsEarly (listed : List Instrument) (room : ℕ) (events : List Event) (refusals start taken : List ℕ) : Type 0 where
+pub record EndsEarly (listed : List Instrument) (room : ℕ) (from : Start) (events : List Event)
+    (refusals start taken : List ℕ) : Type 0 where
   pub sent : List ℕ
   pub rest : List ℕ
   pub taken_is : taken ≡ start ++ sent
-  pub whole : shown_output listed room refusals events ≡ sent ++ rest
+  pub whole : shown_output listed room from refusals events ≡ sent ++ rest
 
 -- ---- runs over records of all feeds in one list
 
 -- the text of these records, in this order: what their moves show
-pub record PrintsAll (listed : List Instrument) (room : ℕ) (arrivals : List Arrival) (text : List ℕ) (next : ℕ) (lost : Bool) : Type 0 where
+pub record PrintsAll (listed : List Instrument) (room : ℕ) (from : Start) (arrivals : List Arrival) (text : List ℕ) (next : ℕ)
+    (lost : Bool) : Type 0 where
   pub readings : List Reading
   pub are : AreReadings arrivals readings
-  pub next_is : next ≡ next_after listed room (events_of readings)
-  pub lost_is : lost ≡ is_lost_after listed room (events_of readings)
-  pub shown : text ≡ shown_output listed room (refusals_text (by_feed readings)) (events_of readings)
+  pub next_is : next ≡ next_after listed room from (events_of readings)
+  pub lost_is : lost ≡ is_lost_after listed room from (events_of readings)
+  pub shown : text ≡ shown_output listed room from (refusals_text (by_feed readings)) (events_of readings)
 
 -- what went out is a beginning of it
-pub record BeginsAll (listed : List Instrument) (room : ℕ) (arrivals : List Arrival) (start taken : List ℕ) : Type 0 where
+pub record BeginsAll (listed : List Instrument) (room : ℕ) (from : Start) (arrivals : List Arrival) (start taken : List ℕ) : Type 0 where
   pub text : List ℕ
   pub next : ℕ
   pub lost : Bool
-  pub prints : PrintsAll listed room arrivals text next lost
+  pub prints : PrintsAll listed room from arrivals text next lost
   pub sent : List ℕ
   pub rest : List ℕ
   pub taken_is : taken ≡ start ++ sent

@@ -59,7 +59,7 @@ fn decode<A: Allocator + Copy>(alloc: A, feed: Feed, bytes: &[u8]) -> Result<Dec
     }
 }
 
-// What a close on a feed brings.
+// Tells what a close on a feed brings.
 fn decode_close<A: Allocator>(feed: Feed) -> Decoded<A>
     ensures { Says (kind_of feed) Close (said_of result) }
 {

@@ -9,12 +9,14 @@ ghost use Rattle.mdp_pipeline.specs.Output.{BeginsByLine, PrintsByLine};
 ghost use Rattle.mdp_pipeline.specs.Running.{EndsAs, EndsEarly, HandsOn, HasShown, joined_texts};
 ghost use Rattle.mdp_templates.specs.declared.instrument.Instrument.{Instrument};
 ghost use Rattle.mdp_arbiter.specs.Accepted.{Event};
+ghost use Rattle.mdp_arbiter.specs.declared.start.Start.{Start};
 ghost use Rattle.mdp_print.specs.Texts.{last_line};
 
 use crate::merge::InOrder;
 use crate::progress::Run;
 use crate::refusals::Refusals;
 use crate::summary::{RunFault, Summary};
+use mdp_arbiter::Start;
 use mdp_capture::Record;
 use mdp_print::{CountedWrite, write_all_counted};
 use mdp_templates::Instrument;
@@ -69,7 +71,8 @@ fn hand_on_pieces<W: CountedWrite, A: Allocator + Copy>(
 }
 
 /// Runs over the records of the feeds on one thread, in the order of the capture's lines, and writes what is owed; of
-/// equal lines feed A's record goes before B's, and B's before S's. The window covers 1 to 65536 packet numbers.
+/// equal lines feed A's record goes before B's, and B's before S's. The window covers 1 to 65536 packet numbers. With `Start::Join` no
+/// packet passes before a first jump.
 ///
 /// # Errors
 ///
@@ -82,6 +85,7 @@ pub fn run_in_order<W: CountedWrite, A: Allocator + Copy>(
     b: &[Record<A>],
     s: &[Record<A>],
     window: u32,
+    start: Start,
     writer: &mut W,
 ) -> Result<Summary, RunFault>
     requires sound { W.failed writer.old < 2 ^ 64 - 1 }
@@ -89,14 +93,15 @@ pub fn run_in_order<W: CountedWrite, A: Allocator + Copy>(
     requires least { 1 ≤ window }
     requires most { window ≤ 65536 }
     ensures text { IfOk result (λ summary. (text : List ℕ) × (W.taken writer.new ≡ W.taken writer.old ++ text)
-        × PrintsByLine instruments.now window a.now b.now s.now text summary.next summary.lost) }
-    ensures begins { IfErr result (λ _. BeginsByLine instruments.now window a.now b.now s.now (W.taken writer.old) (W.taken writer.new)) }
+        × PrintsByLine instruments.now window start a.now b.now s.now text summary.next summary.lost) }
+    ensures begins { IfErr result (λ _. BeginsByLine instruments.now window start a.now b.now s.now
+        (W.taken writer.old) (W.taken writer.new)) }
     ensures written { IfOk result (λ summary. HasCounted (W.taken writer.old) (W.taken writer.new) summary.written) }
     ensures told { IfErr result (λ fault. HasCounted (W.taken writer.old) (W.taken writer.new) (written_before fault)) }
     ensures failed { FailsBy result (W.failed writer.old) (W.failed writer.new) }
 {
     let mut written = 0;
-    let Ok(mut run) = Run::new(alloc, instruments, window) else {
+    let Ok(mut run) = Run::new(alloc, instruments, window, start) else {
         return Err(RunFault::Memory { written });
     };
     let mut records = InOrder { a, b, s };
@@ -116,12 +121,12 @@ fn finish<W: CountedWrite, A: Allocator + Copy>(
     mut written: u64,
 ) -> Result<Summary, RunFault>
     requires { W.failed writer.old < 2 ^ 64 - 1 }
-    ensures text { IfOk result (λ summary. (listed : List Instrument) (room : ℕ) (events : List Event) (start : List ℕ) →
-        HasShown listed room events start (W.taken writer.old) run.engine run.text.items →
-        EndsAs listed room events (joined_texts run.refusals) start (W.taken writer.new) summary.next summary.lost) }
-    ensures begins { IfErr result (λ _. (listed : List Instrument) (room : ℕ) (events : List Event) (start : List ℕ) →
-        HasShown listed room events start (W.taken writer.old) run.engine run.text.items →
-        EndsEarly listed room events (joined_texts run.refusals) start (W.taken writer.new)) }
+    ensures text { IfOk result (λ summary. (listed : List Instrument) (room : ℕ) (from : Start) (events : List Event) (start : List ℕ) →
+        HasShown listed room from events start (W.taken writer.old) run.engine run.text.items →
+        EndsAs listed room from events (joined_texts run.refusals) start (W.taken writer.new) summary.next summary.lost) }
+    ensures begins { IfErr result (λ _. (listed : List Instrument) (room : ℕ) (from : Start) (events : List Event) (start : List ℕ) →
+        HasShown listed room from events start (W.taken writer.old) run.engine run.text.items →
+        EndsEarly listed room from events (joined_texts run.refusals) start (W.taken writer.new)) }
     ensures counts { IfOk result (λ summary. (start : List ℕ) → HasCounted start (W.taken writer.old) written → HasCounted start (W.taken writer.new) summary.written) }
     ensures told { IfErr result (λ fault. (start : List ℕ) → HasCounted start (W.taken writer.old) written → HasCounted start (W.taken writer.new) (written_before fault)) }
     ensures failed { FailsBy result (W.failed writer.old) (W.failed writer.new) }

@@ -15,7 +15,7 @@ pub struct InOrder<'a, A: Allocator> {
     pub s: &'a [Record<A>],
 }
 
-// The line of the first record, if there is one.
+// Tells the line of the first record, if there is one.
 fn first_line<A: Allocator>(records: &[Record<A>]) -> Option<u32>
     ensures { result ≡ head_line records.now }
 {
@@ -25,7 +25,7 @@ fn first_line<A: Allocator>(records: &[Record<A>]) -> Option<u32>
     }
 }
 
-// Whether a list with this first line goes before another.
+// Tells whether a list with this first line goes before another.
 fn goes_first(line: Option<u32>, other: Option<u32>) -> bool
     ensures { result ≡ is_first line other }
 {
@@ -37,7 +37,7 @@ fn goes_first(line: Option<u32>, other: Option<u32>) -> bool
 }
 
 impl<'a, A: Allocator> InOrder<'a, A> {
-    // The feed whose first record comes next, S where no feed has one.
+    // Gives the feed whose first record comes next, S where no feed has one.
     fn next_feed(&self) -> Feed
         ensures { result ≡ first_feed (head_line self.now.a.now) (head_line self.now.b.now) (head_line self.now.s.now) }
     {

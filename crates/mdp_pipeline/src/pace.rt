@@ -17,7 +17,7 @@ struct Lines {
 }
 
 impl Lines {
-    // The line of the slowest reader.
+    // Tells the line of the slowest reader.
     fn slowest(&self) -> u32 {
         self.a.min(self.b).min(self.s)
     }
@@ -45,7 +45,7 @@ pub struct Pace {
     moved: Condvar,
 }
 
-// The line of the first close of feed S.
+// Tells the line of the first close of feed S.
 fn first_close<A: Allocator>(s: &[Record<A>]) -> u32 {
     for record in s {
         if record.bytes().is_none() {
@@ -56,8 +56,8 @@ fn first_close<A: Allocator>(s: &[Record<A>]) -> u32 {
 }
 
 impl Pace {
-    /// The pace of a run whose window covers so many packet numbers, over these records of feed S. The lead is a quarter of that many
-    /// lines: the other three quarters are for what the feeds themselves are apart.
+    /// Makes the pace of a run whose window covers so many packet numbers, over these records of feed S. The lead is
+    /// a quarter of that many lines: the other three quarters are for what the feeds themselves are apart.
     pub fn new<A: Allocator>(window: u32, s: &[Record<A>]) -> Pace {
         Pace {
             go: OnceLock::new(),
@@ -68,7 +68,7 @@ impl Pace {
         }
     }
 
-    // The last line that may be read where the slowest reader stands at this one.
+    // Tells the last line that may be read where the slowest reader stands at this one.
     fn last_line(&self, slowest: u32) -> u32 {
         if slowest == self.close {
             return slowest;

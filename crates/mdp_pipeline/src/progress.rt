@@ -10,6 +10,7 @@ ghost use Rattle.mdp_pipeline.specs.Running.{GoesOn, HasRun, TakesAs, TakesSaid}
 
 use crate::decoding::{Decoded, read_record};
 use crate::refusals::Refusals;
+use mdp_arbiter::Start;
 use mdp_capture::Record;
 use mdp_engine::{Engine, Event};
 use mdp_templates::{Feed, Instrument, Memory, Packet, Snapshot};
@@ -26,17 +27,22 @@ pub struct Run<A: Allocator + Copy> {
 }
 
 impl<A: Allocator + Copy> Run<A> {
-    /// A run before any record, over a window of 1 to 65536.
-    pub fn new(alloc: A, instruments: &[Instrument], window: u32) -> Result<Run<A>, Memory>
+    /// Makes a run before any record, over a window of 1 to 65536.
+    pub fn new(
+        alloc: A,
+        instruments: &[Instrument],
+        window: u32,
+        start: Start,
+    ) -> Result<Run<A>, Memory>
         requires fit { AreFit instruments.now }
         requires least { 1 ≤ window }
         requires most { window ≤ 65536 }
-        ensures run { IfOk result (λ r. HasRun instruments.now window [] r.engine [] r.refusals) }
+        ensures run { IfOk result (λ r. HasRun instruments.now window start [] r.engine [] r.refusals) }
         ensures empty { IfOk result (λ r. r.text.items ≡ []) }
     {
         let window = RingWindow::new(alloc, u64::from(window))?;
         Ok(Run {
-            engine: Engine::new(alloc, instruments, window)?,
+            engine: Engine::new(alloc, instruments, window, start)?,
             text: Vec::new(alloc),
             refusals: Refusals::new(alloc),
         })

@@ -61,7 +61,7 @@ fn push_all<A: Allocator + Copy>(
     Ok(())
 }
 
-// The number of a feed, from 0, under which a gate is told of its reader.
+// Tells the number of a feed, from 0, under which a gate is told of its reader.
 fn number_of(feed: Feed) -> usize {
     match feed {
         Feed::A => 0,

@@ -29,7 +29,7 @@ impl<A: Allocator> Model for Refusals<A> {
 }
 
 impl<A: Allocator + Copy> Refusals<A> {
-    /// No line.
+    /// Makes texts with no line.
     pub fn new(alloc: A) -> Refusals<A>
         ensures { result ≡ no_refusals }
     {
@@ -40,7 +40,7 @@ impl<A: Allocator + Copy> Refusals<A> {
         }
     }
 
-    /// These lines of the three feeds.
+    /// Makes texts of these lines of the three feeds.
     pub fn of(a: Vec<u8, A>, b: Vec<u8, A>, s: Vec<u8, A>) -> Refusals<A>
         ensures { result ≡ record { a = a.items; b = b.items; s = s.items } }
     {
@@ -59,7 +59,7 @@ impl<A: Allocator + Copy> Refusals<A> {
         Ok(())
     }
 
-    /// The lines of feed A, then B's, then S's, and then the last line of the run.
+    /// Gives the lines of feed A, then B's, then S's, and then the last line of the run.
     pub fn into_end(self, next: u64, lost: bool) -> Result<Vec<u8, A>, Memory>
         ensures { IfOk result (λ text. text.items ≡ (self.a ++ (self.b ++ self.s)) ++ last_line next lost) }
     {

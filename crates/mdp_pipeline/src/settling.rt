@@ -5,6 +5,7 @@ ghost use Rattle.mdp_lanes.specs.Boards.{Published};
 ghost use Rattle.mdp_lanes.specs.Items.{ends_taken};
 ghost use Rattle.mdp_lanes.specs.declared.step.Step.{Step};
 ghost use Rattle.mdp_templates.specs.declared.instrument.Instrument.{Instrument};
+ghost use Rattle.mdp_arbiter.specs.declared.start.Start.{Start};
 ghost use Rattle.mdp_crew.specs.Batches.{events_taken};
 ghost use Rattle.mdp_crew.specs.Counted.{HasCounted};
 ghost use Rattle.mdp_crew.specs.Publishing.{published_on};
@@ -48,15 +49,18 @@ pub fn settle_and_finish<W: CountedWrite, A: Allocator + Copy>(
     requires a { HasReadFor crew.receiver Feed.A a.now readers.a }
     requires b { HasReadFor crew.receiver Feed.B b.now readers.b }
     requires s { HasReadFor crew.receiver Feed.S s.now readers.s }
-    ensures text { IfOk result (λ summary. (listed : List Instrument) (room : ℕ) (start : List ℕ) (before after : Option Published)
-        → HasShown listed room (events_taken crew.receiver.taken) start (W.taken writer.old) crew.standing
-        → HasPublished listed room (events_taken crew.receiver.taken) before after crew.standing
+    ensures text { IfOk result (λ summary. (listed : List Instrument) (room : ℕ) (from : Start) (start : List ℕ)
+        (before after : Option Published)
+        → HasShown listed room from (events_taken crew.receiver.taken) start (W.taken writer.old) crew.standing
+        → HasPublished listed room from (events_taken crew.receiver.taken) before after crew.standing
         → (text : List ℕ) × (steps : List Step) × (W.taken writer.new ≡ start ++ text) × (after ≡ published_on before steps)
-        × PublishesMerge listed room a.now b.now s.now text summary.next summary.lost steps) }
-    ensures begins { IfErr result (λ _. (listed : List Instrument) (room : ℕ) (start : List ℕ) (before after : Option Published)
-        → HasShown listed room (events_taken crew.receiver.taken) start (W.taken writer.old) crew.standing
-        → HasPublished listed room (events_taken crew.receiver.taken) before after crew.standing
-        → (steps : List Step) × (after ≡ published_on before steps) × BeginsToPublishMerge listed room a.now b.now s.now start (W.taken writer.new) steps) }
+        × PublishesMerge listed room from a.now b.now s.now text summary.next summary.lost steps) }
+    ensures begins { IfErr result (λ _. (listed : List Instrument) (room : ℕ) (from : Start) (start : List ℕ)
+        (before after : Option Published)
+        → HasShown listed room from (events_taken crew.receiver.taken) start (W.taken writer.old) crew.standing
+        → HasPublished listed room from (events_taken crew.receiver.taken) before after crew.standing
+        → (steps : List Step) × (after ≡ published_on before steps) × BeginsToPublishMerge listed room from a.now b.now s.now start
+        (W.taken writer.new) steps) }
     ensures counts { IfOk result (λ summary. (start : List ℕ)
         → HasCounted start (W.taken writer.old) crew.written → HasCounted start (W.taken writer.new) summary.written) }
     ensures told { IfErr result (λ fault. (start : List ℕ)

@@ -11,6 +11,7 @@ ghost use Rattle.std.specs.Prelude.{◌≤◌};
 
 use crate::summary::{RunFault, Summary};
 use crate::threads::run_where;
+use mdp_arbiter::Start;
 use mdp_capture::{CountingReader, read_capture};
 use mdp_crew::{Always, Gate, Open, Starts};
 use refusing::Refusing;
@@ -161,6 +162,7 @@ where
         capture.s(),
         workers,
         4,
+        Start::FromOne,
         gate,
         &mut board,
         &mut kept,

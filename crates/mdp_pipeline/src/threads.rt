@@ -17,6 +17,7 @@ use crate::pace::Pace;
 use crate::reader::{ReaderOutcome, read_feed};
 use crate::settling::{Readers, settle_and_finish};
 use crate::summary::{RunFault, Summary};
+use mdp_arbiter::Start;
 use mdp_capture::Record;
 use mdp_crew::{Always, Batch, Gate, Starts, run_crew};
 use mdp_lanes::{Intake, IntakeSender, Publisher};
@@ -120,6 +121,7 @@ fn run_in<'s, E, R, S, G, W, A>(
     s: &'s [Record<A>],
     workers: u16,
     window: u32,
+    start: Start,
     gate: &'s G,
     board: &mut Option<Publisher<A>>,
     writer: &mut W,
@@ -138,9 +140,10 @@ where
     requires most { window ≤ 65536 }
     ensures text { IfOk result (λ summary. (text : List ℕ) × (steps : List Step)
         × (W.taken writer.new ≡ W.taken writer.old ++ text) × (board.new ≡ published_on board.old steps)
-        × PublishesMerge instruments.entry.now window a.entry.now b.entry.now s.entry.now text summary.next summary.lost steps) }
+        × PublishesMerge instruments.entry.now window start a.entry.now b.entry.now s.entry.now text summary.next summary.lost steps) }
     ensures begins { IfErr result (λ _. (steps : List Step) × (board.new ≡ published_on board.old steps)
-        × BeginsToPublishMerge instruments.entry.now window a.entry.now b.entry.now s.entry.now (W.taken writer.old) (W.taken writer.new) steps) }
+        × BeginsToPublishMerge instruments.entry.now window start a.entry.now b.entry.now s.entry.now
+        (W.taken writer.old) (W.taken writer.new) steps) }
     ensures written { IfOk result (λ summary. HasCounted (W.taken writer.old) (W.taken writer.new) summary.written) }
     ensures told { IfErr result (λ fault. HasCounted (W.taken writer.old) (W.taken writer.new) (written_before fault)) }
     ensures failed { FailsBy result (W.failed writer.old) (W.failed writer.new) }
@@ -161,6 +164,7 @@ where
         instruments,
         workers,
         window,
+        start,
         receiver,
         board,
         writer,
@@ -184,6 +188,7 @@ pub(crate) fn run_where<R, S, G, W, A>(
     s: &[Record<A>],
     workers: u16,
     window: u32,
+    start: Start,
     gate: &G,
     board: &mut Option<Publisher<A>>,
     writer: &mut W,
@@ -201,9 +206,9 @@ where
     requires most { window ≤ 65536 }
     ensures text { IfOk result (λ summary. (text : List ℕ) × (steps : List Step)
         × (W.taken writer.new ≡ W.taken writer.old ++ text) × (board.new ≡ published_on board.old steps)
-        × PublishesMerge instruments.now window a.now b.now s.now text summary.next summary.lost steps) }
+        × PublishesMerge instruments.now window start a.now b.now s.now text summary.next summary.lost steps) }
     ensures begins { IfErr result (λ _. (steps : List Step) × (board.new ≡ published_on board.old steps)
-        × BeginsToPublishMerge instruments.now window a.now b.now s.now (W.taken writer.old) (W.taken writer.new) steps) }
+        × BeginsToPublishMerge instruments.now window start a.now b.now s.now (W.taken writer.old) (W.taken writer.new) steps) }
     ensures written { IfOk result (λ summary. HasCounted (W.taken writer.old) (W.taken writer.new) summary.written) }
     ensures told { IfErr result (λ fault. HasCounted (W.taken writer.old) (W.taken writer.new) (written_before fault)) }
     ensures failed { FailsBy result (W.failed writer.old) (W.failed writer.new) }
@@ -218,9 +223,11 @@ where
             ensures same { (result.0.ghost_name ≡ writer.entry.ghost_name) × (result.1.ghost_name ≡ board.entry.ghost_name) }
             ensures text { IfOk result.2 (λ summary. (text : List ℕ) × (steps : List Step)
                 × (W.taken result.0.now ≡ W.taken writer.entry.now ++ text) × (result.1.now ≡ published_on board.entry.now steps)
-                × PublishesMerge instruments.entry.now window a.entry.now b.entry.now s.entry.now text summary.next summary.lost steps) }
+                × PublishesMerge instruments.entry.now window start a.entry.now b.entry.now s.entry.now
+                text summary.next summary.lost steps) }
             ensures begins { IfErr result.2 (λ _. (steps : List Step) × (result.1.now ≡ published_on board.entry.now steps)
-                × BeginsToPublishMerge instruments.entry.now window a.entry.now b.entry.now s.entry.now (W.taken writer.entry.now) (W.taken result.0.now) steps) }
+                × BeginsToPublishMerge instruments.entry.now window start a.entry.now b.entry.now s.entry.now
+                (W.taken writer.entry.now) (W.taken result.0.now) steps) }
             ensures written { IfOk result.2 (λ summary. HasCounted (W.taken writer.entry.now) (W.taken result.0.now) summary.written) }
             ensures told { IfErr result.2 (λ fault. HasCounted (W.taken writer.entry.now) (W.taken result.0.now) (written_before fault)) }
             ensures failed { FailsBy result.2 (W.failed writer.entry.now) (W.failed result.0.now) }
@@ -237,6 +244,7 @@ where
                 s,
                 workers,
                 window,
+                start,
                 gate,
                 board,
                 writer,
@@ -251,9 +259,10 @@ where
 
 /// Runs over the records of the feeds in threads: one for each feed, which decodes its records, the arbiter's, so many workers,
 /// each with the books of its own securities, and the caller's, which writes what is owed. There are 1 to 16 workers; how many
-/// changes no byte. The window covers 1 to 65536 packet numbers. Which merge of the feeds' events comes about, the threads decide, as far
-/// as the readers' pace leaves it to them: none hands over more than a quarter of the window, in lines, ahead of the slowest, and none
-/// passes the line of the first close before all that stands before it was handed over. Of that pace no clause speaks.
+/// changes no byte. The window covers 1 to 65536 packet numbers. With `Start::Join` no packet passes before a first jump. Which merge
+/// of the feeds' events comes about, the threads decide, as far as the readers' pace leaves it to them: none hands over more than a
+/// quarter of the window, in lines, ahead of the slowest, and none passes the line of the first close before all that stands before it
+/// was handed over. Of that pace no clause speaks.
 ///
 /// The gate is told of each record before its reader reads it, and of each step before a worker works on it. A gate that holds a reader
 /// holds the others too, once they are as far ahead as they may be.
@@ -271,6 +280,7 @@ pub fn run<R, G, W, A>(
     s: &[Record<A>],
     workers: u16,
     window: u32,
+    start: Start,
     gate: &G,
     writer: &mut W,
 ) -> Result<Summary, RunFault>
@@ -286,8 +296,9 @@ where
     requires some_workers { 1 ≤ workers }
     requires most_workers { workers ≤ 16 }
     ensures text { IfOk result (λ summary. (text : List ℕ) × (W.taken writer.new ≡ W.taken writer.old ++ text)
-        × PrintsMerge instruments.now window a.now b.now s.now text summary.next summary.lost) }
-    ensures begins { IfErr result (λ _. BeginsMerge instruments.now window a.now b.now s.now (W.taken writer.old) (W.taken writer.new)) }
+        × PrintsMerge instruments.now window start a.now b.now s.now text summary.next summary.lost) }
+    ensures begins { IfErr result (λ _. BeginsMerge instruments.now window start a.now b.now s.now
+        (W.taken writer.old) (W.taken writer.new)) }
     ensures written { IfOk result (λ summary. HasCounted (W.taken writer.old) (W.taken writer.new) summary.written) }
     ensures told { IfErr result (λ fault. HasCounted (W.taken writer.old) (W.taken writer.new) (written_before fault)) }
     ensures failed { FailsBy result (W.failed writer.old) (W.failed writer.new) }
@@ -303,6 +314,7 @@ where
         s,
         workers,
         window,
+        start,
         gate,
         &mut board,
         writer,
@@ -329,6 +341,7 @@ pub fn run_published<R, G, W, A>(
     s: &[Record<A>],
     workers: u16,
     window: u32,
+    start: Start,
     gate: &G,
     publisher: Publisher<A>,
     writer: &mut W,
@@ -347,9 +360,9 @@ where
     ensures board { result.0.board ≡ publisher.board }
     ensures text { IfOk result.1 (λ summary. (text : List ℕ) × (steps : List Step)
         × (W.taken writer.new ≡ W.taken writer.old ++ text) × (result.0 ≡ record publisher { steps = publisher.steps ++ steps })
-        × PublishesMerge instruments.now window a.now b.now s.now text summary.next summary.lost steps) }
+        × PublishesMerge instruments.now window start a.now b.now s.now text summary.next summary.lost steps) }
     ensures begins { IfErr result.1 (λ _. (steps : List Step) × (result.0 ≡ record publisher { steps = publisher.steps ++ steps })
-        × BeginsToPublishMerge instruments.now window a.now b.now s.now (W.taken writer.old) (W.taken writer.new) steps) }
+        × BeginsToPublishMerge instruments.now window start a.now b.now s.now (W.taken writer.old) (W.taken writer.new) steps) }
     ensures written { IfOk result.1 (λ summary. HasCounted (W.taken writer.old) (W.taken writer.new) summary.written) }
     ensures told { IfErr result.1 (λ fault. HasCounted (W.taken writer.old) (W.taken writer.new) (written_before fault)) }
     ensures failed { FailsBy result.1 (W.failed writer.old) (W.failed writer.new) }
@@ -365,6 +378,7 @@ where
         s,
         workers,
         window,
+        start,
         gate,
         &mut board,
         writer,

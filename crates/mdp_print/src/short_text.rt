@@ -29,7 +29,7 @@ impl<const MOST: usize> Model for TextFromEnd<MOST> {
 }
 
 impl<const MOST: usize> TextFromEnd<MOST> {
-    /// No text yet.
+    /// Makes a text with no byte yet.
     #[inline]
     pub fn new() -> TextFromEnd<MOST>
         ensures { result ≡ [] }
@@ -40,7 +40,7 @@ impl<const MOST: usize> TextFromEnd<MOST> {
         }
     }
 
-    /// The text.
+    /// Lends the text.
     #[inline]
     pub fn as_slice(&self) -> &[u8]
         ensures { result.now ≡ self.now }

@@ -11,7 +11,7 @@ use mdp_sbe::Refusal;
 use mdp_templates::{Feed, Memory};
 use std::alloc::Allocator;
 
-// The end of an `F` line: the place of an entry.
+// Gives the end of an `F` line: the place of an entry.
 fn end_at(place: &Place) -> ShortText
     ensures { result ≡ codes " " ++ place_text place.now ++ codes "\n" }
 {

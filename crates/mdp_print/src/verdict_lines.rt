@@ -10,7 +10,7 @@ use mdp_quotes::Verdict;
 use mdp_templates::Memory;
 use std::alloc::Allocator;
 
-// The word for a verdict, of ten bytes at most.
+// Tells the word for a verdict, of ten bytes at most.
 fn word_of(verdict: Verdict) -> &'static [u8]
     ensures text { result.now ≡ verdict_text verdict }
     ensures short { length result.now ≤ 10 }
@@ -27,7 +27,7 @@ fn word_of(verdict: Verdict) -> &'static [u8]
     }
 }
 
-// The end of an `A` line: the verdicts on the bid and the offer.
+// Gives the end of an `A` line: the verdicts on the bid and the offer.
 fn end_with(bid: Verdict, offer: Verdict) -> ShortText
     ensures { result ≡ codes " bid " ++ verdict_text bid ++ codes " offer " ++ verdict_text offer ++ codes "\n" }
 {

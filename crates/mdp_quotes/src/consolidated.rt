@@ -28,7 +28,7 @@ impl Model for Consolidated {
     ghost view = { λ c. record { bids = c.bids.items; offers = c.offers.items } };
 }
 
-// Each price of a direct and an implied side once, with the sum of its sizes.
+// Gives each price of a direct and an implied side once, with the sum of its sizes.
 fn side_of(way: Way, direct: &[Level], implied: &[Level]) -> ArrayVec<Total, MOST_LEVELS>
     requires few { length direct.now + length implied.now ≤ most_levels }
     requires direct_sizes { HaveSizes direct.now }
@@ -41,7 +41,7 @@ fn side_of(way: Way, direct: &[Level], implied: &[Level]) -> ArrayVec<Total, MOS
     totals
 }
 
-// The first total, if any.
+// Gives the first total, if any.
 fn first(totals: &[Total]) -> Option<Total>
     ensures { result ≡ slice_get totals.now 0 }
 {
@@ -80,21 +80,21 @@ impl Consolidated {
         }
     }
 
-    /// The bids, each price once, the highest first.
+    /// Lends the bids, each price once, the highest first.
     pub fn bids(&self) -> &[Total]
         ensures { result.now ≡ self.now.bids }
     {
         self.bids.as_slice()
     }
 
-    /// The offers, each price once, the lowest first.
+    /// Lends the offers, each price once, the lowest first.
     pub fn offers(&self) -> &[Total]
         ensures { result.now ≡ self.now.offers }
     {
         self.offers.as_slice()
     }
 
-    /// The first total of each side, where the side has one.
+    /// Gives the first total of each side, where the side has one.
     pub fn top(&self) -> TopOfBook
         ensures { result ≡ top_of_quotes self.now }
     {

@@ -25,7 +25,7 @@ fn new(kind: Kind, level: u8, price: i64, size: i32) -> Entry {
 
 #[test]
 fn one_price_is_listed_once(rt: HostRuntime) -> Result<(), Fail> {
-    let mut live = Live::empty();
+    let mut live = Live::empty(10);
     live.apply(place(1), &new(Kind::Bid, 1, 99, 1));
     live.apply(place(2), &new(Kind::Bid, 2, 100, 5));
     live.apply(place(3), &new(Kind::Bid, 3, 99, 2147483646));
@@ -95,7 +95,7 @@ fn offers_rise_and_a_gone_price_is_gone(rt: HostRuntime) -> Result<(), Fail> {
         ArrayVec::new(),
         implied_offers,
     );
-    let mut live = Live::of_snapshot(&snapshot);
+    let mut live = Live::of_snapshot(&snapshot, 10);
     let quotes = Consolidated::of(live.book()).ok_or("quotes")?;
     let before = [
         Total { price: 6, size: 4 },
@@ -181,7 +181,7 @@ fn prices_far_apart_are_held_against_one_another(rt: HostRuntime) {
 
 #[test]
 fn level_1_of_each_side_is_the_best(rt: HostRuntime) -> Result<(), Fail> {
-    let mut book = Book::empty();
+    let mut book = Book::empty(10);
     book.apply(place(1), &new(Kind::Bid, 1, 99, 1));
     book.apply(place(2), &new(Kind::Bid, 1, 100, 5));
     book.apply(place(3), &new(Kind::ImpliedOffer, 1, 103, 2));

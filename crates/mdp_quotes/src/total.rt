@@ -32,7 +32,7 @@ pub struct Total {
 }
 
 impl Way {
-    /// Whether price `a` is better than price `b`.
+    /// Tells whether price `a` is better than price `b`.
     pub fn is_ahead(self, a: i64, b: i64) -> bool
         ensures { result ≡ is_ahead self a b }
     {
@@ -43,15 +43,15 @@ impl Way {
     }
 }
 
-// Whether a total's price is better than a level's.
+// Tells whether a total's price is better than a level's.
 fn is_before(total: &Total, way: Way, level: &Level) -> bool
     ensures { result ≡ is_before way level.now total.now }
 {
     way.is_ahead(total.price, level.price)
 }
 
-// How many totals have a better price than a level. The search begins at the worst, since the levels of a
-// side mostly come in order.
+// Tells how many totals have a better price than a level. The search begins at the worst, since the levels of a side
+// mostly come in order.
 fn place_of(totals: &[Total], way: Way, level: &Level) -> usize
     requires { AreInOrder way totals.now }
     ensures place { result ≡ prefix_len (is_before way level.now) totals.now }
@@ -64,7 +64,7 @@ fn place_of(totals: &[Total], way: Way, level: &Level) -> usize
     at
 }
 
-// Whether the total there has the level's price.
+// Tells whether the total there has the level's price.
 fn has_price(totals: &[Total], at: usize, level: &Level) -> bool
     ensures { result ≡ has_price level.now (slice_get totals.now at) }
 {
@@ -74,7 +74,7 @@ fn has_price(totals: &[Total], at: usize, level: &Level) -> bool
     }
 }
 
-// A level alone at its price.
+// Makes a level alone at its price.
 fn total_of(level: &Level) -> Total
     ensures { result ≡ total_of level.now }
 {
@@ -84,7 +84,7 @@ fn total_of(level: &Level) -> Total
     }
 }
 
-// A total with one more level at its price.
+// Makes a total with one more level at its price.
 fn with(total: &Total, level: &Level) -> Total
     requires { IsSmall 1 total.now }
     ensures { result ≡ with level.now total.now }

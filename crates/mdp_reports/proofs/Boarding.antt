@@ -61,8 +61,8 @@ law_of_more_steps listed moves more =
     ∙ map-append step_of_moment (moments_after listed [] moves) (moments_after listed moves more)
 
 pub law_of_step_fronts : LawOfStepFronts
-law_of_step_fronts listed room front rest =
-    let channel = channel_of listed room in
+law_of_step_fronts listed room from front rest =
+    let channel = channel_of listed room from in
     let before = trace channel front in
     let more = go_on channel front (state_at channel front) rest in
     (map step_of_moment (moments_after listed before more), ap (λ (ms : List Move). map step_of_moment (moments_after listed [] ms)) (law_of_fronts channel front rest) ∙ law_of_more_steps listed before more)
@@ -132,5 +132,5 @@ law_of_owed_steps listed feed moves fed are =
     owed_after listed feed 1 [] moves fed (record { starts = start_starts feed listed; same = start_same (starts_before_jump listed) }) are
 
 pub law_of_honest_steps : LawOfHonestSteps
-law_of_honest_steps listed feed room es honest =
-    law_of_owed_steps listed feed (trace (channel_of listed room) es) honest.complete (honest_moves_agree listed feed room es honest)
+law_of_honest_steps listed feed room from es honest =
+    law_of_owed_steps listed feed (trace (channel_of listed room from) es) honest.complete (honest_moves_agree listed feed room from es honest)

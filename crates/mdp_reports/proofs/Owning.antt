@@ -5,7 +5,7 @@ use Rattle.std.proofs.lemmas.List.Elements.{All-cons}
 use Rattle.std.proofs.lemmas.List.Kept.{AllPairs-cons}
 use Rattle.mdp_desks.specs.Shares.{own_part, own_slots}
 
-own_all : {X : Type 0} (P : X → Type 0) (mine : ℕ → Bool) (slot : ℕ) (xs : List X) → All P xs → All P (own_part mine slot xs)
+pub own_all : {X : Type 0} (P : X → Type 0) (mine : ℕ → Bool) (slot : ℕ) (xs : List X) → All P xs → All P (own_part mine slot xs)
 own_all P mine slot [] all = all
 own_all P mine slot (x ∷ xs) all = by_mine (mine slot) (own_all P mine (slot + 1) xs (λ i d less. all (suc i) d (omega (arith, less))))
   where

@@ -4,6 +4,7 @@ use Rattle.std.specs.List.{flat_map}
 use Rattle.mdp_templates.specs.Packet.{PacketContent}
 use Rattle.mdp_templates.specs.declared.instrument.Instrument.{Instrument}
 use Rattle.mdp_lanes.specs.declared.step.Step.{Step}
+use Rattle.mdp_arbiter.specs.declared.start.Start.{Start}
 use Rattle.mdp_arbiter.specs.Accepted.{Event}
 use Rattle.mdp_arbiter.specs.Channel.{channel_of}
 use Rattle.mdp_arbiter.specs.Machine.{Move, trace}
@@ -32,8 +33,10 @@ LawOfMoreSteps = (listed : List Instrument) (moves more : List Move) → board_s
 
 -- the steps of a front of the events begin the steps of all
 abbrev pub LawOfStepFronts : Type 0
-LawOfStepFronts = (listed : List Instrument) (room : ℕ) (front rest : List Event)
-    → (later : List Step) × (board_steps listed (trace (channel_of listed room) (front ++ rest)) ≡ board_steps listed (trace (channel_of listed room) front) ++ later)
+LawOfStepFronts = (listed : List Instrument) (room : ℕ) (from : Start) (front rest : List Event)
+    → (later : List Step)
+    × (board_steps listed (trace (channel_of listed room from) (front ++ rest))
+    ≡ board_steps listed (trace (channel_of listed room from) front) ++ later)
 
 -- moves that are a complete feed's show the steps that the feed owes
 abbrev pub LawOfOwedSteps : Type 0
@@ -41,5 +44,7 @@ LawOfOwedSteps = (listed : List Instrument) (feed : List PacketContent) (moves :
 
 -- and so do the moves of events that agree with a complete feed
 abbrev pub LawOfHonestSteps : Type 0
-LawOfHonestSteps = (listed : List Instrument) (feed : List PacketContent) (room : ℕ) (es : List Event) → IsHonest listed feed es
-    → board_steps listed (trace (channel_of listed room) es) ≡ owed_board_steps listed feed (steps_of (trace (channel_of listed room) es))
+LawOfHonestSteps =
+    (listed : List Instrument) (feed : List PacketContent) (room : ℕ) (from : Start) (es : List Event) → IsHonest listed feed es
+    → board_steps listed (trace (channel_of listed room from) es)
+    ≡ owed_board_steps listed feed (steps_of (trace (channel_of listed room from) es))

@@ -34,7 +34,7 @@ fn put_verdicts<A: Allocator>(
     }
 }
 
-// The best levels that are kept of a slot, if any.
+// Gives the best levels that are kept of a slot, if any.
 fn kept_at(kept: &[Option<Best>], slot: usize) -> Option<Best>
     ensures { result ≡ best_kept (slice_get kept.now slot) }
 {
@@ -44,7 +44,7 @@ fn kept_at(kept: &[Option<Best>], slot: usize) -> Option<Best>
     }
 }
 
-// The name of the security at a slot.
+// Lends the name of the security at a slot.
 fn name_at(listed: &[Instrument], slot: usize) -> &[u8]
     ensures { result.now ≡ name_of (slice_get listed.now slot) }
 {
@@ -54,7 +54,7 @@ fn name_at(listed: &[Instrument], slot: usize) -> &[u8]
     }
 }
 
-// Whether one of three marks is set.
+// Tells whether one of three marks is set.
 fn is_one_set(spread: bool, leg1: bool, leg2: bool) -> bool
     ensures { result ≡ (spread || leg1 || leg2) }
 {

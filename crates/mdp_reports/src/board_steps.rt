@@ -49,14 +49,14 @@ impl<A: Allocator> Model for BoardSteps<A> {
     ghost invariant = { λ s. AreInPlace (length s.rows.items) s.marks.items };
 }
 
-// The mark of step `n`, from 0, if there is one.
+// Gives the mark of step `n`, from 0, if there is one.
 fn mark_of(marks: &[StepMark], n: usize) -> Option<StepMark>
     ensures { result ≡ slice_get marks.now n }
 {
     marks.get(n).copied()
 }
 
-// Where the rows end of the step before this place, of so many rows.
+// Tells where the rows end of the step before this place, of so many rows.
 fn end_before(marks: &[StepMark], n: usize, count: usize) -> usize
     ensures { result ≡ end_of count (drop n marks.now) }
 {
@@ -66,7 +66,7 @@ fn end_before(marks: &[StepMark], n: usize, count: usize) -> usize
     }
 }
 
-// The pairs from one place to another.
+// Lends the pairs from one place to another.
 fn pairs_between(rows: &[(u16, Row)], from: usize, to: usize) -> &[(u16, Row)]
     requires order { from ≤ to }
     requires within { to ≤ length rows.now }
@@ -94,7 +94,7 @@ impl<A: Allocator + Copy> BoardSteps<A> {
         self.marks.clear();
     }
 
-    /// How many steps there are.
+    /// Tells how many steps there are.
     pub fn len(&self) -> usize
         ensures { result ≡ length self.now }
     {

@@ -23,7 +23,7 @@ use mdp_books::Book;
 use mdp_engine::{Spread, spreads_of};
 use mdp_print::put_jump;
 use mdp_quotes::Best;
-use mdp_templates::{Instrument, Memory};
+use mdp_templates::{DIRECT_DEPTH, Instrument, Memory};
 use std::alloc::Allocator;
 use std::marker::Model;
 
@@ -49,14 +49,14 @@ impl<'a, A: Allocator> Model for Collector<'a, A> {
     ghost invariant = { λ c. AreBesideKept c.listed.now c.spreads.items c.marks.items };
 }
 
-// The best levels of each security before any packet.
+// Gives the best levels of each security before any packet.
 fn kept_for<A: Allocator + Copy>(
     alloc: A,
     listed: &[Instrument],
 ) -> Result<Vec<Option<Best>, A>, Memory>
     ensures { IfOk result (λ kept. kept.items ≡ kept_at_start listed.now) }
 {
-    let empty = Best::of(&Book::empty());
+    let empty = Best::of(&Book::empty(DIRECT_DEPTH as u8));
     let mut kept = Vec::with_capacity(alloc, listed.len())?;
     for _instrument in listed {
         kept.push(empty)?;
@@ -92,7 +92,7 @@ fn put_event<A: Allocator + Copy>(
     Ok(())
 }
 
-// What the report at a place tells.
+// Tells what the report at a place tells.
 fn rest_of<A: Allocator + Copy>(answer: &Answer<A>, n: usize) -> Rest<'_>
     ensures { result ≡ told_at n (told_in_answer answer.now) }
 {
@@ -103,7 +103,7 @@ fn rest_of<A: Allocator + Copy>(answer: &Answer<A>, n: usize) -> Rest<'_>
     }
 }
 
-// How many reports the first worker has.
+// Tells how many reports the first worker has.
 fn count_in<A: Allocator + Copy>(round: &[Answer<A>]) -> usize
     ensures { result ≡ length (first_list (map told_in_answer round.now)) }
 {
@@ -115,7 +115,7 @@ fn count_in<A: Allocator + Copy>(round: &[Answer<A>]) -> usize
     }
 }
 
-// The moment that the first worker's report at a place is of.
+// Gives the moment that the first worker's report at a place is of.
 fn heading_in<A: Allocator + Copy>(round: &[Answer<A>], n: usize) -> Option<Heading>
     ensures { result ≡ heading_at n (first_list (map told_in_answer round.now)) }
 {
@@ -127,7 +127,7 @@ fn heading_in<A: Allocator + Copy>(round: &[Answer<A>], n: usize) -> Option<Head
     }
 }
 
-// What all workers' reports at a place tell.
+// Fills in what all workers' reports at a place tell.
 fn fill<'r, A: Allocator + Copy>(
     round: &'r [Answer<A>],
     n: usize,

@@ -14,7 +14,7 @@ use mdp_quotes::{Best, TopOfBook};
 use mdp_templates::Memory;
 use std::alloc::Allocator;
 
-// A slot past the end changes nothing.
+// Keeps the best levels of a slot. A slot past the end changes nothing.
 fn keep(kept: &mut [Option<Best>], slot: u16, best: Option<Best>)
     ensures { kept.new ≡ set kept.old slot best }
 {
@@ -24,7 +24,7 @@ fn keep(kept: &mut [Option<Best>], slot: u16, best: Option<Best>)
     }
 }
 
-// A slot past the end changes nothing.
+// Marks a slot. A slot past the end changes nothing.
 fn mark(marks: &mut [bool], slot: u16)
     ensures { marks.new ≡ set marks.old slot true }
 {
@@ -34,7 +34,7 @@ fn mark(marks: &mut [bool], slot: u16)
     }
 }
 
-// The row of a security whose book has this top; none is a fault.
+// Gives the row of a security whose book has this top; none is a fault.
 fn row_with(packet: u32, message: u64, top: Option<TopOfBook>) -> Row
     ensures { result ≡ row_with packet message top }
 {

@@ -3,49 +3,50 @@
 ghost use Rattle.mdp_reports.specs.BoardLaws.{LawOfBoards, LawOfFirstSteps, LawOfHonestSteps, LawOfMoreSteps, LawOfOwedSteps, LawOfStepFronts};
 ghost use Rattle.mdp_reports.specs.ReportLaw.{LawOfFirstDesks, LawOfFullJumps, LawOfReports};
 
-/// A worker whose desks stand behind the moves before reports its part of each moment of the moves that follow, and its desks stand
-/// behind those too.
+/// Proves that a worker whose desks stand behind the moves before reports its part of each moment of the moves that
+/// follow, and its desks stand behind those too.
 pub fn law_of_reports()
     ensures { LawOfReports }
 {}
 
-/// Where packets pass in number order, as the recovery machine's moves do, each jump has a snapshot of each listed security.
+/// Proves that where packets pass in number order, as the recovery machine's moves do, each jump has a snapshot of
+/// each listed security.
 pub fn law_of_full_jumps()
     ensures { LawOfFullJumps }
 {}
 
-/// New desks stand behind no moves.
+/// Proves that new desks stand behind no moves.
 pub fn law_of_first_desks()
     ensures { LawOfFirstDesks }
 {}
 
-/// Whatever the number of workers, and wherever their reports are cut into batches, the steps that these give are those that the moves
-/// show.
+/// Proves that whatever the number of workers, and wherever their reports are cut into batches, the steps that these
+/// give are those that the moves show.
 pub fn law_of_boards()
     ensures { LawOfBoards }
 {}
 
-/// The steps of the first reports come first.
+/// Proves that the steps of the first reports come first.
 pub fn law_of_first_steps()
     ensures { LawOfFirstSteps }
 {}
 
-/// The steps of the first moves come first, and behind them those of the moments of the other moves.
+/// Proves that the steps of the first moves come first, and behind them those of the moments of the other moves.
 pub fn law_of_more_steps()
     ensures { LawOfMoreSteps }
 {}
 
-/// The steps of a front of the events begin the steps of all.
+/// Proves that the steps of a front of the events begin the steps of all.
 pub fn law_of_step_fronts()
     ensures { LawOfStepFronts }
 {}
 
-/// Moves that are a complete feed's show exactly the steps that the feed owes.
+/// Proves that moves that are a complete feed's show exactly the steps that the feed owes.
 pub fn law_of_owed_steps()
     ensures { LawOfOwedSteps }
 {}
 
-/// The moves of events that agree with a complete feed show exactly the steps that the feed owes.
+/// Proves that the moves of events that agree with a complete feed show exactly the steps that the feed owes.
 pub fn law_of_honest_steps()
     ensures { LawOfHonestSteps }
 {}

@@ -8,7 +8,7 @@ ghost use Rattle.mdp_reports.specs.Next.{IsNext, least_of, lesser};
 use crate::rest::Rest;
 use crate::row::Line;
 
-// The place of the lesser slot, of the same slot this place.
+// Gives the place of the lesser slot, of the same slot this place.
 fn lesser(place: usize, slot: Option<u16>, least: Option<(usize, u16)>) -> Option<(usize, u16)>
     ensures { result ≡ lesser place slot least }
 {
@@ -25,7 +25,7 @@ fn lesser(place: usize, slot: Option<u16>, least: Option<(usize, u16)>) -> Optio
     }
 }
 
-// The place of the list whose first goes next, with its slot.
+// Gives the place of the list whose first goes next, with its slot.
 fn least(left: &[Rest]) -> Option<(usize, u16)>
     ensures { result ≡ least_of 0 left.now }
 {
@@ -38,7 +38,7 @@ fn least(left: &[Rest]) -> Option<(usize, u16)>
     best
 }
 
-// The place of the list whose first goes next.
+// Tells the place of the list whose first goes next.
 fn place_of_next(left: &[Rest]) -> Option<usize>
     ensures { MatchOption result (all_by_slot left.now ≡ []) (λ n. IsNext left.now n) }
 {

@@ -55,7 +55,7 @@ fn report_packet<A: Allocator + Copy>(
     Ok(())
 }
 
-// The snapshot at a slot, if there is one.
+// Gives the snapshot at a slot, if there is one.
 fn snapshot_at(snapshots: &[Snapshot], slot: u16) -> Option<Snapshot>
     ensures { result ≡ slice_get snapshots.now slot }
 {
@@ -65,7 +65,7 @@ fn snapshot_at(snapshots: &[Snapshot], slot: u16) -> Option<Snapshot>
     }
 }
 
-// The snapshots at these slots.
+// Gives the snapshots at these slots.
 fn snapshots_at<A: Allocator + Copy>(
     alloc: A,
     slots: &[u16],

@@ -23,7 +23,7 @@ pub struct Room {
 }
 
 impl Room {
-    /// Room for nothing.
+    /// Makes room for nothing.
     pub fn none() -> Room {
         Room {
             bytes: 0,
@@ -108,7 +108,7 @@ fn put_told<A: Allocator>(
     widen(marks, rows.len())
 }
 
-// Where the rows of a moment stand that is an event end.
+// Tells where the rows of a moment stand that is an event end.
 fn place_of(marks: &[Mark], n: usize) -> Option<(usize, usize)>
     ensures { result ≡ place_at n marks.now }
 {
@@ -119,7 +119,7 @@ fn place_of(marks: &[Mark], n: usize) -> Option<(usize, usize)>
     }
 }
 
-// The rows from one place to another.
+// Lends the rows from one place to another.
 fn rows_between(rows: &[Row], from: usize, to: usize) -> &[Row]
     requires order { from ≤ to }
     requires within { to ≤ length rows.now }
@@ -155,7 +155,7 @@ impl<A: Allocator + Copy> Reports<A> {
         })
     }
 
-    /// How much these reports hold.
+    /// Tells how much these reports hold.
     pub fn room(&self) -> Room {
         Room {
             bytes: self.bytes.len(),
@@ -231,14 +231,14 @@ impl<A: Allocator + Copy> Reports<A> {
         Ok(())
     }
 
-    /// How many reports there are.
+    /// Tells how many reports there are.
     pub fn len(&self) -> usize
         ensures { result ≡ length self.now }
     {
         self.marks.len()
     }
 
-    /// The moment that the report at place `n` is of, from 0; none where there is no report.
+    /// Gives the moment that the report at place `n` is of, from 0; none where there is no report.
     pub fn heading(&self, n: usize) -> Option<Heading>
         ensures { result ≡ heading_at n self.now }
     {

@@ -32,7 +32,7 @@ impl<'a> Model for Rest<'a> {
 }
 
 impl<'a> Rest<'a> {
-    /// Of a report that tells nothing.
+    /// Makes the rest of a report that tells nothing.
     pub fn none() -> Rest<'a>
         ensures { result ≡ [] }
     {
@@ -42,7 +42,7 @@ impl<'a> Rest<'a> {
         }
     }
 
-    /// These rows, whose lines stand among these bytes.
+    /// Makes the rest of these rows, whose lines stand among these bytes.
     pub(crate) fn of(bytes: &'a [u8], rows: &'a [Row]) -> Rest<'a>
         requires { AllByRecursion (IsRowIn (length bytes.now)) rows.now }
         ensures { result ≡ told_of_rows bytes.now rows.now }
@@ -50,7 +50,7 @@ impl<'a> Rest<'a> {
         Rest { bytes, rows }
     }
 
-    /// The slot of the security that is taken next, if one is left.
+    /// Tells the slot of the security that is taken next, if one is left.
     pub fn slot(&self) -> Option<u16>
         ensures { result ≡ slot_first self.now }
     {

@@ -12,7 +12,7 @@ use crate::tests::channel::{
 };
 use crate::tests::expected::{FAULTY_STEPS, PLAIN_STEPS, RECOVERED_STEPS};
 use crate::{Answer, BoardSteps, Collector, Posting, Reports, Worker};
-use mdp_arbiter::Arbiter;
+use mdp_arbiter::{Arbiter, Start};
 use mdp_engine::replay;
 use mdp_steps::{Turn, feed_all};
 use mdp_templates::{Instrument, Memory};
@@ -61,7 +61,7 @@ fn turns_of<A: Allocator + Copy>(
 ) -> Result<Vec<Turn<A>, A>, Memory>
     requires { AreFit listed.now }
 {
-    let mut arbiter = Arbiter::new(alloc, listed, MapWindow::new(alloc, 4))?;
+    let mut arbiter = Arbiter::new(alloc, listed, MapWindow::new(alloc, 4), Start::FromOne)?;
     let mut turns = Vec::new(alloc);
     feed_all(alloc, &mut arbiter, events_of(alloc, came)?, &mut turns)?;
     Ok(turns)
@@ -165,6 +165,7 @@ fn all_print(
         &events_of(alloc, came)?,
         &listed,
         MapWindow::new(alloc, 4),
+        Start::FromOne,
     )?;
     assert_eq!(rt; replayed.as_slice(), text);
     workers_print(rt, alloc, &listed, 1, came, text, steps)?;

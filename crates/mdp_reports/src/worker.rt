@@ -1,6 +1,7 @@
 //! A worker: the books of its own securities, and their slots among all listed ones.
 
-ghost use Rattle.std.specs.Prelude.{◌≡◌, ◌≢◌, ◌++◌, ◌≤◌, ◌<◌, AllPairs, length, map, IfOk, OnOk};
+ghost use Rattle.std.specs.Prelude.{◌≡◌, ◌≢◌, ◌++◌, ◌≤◌, ◌<◌, All, AllPairs, length, map, IfOk, OnOk};
+ghost use Rattle.mdp_templates.specs.Instrument.{HasDepth};
 ghost use Rattle.mdp_desks.specs.Desks.{desk_at_start};
 ghost use Rattle.mdp_desks.specs.Shares.{is_kept_by, own_part, own_slots};
 ghost use Rattle.mdp_reports.specs.Reporting.{desks_after_move, desks_after_moves, reports_of_move, reports_of_moves};
@@ -34,7 +35,7 @@ impl<A: Allocator> Model for Worker<A> {
     ghost invariant = { λ w. length w.slots.items ≡ length w.desks };
 }
 
-// Whether a slot is one of worker `number` of `count`.
+// Tells whether a slot is one of worker `number` of `count`.
 fn is_own(count: u16, number: u16, slot: u16) -> bool
     requires { 0 < count }
     ensures { result ≡ is_kept_by count number slot }
@@ -42,7 +43,7 @@ fn is_own(count: u16, number: u16, slot: u16) -> bool
     slot % count == number
 }
 
-// The slots of this worker's own securities.
+// Gives the slots of this worker's own securities.
 fn own_slots<A: Allocator + Copy>(
     alloc: A,
     listed: &[Instrument],
@@ -84,7 +85,7 @@ fn own_securities<A: Allocator + Copy>(
 
 impl<A: Allocator + Copy> Worker<A> {
     /// Makes worker `number` of `count` before any packet: its own are the listed securities whose slots are `number` modulo `count`.
-    /// The ids of all differ.
+    /// The ids of all differ, and their depths are of their kind.
     ///
     /// # Errors
     ///
@@ -96,6 +97,7 @@ impl<A: Allocator + Copy> Worker<A> {
         number: u16,
     ) -> Result<Worker<A>, Memory>
         requires differ { AllPairs (λ earlier later. earlier.id ≢ later.id) listed.now }
+        requires depths { All HasDepth listed.now }
         requires few { length listed.now ≤ 65536 }
         requires some { 0 < count }
         ensures { IfOk result (λ worker. worker ≡ record {

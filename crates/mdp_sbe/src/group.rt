@@ -56,7 +56,7 @@ impl<'a> Group<'a> {
         })
     }
 
-    /// How many entries there are, at most 255.
+    /// Tells how many entries there are, at most 255.
     pub fn len(&self) -> usize
         ensures count { result ≡ length self.now }
         ensures few { result ≤ 255 }
@@ -64,14 +64,14 @@ impl<'a> Group<'a> {
         self.count as usize
     }
 
-    /// Whether there is no entry.
+    /// Tells whether there is no entry.
     pub fn is_empty(&self) -> bool
         ensures { IsTrue result ↔ (self.now ≡ []) }
     {
         self.len() == 0
     }
 
-    /// The text of the n-th entry, counted from 0.
+    /// Lends the text of the n-th entry, counted from 0.
     pub fn entry(&self, n: usize) -> &'a [u8]
         requires { n < length self.now }
         ensures { slice_get self.now n ≡ Some result.now }

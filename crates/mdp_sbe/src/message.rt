@@ -28,8 +28,8 @@ pub struct Message<'a> {
 impl<'a> Message<'a> {
     ghost use Rattle.mdp_sbe.specs.Framing.{IsRoot, IsRefusedRoot, parts};
 
-    /// The root block and what stands behind it, where the block has at least so many bytes and lies
-    /// inside the body.
+    /// Lends the root block and what stands behind it, where the block has at least so many bytes and lies inside the
+    /// body.
     pub fn root(&self, least: u16) -> Result<(&'a [u8], &'a [u8]), Refusal>
         ensures ok { IfOk result (λ p. IsRoot (parts self.now) least p.0.now p.1.now) }
         ensures err { IfErr result (IsRefusedRoot (parts self.now) least) }
@@ -60,15 +60,14 @@ impl<'a> Model for Messages<'a> {
 impl<'a> Messages<'a> {
     ghost use Rattle.mdp_sbe.specs.Framing.{BeginsMessage, IsUnframed, parts};
 
-    /// A cursor over what stands behind a packet header.
+    /// Makes a cursor over what stands behind a packet header.
     pub fn new(rest: &'a [u8]) -> Messages<'a>
         ensures { result ≡ rest.now }
     {
         Messages { rest }
     }
 
-    /// The next message, or the first refusal that holds there. At the end, and after a refusal, there
-    /// is none.
+    /// Gives the next message, or the first refusal that holds there. At the end, and after a refusal, there is none.
     pub fn next(&mut self) -> Option<Result<Message<'a>, Refusal>>
         ensures none { IsNone result ↔ (self.old ≡ []) }
         ensures end { IfNone result (self.new ≡ []) }
@@ -101,7 +100,7 @@ impl<'a> Messages<'a> {
 
 ghost use Rattle.mdp_sbe.specs.Framing.{IsMessage, parts, parts_of};
 
-// The parts of a message's text.
+// Gives the parts of a message's text.
 fn lend<'a>(text: &'a [u8]) -> Message<'a>
     requires { IsMessage text.now }
     ensures { parts result ≡ parts_of text.now }

@@ -5,7 +5,7 @@ ghost use Rattle.mdp_sbe.specs.Number.{number_at, int32_at, int64_at};
 
 use byteorder::{ByteOrder, LittleEndian};
 
-/// The `uint16` at an offset.
+/// Reads the `uint16` at an offset.
 pub fn u16_at(text: &[u8], offset: usize) -> u16
     requires { offset + 2 ≤ length text.now }
     ensures { result ≡ number_at offset 2 text.now }
@@ -13,7 +13,7 @@ pub fn u16_at(text: &[u8], offset: usize) -> u16
     LittleEndian::read_u16(&text[offset..])
 }
 
-/// The `uint32` at an offset.
+/// Reads the `uint32` at an offset.
 pub fn u32_at(text: &[u8], offset: usize) -> u32
     requires { offset + 4 ≤ length text.now }
     ensures { result ≡ number_at offset 4 text.now }
@@ -21,7 +21,7 @@ pub fn u32_at(text: &[u8], offset: usize) -> u32
     LittleEndian::read_u32(&text[offset..])
 }
 
-/// The `uint64` at an offset.
+/// Reads the `uint64` at an offset.
 pub fn u64_at(text: &[u8], offset: usize) -> u64
     requires { offset + 8 ≤ length text.now }
     ensures { result ≡ number_at offset 8 text.now }
@@ -29,7 +29,7 @@ pub fn u64_at(text: &[u8], offset: usize) -> u64
     LittleEndian::read_u64(&text[offset..])
 }
 
-/// The `int32` at an offset, in two's complement.
+/// Reads the `int32` at an offset, in two's complement.
 pub fn i32_at(text: &[u8], offset: usize) -> i32
     requires { offset + 4 ≤ length text.now }
     ensures { result ≡ int32_at offset text.now }
@@ -37,7 +37,7 @@ pub fn i32_at(text: &[u8], offset: usize) -> i32
     LittleEndian::read_i32(&text[offset..])
 }
 
-/// The `int64` at an offset, in two's complement.
+/// Reads the `int64` at an offset, in two's complement.
 pub fn i64_at(text: &[u8], offset: usize) -> i64
     requires { offset + 8 ≤ length text.now }
     ensures { result ≡ int64_at offset text.now }

@@ -5,7 +5,7 @@ ghost use Rattle.mdp_templates.specs.Instrument.{AreFit};
 
 use crate::{Steps, Turn, feed, feed_all};
 use arrayvec::{ArrayString, ArrayVec};
-use mdp_arbiter::Arbiter;
+use mdp_arbiter::{Arbiter, Start};
 use mdp_engine::Event;
 use mdp_templates::{Instrument, InstrumentKind, Memory, Message, Name, Packet, Snapshot, are_fit};
 use mdp_window::MapWindow;
@@ -26,6 +26,7 @@ fn near() -> Result<[Instrument; 1], Fail>
         id: 1,
         name: Name::new(text),
         kind: InstrumentKind::Outright,
+        depth: 10,
     }];
     if !are_fit(&listed) {
         return Err("unfit".into());
@@ -109,7 +110,7 @@ fn are_first<A: Allocator>(rt: &impl Abort, turns: &[Turn<A>]) {
 #[test]
 fn an_event_makes_the_turns_that_are_then_possible(rt: HostRuntime) -> Result<(), Fail> {
     let alloc = rt.alloc();
-    let mut arbiter = Arbiter::new(alloc, &near()?, MapWindow::new(alloc, 4))?;
+    let mut arbiter = Arbiter::new(alloc, &near()?, MapWindow::new(alloc, 4), Start::FromOne)?;
     let mut turns = Vec::new(alloc);
     feed(alloc, &mut arbiter, packet(alloc, 2)?, &mut turns)?;
     assert_eq!(rt; turns.len(), 0);
@@ -122,7 +123,7 @@ fn an_event_makes_the_turns_that_are_then_possible(rt: HostRuntime) -> Result<()
 #[test]
 fn a_share_has_the_turns_of_the_first(rt: HostRuntime) -> Result<(), Fail> {
     let alloc = rt.alloc();
-    let mut arbiter = Arbiter::new(alloc, &near()?, MapWindow::new(alloc, 4))?;
+    let mut arbiter = Arbiter::new(alloc, &near()?, MapWindow::new(alloc, 4), Start::FromOne)?;
     let mut turns = Vec::new(alloc);
     feed_all(alloc, &mut arbiter, all_events(alloc)?, &mut turns)?;
     let steps = Steps::new(alloc, turns)?;
@@ -142,7 +143,7 @@ fn share_all(
 ) -> Result<(), Memory>
     requires { AreFit instruments.now }
 {
-    let mut arbiter = Arbiter::new(heap, instruments, MapWindow::new(heap, 4))?;
+    let mut arbiter = Arbiter::new(heap, instruments, MapWindow::new(heap, 4), Start::FromOne)?;
     let mut turns = Vec::new(heap);
     let fed = feed_all(heap, &mut arbiter, all_events(heap)?, &mut turns);
     are_first(rt, &turns);

@@ -3,6 +3,7 @@ use Rattle.std.specs.Prelude.{◌≡◌, ◌≢◌, ◌<◌, ◌≤◌, ℕ, ℤ
 use Rattle.mdp_templates.specs.declared.instrument.Instrument.{Instrument}
 use Rattle.mdp_templates.specs.declared.instrument.InstrumentKind.{InstrumentKind}
 use Rattle.mdp_templates.specs.declared.instrument.InstrumentKind.TheVariants.{Outright, Calendar}
+use Rattle.mdp_templates.specs.Entry.{direct_depth}
 
 -- one of the instruments is an outright of this id
 abbrev pub HasOutright : List Instrument → ℤ → Type 0
@@ -17,14 +18,24 @@ abbrev pub HasLegs : List Instrument → InstrumentKind → Type 0
 HasLegs earlier Outright = Unit {0}
 HasLegs earlier (Calendar leg1 leg2) = AreLegs earlier leg1 leg2
 
--- no earlier instrument has this one's id, and its legs stand among them
+-- a side of an outright's direct book has 1 to 10 levels at most, and of a calendar's 10
+abbrev pub IsDepthOf : InstrumentKind → ℕ → Type 0
+IsDepthOf Outright depth = (1 ≤ depth) × (depth ≤ direct_depth)
+IsDepthOf (Calendar leg1 leg2) depth = depth ≡ direct_depth
+
+abbrev pub HasDepth : Instrument → Type 0
+HasDepth instrument = IsDepthOf instrument.kind instrument.depth
+
+-- no earlier instrument has this one's id, its legs stand among them, and its depth is one of its kind
 pub record FitsAfter (earlier : List Instrument) (instrument : Instrument) : Type 0 where
   pub id_is_new : All (λ other. other.id ≢ instrument.id) earlier
   pub legs_stand : HasLegs earlier instrument.kind
+  pub has_depth : HasDepth instrument
 
--- 1 to 512 instruments of different ids, and the legs of each calendar stand earlier
+-- 1 to 512 instruments of different ids and of depths of their kind, and the legs of each calendar stand earlier
 pub record AreFit (instruments : List Instrument) : Type 0 where
   pub some : 0 < length instruments
   pub few : length instruments ≤ 512
   pub ids_differ : AllPairs (λ earlier later. earlier.id ≢ later.id) instruments
   pub legs_stand : (place : ℕ) (instrument : Instrument) → slice_get instruments place ≡ Some instrument → HasLegs (take place instruments) instrument.kind
+  pub depths : All HasDepth instruments

@@ -56,7 +56,7 @@ const NULL_PRICE: i64 = 9223372036854775807;
 /// The null size, which no level has.
 const NULL_SIZE: i32 = 2147483647;
 
-/// The side that an entry type names, an ASCII character.
+/// Reads the side that an entry type names, an ASCII character.
 pub(crate) fn read_kind(byte: u8) -> Result<Kind, Refusal>
     ensures { result ≡ kind_of byte }
 {
@@ -69,7 +69,7 @@ pub(crate) fn read_kind(byte: u8) -> Result<Kind, Refusal>
     }
 }
 
-// The update action that a byte says, or its refusal.
+// Reads the update action that a byte says, or answers its refusal.
 fn read_action(byte: u8) -> Result<Action, Refusal>
     ensures { result ≡ action_of byte }
 {
@@ -81,7 +81,7 @@ fn read_action(byte: u8) -> Result<Action, Refusal>
     }
 }
 
-/// The position of a level, inside the depth of its side.
+/// Reads the position of a level, inside the depth of its side.
 pub(crate) fn read_position(kind: Kind, level: u8) -> Result<u8, Refusal>
     ensures { result ≡ level_of kind level }
 {
@@ -95,7 +95,7 @@ pub(crate) fn read_position(kind: Kind, level: u8) -> Result<u8, Refusal>
     Ok(level)
 }
 
-/// A level with a price and a size, neither of them null, the size not negative.
+/// Reads a level with a price and a size, neither of them null, the size not negative.
 pub(crate) fn read_level(price: i64, size: i32) -> Result<Level, Refusal>
     ensures { result ≡ quote_of price size }
 {

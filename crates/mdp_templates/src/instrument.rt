@@ -1,8 +1,9 @@
 //! The instruments that books are kept for.
 
 ghost use Rattle.std.specs.Prelude.{◌≡◌, ◌≤◌, ◌↔◌, IsTrue, length};
-ghost use Rattle.mdp_templates.specs.Instrument.{HasOutright, AreLegs, HasLegs, FitsAfter, AreFit};
+ghost use Rattle.mdp_templates.specs.Instrument.{HasOutright, AreLegs, HasLegs, IsDepthOf, FitsAfter, AreFit};
 
+use crate::entry::DIRECT_DEPTH;
 use arrayvec::ArrayString;
 use std::marker::Model;
 
@@ -21,14 +22,14 @@ impl Model for Name {
 }
 
 impl Name {
-    /// The name of this text.
+    /// Makes the name of this text.
     pub fn new(text: ArrayString<20>) -> Name
         ensures { result ≡ text.bytes }
     {
         Name { text }
     }
 
-    /// An equal name.
+    /// Makes an equal name.
     pub fn copy(&self) -> Name
         ensures { result ≡ self.now }
     {
@@ -39,7 +40,7 @@ impl Name {
         }
     }
 
-    /// The text of the name.
+    /// Lends the text of the name.
     pub fn as_str(&self) -> &str
         ensures text { result.now ≡ self.now }
         ensures few { length self.now ≤ 20 }
@@ -64,10 +65,13 @@ pub struct Instrument {
     pub id: i32,
     pub name: Name,
     pub kind: InstrumentKind,
+    /// How many levels a side of its direct book has at most, from 1 to [`DIRECT_DEPTH`]; a calendar
+    /// spread's has that many.
+    pub depth: u8,
 }
 
 impl Instrument {
-    /// An equal instrument.
+    /// Makes an equal instrument.
     pub fn copy(&self) -> Instrument
         ensures { result ≡ self.now }
     {
@@ -75,12 +79,13 @@ impl Instrument {
             id: self.id,
             name: self.name.copy(),
             kind: self.kind,
+            depth: self.depth,
         }
     }
 }
 
-/// Whether books can be kept for these instruments: 1 to 512 of them, with different ids, and the two legs of
-/// each calendar different outrights that stand earlier.
+/// Tells whether books can be kept for these instruments: 1 to 512 of them, with different ids, the two legs of each
+/// calendar different outrights that stand earlier, and depths from 1 to [`DIRECT_DEPTH`], a calendar's that many.
 pub fn are_fit(instruments: &[Instrument]) -> bool
     ensures { IsTrue result ↔ AreFit instruments.now }
 {
@@ -97,15 +102,29 @@ pub fn are_fit(instruments: &[Instrument]) -> bool
 
 const MOST_INSTRUMENTS: usize = 512;
 
-// Whether an instrument fits behind these: its id is none of theirs, and its legs stand among them.
+// Tells whether an instrument fits behind these: its id is none of theirs, its legs stand among them, and its depth
+// is one of its kind.
 fn fits_after(earlier: &[Instrument], instrument: &Instrument) -> bool
     ensures { IsTrue result ↔ FitsAfter earlier.now instrument.now }
 {
     let id = instrument.id;
-    earlier.iter().all(|other| other.id != id) && has_legs(earlier, instrument.kind)
+    earlier.iter().all(|other| other.id != id)
+        && has_legs(earlier, instrument.kind)
+        && is_depth_of(instrument.kind, instrument.depth)
 }
 
-// Whether the legs stand among these that this kind of instrument asks for.
+// Tells whether a side of the direct book can have this depth for this kind of instrument.
+fn is_depth_of(kind: InstrumentKind, depth: u8) -> bool
+    ensures { IsTrue result ↔ IsDepthOf kind depth }
+{
+    let depth = depth as usize;
+    match kind {
+        InstrumentKind::Outright => depth >= 1 && depth <= DIRECT_DEPTH,
+        InstrumentKind::Calendar { .. } => depth == DIRECT_DEPTH,
+    }
+}
+
+// Tells whether the legs stand among these that this kind of instrument asks for.
 fn has_legs(earlier: &[Instrument], kind: InstrumentKind) -> bool
     ensures { IsTrue result ↔ HasLegs earlier.now kind }
 {
@@ -115,7 +134,7 @@ fn has_legs(earlier: &[Instrument], kind: InstrumentKind) -> bool
     }
 }
 
-// Whether two ids are those of two different outrights among these.
+// Tells whether two ids are those of two different outrights among these.
 fn are_legs(earlier: &[Instrument], leg1: i32, leg2: i32) -> bool
     ensures { IsTrue result ↔ AreLegs earlier.now leg1 leg2 }
 {
@@ -125,7 +144,7 @@ fn are_legs(earlier: &[Instrument], leg1: i32, leg2: i32) -> bool
     has_outright(earlier, leg1) && has_outright(earlier, leg2)
 }
 
-// Whether an outright with this id stands among these.
+// Tells whether an outright with this id stands among these.
 fn has_outright(instruments: &[Instrument], id: i32) -> bool
     ensures { IsTrue result ↔ HasOutright instruments.now id }
 {

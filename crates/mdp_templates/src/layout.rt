@@ -26,7 +26,7 @@ pub trait GroupEntry: Drop + Sized {
         ensures { result ≡ reads text.now };
 }
 
-// A message's root block and its group.
+// Reads a message's root block and its group.
 fn read_blocks<'a>(
     message: &Message<'a>,
     least_root: u16,
@@ -58,7 +58,7 @@ fn read_entries<A: Allocator + Copy, E: GroupEntry>(
     Ok(entries)
 }
 
-/// The root block of a message, and its entries.
+/// Reads the root block of a message, and its entries.
 pub(crate) fn read_layout<'a, A: Allocator + Copy, E: GroupEntry>(
     alloc: A,
     message: &Message<'a>,

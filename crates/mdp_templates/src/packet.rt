@@ -28,7 +28,7 @@ impl<A: Allocator> Model for Message<A> {
 }
 
 impl<A: Allocator> Message<A> {
-    /// A message of these entries.
+    /// Makes a message of these entries.
     pub fn new(entries: Vec<Entry, A>, end: bool) -> Message<A>
         requires { vec_len entries ≤ 255 }
         ensures { result ≡ record { entries = entries.items; end = end } }
@@ -36,7 +36,7 @@ impl<A: Allocator> Message<A> {
         Message { entries, end }
     }
 
-    /// The entries, in the order of the datagram.
+    /// Lends the entries, in the order of the datagram.
     pub fn entries(&self) -> &[Entry]
         ensures items { result.now ≡ self.now.entries }
         ensures few { length self.now.entries ≤ 255 }
@@ -44,7 +44,7 @@ impl<A: Allocator> Message<A> {
         self.entries.as_slice()
     }
 
-    /// Whether the message is the last of its event (MDP 3.0, the match event indicator's bit 7).
+    /// Tells whether the message is the last of its event (MDP 3.0, the match event indicator's bit 7).
     pub fn is_end(&self) -> bool
         ensures { result ≡ self.now.end }
     {
@@ -53,7 +53,7 @@ impl<A: Allocator> Message<A> {
 }
 
 impl<A: Allocator + Copy> Message<A> {
-    /// An equal message, or want of memory.
+    /// Makes an equal message, or answers want of memory.
     pub fn copy(&self, alloc: A) -> Result<Message<A>, Memory>
         ensures { IfOk result (λ m. m ≡ self.now) }
     {
@@ -81,21 +81,21 @@ impl<A: Allocator> Model for Packet<A> {
 }
 
 impl<A: Allocator> Packet<A> {
-    /// A packet of these messages.
+    /// Makes a packet of these messages.
     pub fn new(number: u32, messages: Vec<Message<A>, A>) -> Packet<A>
         ensures { result ≡ record { number = number; messages = messages.items } }
     {
         Packet { number, messages }
     }
 
-    /// The packet sequence number.
+    /// Tells the packet sequence number.
     pub fn number(&self) -> u32
         ensures { result ≡ self.now.number }
     {
         self.number
     }
 
-    /// All messages, in the order of the datagram, those that are stepped over too.
+    /// Lends all messages, in the order of the datagram, those that are stepped over too.
     pub fn messages(&self) -> &[Message<A>]
         ensures { result.now ≡ self.now.messages }
     {
@@ -104,7 +104,7 @@ impl<A: Allocator> Packet<A> {
 }
 
 impl<A: Allocator + Copy> Packet<A> {
-    /// An equal packet, or want of memory.
+    /// Makes an equal packet, or answers want of memory.
     pub fn copy(&self, alloc: A) -> Result<Packet<A>, Memory>
         ensures { IfOk result (λ p. p ≡ self.now) }
     {

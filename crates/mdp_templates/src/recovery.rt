@@ -25,7 +25,7 @@ const SNAPSHOT: u16 = 52;
 /// The length of the fields of a snapshot message's root block, in bytes.
 const ROOT_LENGTH: u16 = 16;
 
-// The snapshot of a root block and of entries, or nothing where the levels of a side are bad.
+// Gives the snapshot of a root block and of entries, or nothing where the levels of a side are bad.
 fn snapshot_of(root: &[u8], quotes: &[Option<Quote>]) -> Option<Snapshot>
     requires long { 16 ≤ length root.now }
     requires bids { AreShallow kinds.Bid direct_depth quotes.now }
@@ -59,7 +59,7 @@ fn read_snapshot<A: Allocator + Copy>(
     }
 }
 
-// The snapshot that a message gives; another template gives none.
+// Reads the snapshot that a message gives; another template gives none.
 fn read_message<A: Allocator + Copy>(
     alloc: A,
     message: &mdp_sbe::Message<'_>,

@@ -18,7 +18,7 @@ pub enum Found {
 }
 
 impl Found {
-    // These levels and, if there is one, this.
+    // Gives these levels and, if there is one, this.
     fn and(self, level: Option<Level>) -> Found
         ensures { result ≡ found_and self level }
     {
@@ -30,7 +30,7 @@ impl Found {
     }
 }
 
-// The level that an entry gives at a position of a side, if it does.
+// Gives the level that an entry gives at a position of a side, if it does.
 fn level_of(quote: &Option<Quote>, kind: Kind, position: usize) -> Option<Level>
     ensures { result ≡ level_at kind position quote.now }
 {
@@ -42,7 +42,7 @@ fn level_of(quote: &Option<Quote>, kind: Kind, position: usize) -> Option<Level>
     }
 }
 
-// The levels that these entries give at a position of a side.
+// Finds the levels that these entries give at a position of a side.
 fn find(quotes: &[Option<Quote>], kind: Kind, position: usize) -> Found
     ensures { result ≡ found_of (levels_at kind position quotes.now) }
 {
@@ -53,7 +53,7 @@ fn find(quotes: &[Option<Quote>], kind: Kind, position: usize) -> Found
     found
 }
 
-/// The side that these entries give, or nothing where its levels are not 1 to n, each once.
+/// Gathers the side that these entries give, or nothing where its levels are not 1 to n, each once.
 pub(crate) fn gather<const DEPTH: usize>(
     quotes: &[Option<Quote>],
     kind: Kind,

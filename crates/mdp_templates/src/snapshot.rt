@@ -35,7 +35,7 @@ impl Model for Snapshot {
 }
 
 impl Snapshot {
-    /// A snapshot of these sides.
+    /// Makes a snapshot of these sides.
     pub fn new(
         security: i32,
         last: u32,
@@ -63,21 +63,21 @@ impl Snapshot {
         }
     }
 
-    /// The security whose book this is.
+    /// Tells the security whose book this is.
     pub fn security(&self) -> i32
         ensures { result ≡ self.now.security }
     {
         self.security
     }
 
-    /// The number of the last packet that the book includes, 0 where it is the book before packet 1.
+    /// Tells the number of the last packet that the book includes, 0 where it is the book before packet 1.
     pub fn last(&self) -> u32
         ensures { result ≡ self.now.last }
     {
         self.last
     }
 
-    /// The direct bids.
+    /// Lends the direct bids.
     pub fn bids(&self) -> &[Level]
         ensures items { result.now ≡ self.now.bids }
         ensures few { length self.now.bids ≤ direct_depth }
@@ -85,7 +85,7 @@ impl Snapshot {
         self.bids.as_slice()
     }
 
-    /// The direct offers.
+    /// Lends the direct offers.
     pub fn offers(&self) -> &[Level]
         ensures items { result.now ≡ self.now.offers }
         ensures few { length self.now.offers ≤ direct_depth }
@@ -93,7 +93,7 @@ impl Snapshot {
         self.offers.as_slice()
     }
 
-    /// The implied bids.
+    /// Lends the implied bids.
     pub fn implied_bids(&self) -> &[Level]
         ensures items { result.now ≡ self.now.implied_bids }
         ensures few { length self.now.implied_bids ≤ implied_depth }
@@ -101,7 +101,7 @@ impl Snapshot {
         self.implied_bids.as_slice()
     }
 
-    /// The implied offers.
+    /// Lends the implied offers.
     pub fn implied_offers(&self) -> &[Level]
         ensures items { result.now ≡ self.now.implied_offers }
         ensures few { length self.now.implied_offers ≤ implied_depth }
@@ -109,7 +109,7 @@ impl Snapshot {
         self.implied_offers.as_slice()
     }
 
-    /// An equal snapshot, which takes no memory.
+    /// Makes an equal snapshot, which takes no memory.
     pub fn copy(&self) -> Snapshot
         ensures { result ≡ self.now }
     {
@@ -124,7 +124,7 @@ impl Snapshot {
     }
 }
 
-// An equal list of levels.
+// Makes an equal list of levels.
 fn copy_of<const DEPTH: usize>(levels: &ArrayVec<Level, DEPTH>) -> ArrayVec<Level, DEPTH>
     ensures { result.items ≡ levels.now.items }
 {

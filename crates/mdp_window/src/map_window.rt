@@ -49,7 +49,7 @@ fn drop_lower<T: Drop, A: Allocator>(items: &mut BTreeMap<u32, T, A>, first: u64
 }
 
 impl<T: Drop, A: Allocator + Copy> MapWindow<T, A> {
-    /// A window of this room, of 1 to 65536, that begins at 1 and holds nothing.
+    /// Makes a window of this room, of 1 to 65536, that begins at 1 and holds nothing.
     pub fn new(alloc: A, capacity: u64) -> MapWindow<T, A>
         requires least { 1 ≤ capacity }
         requires most { capacity ≤ 65536 }

@@ -67,7 +67,7 @@ fn fill_place<T: Drop, A: Allocator>(
 }
 
 impl<T: Drop, A: Allocator + Copy> RingWindow<T, A> {
-    /// A window of this room, of 1 to 65536, that begins at 1 and holds nothing. `Memory` where its places were
+    /// Makes a window of this room, of 1 to 65536, that begins at 1 and holds nothing. `Memory` where its places were
     /// refused; no other call takes any.
     pub fn new(alloc: A, capacity: u64) -> Result<RingWindow<T, A>, Memory>
         requires least { 1 ≤ capacity }
@@ -80,7 +80,7 @@ impl<T: Drop, A: Allocator + Copy> RingWindow<T, A> {
         Ok(RingWindow { first: 1, places })
     }
 
-    // Whether an item is held under this number.
+    // Tells whether an item is held under this number.
     fn is_held(&self, number: u64) -> bool
         ensures { IsTrue result ↔ IsSome (map.get self.now.held number) }
     {

@@ -10,7 +10,7 @@ use std::alloc::Allocator;
 pub trait Numbered {
     ghost number: { Self → ℕ };
 
-    /// The packet sequence number.
+    /// Tells the packet sequence number.
     fn number(&self) -> u32
         ensures { result ≡ number self.now };
 }
@@ -44,7 +44,7 @@ pub trait Window<T: Numbered> {
 
     ghost view: { Self → View T };
 
-    /// How many numbers the window covers, of 1 to 65536.
+    /// Tells how many numbers the window covers, of 1 to 65536.
     fn capacity(&self) -> u64
         ensures room { result ≡ (view self.now).room }
         ensures in_range { IsInRange (view self.now) };

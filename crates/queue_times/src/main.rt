@@ -135,7 +135,7 @@ fn through_intake<R: Threads + Wait + Clock + Copy + Send + 'static>(
     Ok(start.elapsed(&rt)?.as_nanos())
 }
 
-// The number of messages that the words ask for, 1 at least.
+// Tells the number of messages that the words ask for, 1 at least.
 fn count_asked(words: env::Args) -> u64
     ensures { 1 ≤ result }
 {

@@ -1,5 +1,20 @@
 //! Captures, and what is printed of each.
 
+/// One packet on one feed; for every window.
+pub const PLAIN: &[u8] = b"\
+I 1 NEAR O\n\
+A 010000000000000000000000\
+    38000b002e000100090000000000000000008000002000016400000000000000050000000100000000000000010000000100300000000000\n\
+";
+
+/// What is printed of [`PLAIN`], 66 bytes.
+pub const PLAIN_TEXT: &[u8] = b"\
+D 1.1 NEAR B 100x5 O\n\
+I 1.1 NEAR B O\n\
+C 1.1 NEAR B 100x5 O\n\
+Z 2 live\n\
+";
+
 /// Snapshots of different numbers for three securities, after a loss on both feeds; for a window of 4.
 pub const RECOVERY: &[u8] = b"\
 I 1 NEAR O\n\

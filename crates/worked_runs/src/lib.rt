@@ -4,5 +4,7 @@
 mod captures;
 mod kept;
 
-pub use captures::{RECOVERY, RECOVERY_TEXT, REFUSED, REFUSED_TEXT, SPREAD, SPREAD_TEXT};
+pub use captures::{
+    PLAIN, PLAIN_TEXT, RECOVERY, RECOVERY_TEXT, REFUSED, REFUSED_TEXT, SPREAD, SPREAD_TEXT,
+};
 pub use kept::{Failure, Kept};

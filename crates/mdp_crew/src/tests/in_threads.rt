@@ -9,6 +9,7 @@ use crate::stop::Stop;
 use crate::tests::channel::{Came, handed_over};
 use crate::tests::writer::slow_writer;
 use crate::{CrewOutcome, Standing};
+use mdp_arbiter::Start;
 use mdp_templates::{Instrument, Memory, are_fit};
 use std::alloc::{Allocator, Global};
 use std::sync::{OnceLock, Wait};
@@ -56,7 +57,19 @@ where
         standing,
         written,
     } = run_crew(
-        rt, scope, &go, starts, alloc, gate, listed, workers, 4, receiver, &mut board, &mut kept,
+        rt,
+        scope,
+        &go,
+        starts,
+        alloc,
+        gate,
+        listed,
+        workers,
+        4,
+        Start::FromOne,
+        receiver,
+        &mut board,
+        &mut kept,
     );
     if let Some(publisher) = board {
         publisher.end(rt);

@@ -12,7 +12,7 @@ use crate::stop::Stop;
 use crate::tests::channel::{Came, handed_over};
 use crate::tests::writer::slow_writer;
 use crate::worker::work;
-use mdp_arbiter::Arbiter;
+use mdp_arbiter::{Arbiter, Start};
 use mdp_lanes::{Lane, LaneReceiver, LaneSender};
 use mdp_reports::{BoardSteps, Collector};
 use mdp_templates::{Instrument, Memory, are_fit};
@@ -159,7 +159,7 @@ fn run_in<'s, E, R: Threads + Wait + Sync>(
     let (_a, _b, _s, receiver) = handed_over(rt, alloc, Came::Channel)?;
     let (senders, lanes) = lanes(alloc, workers)?;
     let window = RingWindow::new(alloc, 4)?;
-    let arbiter = Arbiter::new(alloc, listed, window)?;
+    let arbiter = Arbiter::new(alloc, listed, window, Start::FromOne)?;
     let arbitrated = arbitrate(rt, alloc, arbiter, receiver, senders);
     let posts = posts_of(rt, scope, alloc, listed, workers, lanes)?;
     collect_all(rt, alloc, listed, posts, arbitrated.standing)

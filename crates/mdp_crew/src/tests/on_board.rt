@@ -6,6 +6,7 @@ use crate::running::run_crew;
 use crate::starts::Always;
 use crate::tests::channel::{Came, handed_over};
 use crate::tests::writer::slow_writer;
+use mdp_arbiter::Start;
 use mdp_lanes::{Board, Row};
 use mdp_quotes::Total;
 use mdp_templates::{Instrument, Memory, are_fit};
@@ -113,7 +114,19 @@ where
         standing,
         written: _written,
     } = run_crew(
-        rt, scope, &go, &Always, alloc, &Open, listed, workers, 4, receiver, &mut board, &mut kept,
+        rt,
+        scope,
+        &go,
+        &Always,
+        alloc,
+        &Open,
+        listed,
+        workers,
+        4,
+        Start::FromOne,
+        receiver,
+        &mut board,
+        &mut kept,
     );
     let mut rows = [Row::Never; 3];
     let length = match reader {

@@ -1,7 +1,7 @@
 //! Each write of a run failing in turn, in each way: the run tells how many bytes went out before, and writes nothing more.
 
 use crate::summary::RunFault;
-use crate::tests::ways::{ROWS, Row, WAYS, Way, run_by};
+use crate::tests::ways::{ONE_PACKET, ROWS, Row, WAYS, Way, run_by};
 use std::alloc::Global;
 use std::io::ErrorKind;
 use std::process::Abort;
@@ -53,6 +53,24 @@ fn runs_with_each_write_failing(rt: HostRuntime) -> Result<(), Fail> {
             for failure in FAILURES {
                 assert!(rt; fail_each(&rt, rt.alloc(), failure, way, row)? > 2);
             }
+        }
+    }
+    Ok(())
+}
+
+// Of the row's 66 bytes, one taken a call, 29 go out before the call that fails.
+#[test]
+fn a_failed_write_in_the_middle_of_a_line(rt: HostRuntime) -> Result<(), Fail> {
+    assert_eq!(rt; ONE_PACKET.text.len(), 66);
+    for way in WAYS {
+        for failure in FAILURES {
+            let mut kept = Kept::slow(rt.alloc(), 1, 30, failure);
+            let Some(outcome) = run_by(&rt, rt.alloc(), way, ONE_PACKET, &mut kept) else {
+                return Err("no memory for the capture".into());
+            };
+            assert_eq!(rt; outcome, Err(RunFault::Output { written: 29 }));
+            assert_eq!(rt; kept.bytes.as_slice(), &ONE_PACKET.text[..29]);
+            assert_eq!(rt; kept.calls, 30);
         }
     }
     Ok(())

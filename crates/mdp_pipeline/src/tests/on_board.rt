@@ -6,6 +6,7 @@ ghost use Rattle.mdp_lanes.specs.Boards.{IsFreshReader};
 use crate::summary::{RunFault, Summary};
 use crate::tests::Kept;
 use crate::threads::run_published;
+use mdp_arbiter::Start;
 use mdp_capture::{CountingReader, read_capture};
 use mdp_crew::Open;
 use mdp_lanes::{Board, Publisher, Reader, Row};
@@ -186,6 +187,7 @@ where
         capture.s(),
         workers,
         window,
+        Start::FromOne,
         &Open,
         publisher,
         &mut kept,

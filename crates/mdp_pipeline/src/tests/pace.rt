@@ -2,6 +2,7 @@
 
 use crate::summary::Summary;
 use crate::threads::run;
+use mdp_arbiter::Start;
 use mdp_capture::{CountingReader, read_capture};
 use mdp_crew::Gate;
 use mdp_templates::Memory;
@@ -82,6 +83,7 @@ fn standing<R: Threads + Wait + Sync>(rt: &R, alloc: Global, close: u16) -> Opti
         capture.s(),
         2,
         WINDOW,
+        Start::FromOne,
         &SlowA,
         &mut kept,
     );

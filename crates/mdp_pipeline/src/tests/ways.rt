@@ -6,36 +6,57 @@ ghost use Rattle.mdp_templates.specs.Instrument.{AreFit};
 use crate::in_order::run_in_order;
 use crate::summary::{RunFault, Summary};
 use crate::threads::{run, run_published};
+use mdp_arbiter::Start;
 use mdp_capture::{Capture, CountingReader, read_capture};
 use mdp_crew::Open;
 use mdp_lanes::Board;
 use std::alloc::Allocator;
 use std::sync::Wait;
 use std::thread::Threads;
-use worked_runs::{Kept, RECOVERY, RECOVERY_TEXT, REFUSED, REFUSED_TEXT, SPREAD, SPREAD_TEXT};
+use worked_runs::{
+    Kept, PLAIN, PLAIN_TEXT, RECOVERY, RECOVERY_TEXT, REFUSED, REFUSED_TEXT, SPREAD, SPREAD_TEXT,
+};
 
-/// A capture, the window of its run, and the text, which is the same for every merge of the feeds.
+/// A capture, the window of its run, whether it joins a running channel, and the text, which is the same for every merge of the feeds.
 #[derive(Clone, Copy)]
 pub struct Row {
     capture: &'static [u8],
     window: u32,
+    start: Start,
     pub text: &'static [u8],
 }
 
-pub const ROWS: [Row; 3] = [
+/// The shortest of them, one packet.
+pub const ONE_PACKET: Row = Row {
+    capture: PLAIN,
+    window: 4,
+    start: Start::FromOne,
+    text: PLAIN_TEXT,
+};
+
+pub const ROWS: [Row; 4] = [
     Row {
         capture: RECOVERY,
         window: 4,
+        start: Start::FromOne,
+        text: RECOVERY_TEXT,
+    },
+    Row {
+        capture: RECOVERY,
+        window: 4,
+        start: Start::Join,
         text: RECOVERY_TEXT,
     },
     Row {
         capture: REFUSED,
         window: 4,
+        start: Start::FromOne,
         text: REFUSED_TEXT,
     },
     Row {
         capture: SPREAD,
         window: 1024,
+        start: Start::FromOne,
         text: SPREAD_TEXT,
     },
 ];
@@ -67,6 +88,7 @@ fn run_on_board<R, A>(
     capture: &Capture<A>,
     workers: u16,
     window: u32,
+    start: Start,
     kept: &mut Kept,
 ) -> Option<Result<Summary, RunFault>>
 where
@@ -95,6 +117,7 @@ where
         capture.s(),
         workers,
         window,
+        start,
         &Open,
         publisher,
         kept,
@@ -132,6 +155,7 @@ where
             capture.b(),
             capture.s(),
             row.window,
+            row.start,
             kept,
         )),
         Way::Threads(workers) if workers >= 1 && workers <= 16 => Some(run(
@@ -143,11 +167,12 @@ where
             capture.s(),
             workers,
             row.window,
+            row.start,
             &Open,
             kept,
         )),
         Way::Published(workers) if workers >= 1 && workers <= 16 => {
-            run_on_board(rt, alloc, &capture, workers, row.window, kept)
+            run_on_board(rt, alloc, &capture, workers, row.window, row.start, kept)
         }
         Way::Threads(_) => None,
         Way::Published(_) => None,

@@ -103,6 +103,7 @@ fn instrument(id: i32, name: &str, kind: InstrumentKind) -> Result<Instrument, F
         id,
         name: Name::new(text),
         kind,
+        depth: 10,
     })
 }
 

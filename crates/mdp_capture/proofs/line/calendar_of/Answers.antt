@@ -6,4 +6,4 @@ pub returns-then-is_some : goal.returns-then-is_some
 returns-then-is_some c =
     let first = rw c.in_ok-rest.was at c.next_field.ensures in
     let many = calendar_of_left c.next_field.result.0.now c.next_field-2.result.0.now c.next_field-2.result.1 (sym c.is_some.ensures ∙ c.if-is_some.true) in
-    rw (first, c.next_field-2.ensures) (sym many)
+    rw (c.in_ok-legs.was, first, c.next_field-2.ensures) (sym many)

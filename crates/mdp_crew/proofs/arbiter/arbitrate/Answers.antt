@@ -9,13 +9,13 @@ use Rattle.mdp_crew.proofs.Sending.{and_done, begun_there, lost_there, stops_lat
 use Rattle.mdp_crew.proofs.arbiter.arbitrate.Goals as goal
 
 pub returns-in-Ok : goal.returns-in-Ok
-returns-in-Ok g c = λ listed room begun none.
+returns-in-Ok g c = λ listed room from begun none.
     let first = c.args.senders.items in
     let now = c.take_all-sent.new.senders in
     let after = c.send_done.new.senders in
     let receiver = c.take_all-sent.new.receiver in
     let events = events_taken receiver.taken in
-    let so_far = c.in-Ok.ensures.sends listed room first (begun_there listed room c.args.receiver first c.as_mut_slice.result.now c.args.arbiter begun none c.as_mut_slice.ensures.value) in
+    let so_far = c.in-Ok.ensures.sends listed room from first (begun_there listed room from c.args.receiver first c.as_mut_slice.result.now c.args.arbiter begun none c.as_mut_slice.ensures.value) in
     let mid_long : length now ≡ c.args.senders.len = omega arith in
     let end_long : length after ≡ c.args.senders.len = omega arith in
     let told : after ≡ map (and_sent (Done ∷ [])) now =
@@ -25,18 +25,18 @@ returns-in-Ok g c = λ listed room begun none.
       lanes = take_at after _ c.args.senders.len end_long ∙ and_done so_far.batches first now after so_far.lanes told;
       takes = c.in-Ok.ensures.takes;
       ends = c.in-Ok.ensures.ends;
-      sent = all_sent listed room events so_far.batches c.take_all-sent.new.arbiter _ so_far.all;
-      next_is = c.next.ensures.next ∙ ap (λ (s : State). s.next) (state_there listed room events so_far.batches c.take_all-sent.new.arbiter so_far.all);
-      lost_is = c.lost.ensures.stands events so_far.all.settled.stands ∙ lost_there listed room events so_far.batches c.take_all-sent.new.arbiter so_far.all;
+      sent = all_sent listed room from events so_far.batches c.take_all-sent.new.arbiter _ so_far.all;
+      next_is = c.next.ensures.next ∙ ap (λ (s : State). s.next) (state_there listed room from events so_far.batches c.take_all-sent.new.arbiter so_far.all);
+      lost_is = c.lost.ensures.stands events so_far.all.settled.stands ∙ lost_there listed room from events so_far.batches c.take_all-sent.new.arbiter so_far.all;
     }
 
 pub returns : goal.returns
-returns g c = λ listed room begun none.
+returns g c = λ listed room from begun none.
     let first = c.args.senders.items in
     let now = c.take_all-sent.new.senders in
     let after = c.send_done.new.senders in
-    let stopped = c.in-Err.ensures.stops listed room first (begun_there listed room c.args.receiver first c.as_mut_slice.result.now c.args.arbiter begun none c.as_mut_slice.ensures.value) in
-    let later = stops_later listed room c.take_all-sent.new.receiver c.drain.new.receiver first now c.drain.ensures.takes stopped in
+    let stopped = c.in-Err.ensures.stops listed room from first (begun_there listed room from c.args.receiver first c.as_mut_slice.result.now c.args.arbiter begun none c.as_mut_slice.ensures.value) in
+    let later = stops_later listed room from c.take_all-sent.new.receiver c.drain.new.receiver first now c.drain.ensures.takes stopped in
     let mid_long : length now ≡ c.args.senders.len = omega arith in
     let end_long : length after ≡ c.args.senders.len = omega arith in
     let told : after ≡ map (and_sent (Done ∷ [])) now =

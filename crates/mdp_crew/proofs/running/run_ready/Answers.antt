@@ -22,7 +22,7 @@ let_all_go-requires g c =
     let is = c.requires.ready in
     let start = g.W.CountedWrite.taken c.args.writer.now in
     let went = g.W.CountedWrite.taken c.collect-collected.new.writer in
-    let sent = c.join_arbiter-receiver.ensures listed c.args.window c.args.receiver ready.senders.items c.begin_arbiter-arbitrating.ensures in
+    let sent = c.join_arbiter-receiver.ensures listed c.args.window c.args.start c.args.receiver ready.senders.items c.begin_arbiter-arbitrating.ensures in
     let old : List (Post g.row.A.Denot) = c.as_mut_slice.result.now in
     let new : List (Post g.row.A.Denot) = c.collect-collected.new.posts in
     let same : old ≡ ready.posts.items = c.as_mut_slice.ensures.value in
@@ -36,10 +36,10 @@ let_all_go-requires g c =
     (subst (λ (l : List (Post g.row.A.Denot)). AllZip IsHired lanes l) (sym rows.1) (hired_still (orders_of sent.batches) ready.senders.items old rows.0 hired)))
 
 pub returns-clause-takes : goal.returns-clause-takes
-returns-clause-takes g c = (c.join_arbiter-receiver.ensures c.args.listed.now c.args.window c.args.receiver c.args.ready.senders.items c.begin_arbiter-arbitrating.ensures).takes
+returns-clause-takes g c = (c.join_arbiter-receiver.ensures c.args.listed.now c.args.window c.args.start c.args.receiver c.args.ready.senders.items c.begin_arbiter-arbitrating.ensures).takes
 
 pub returns-clause-ends : goal.returns-clause-ends
-returns-clause-ends g c = (c.join_arbiter-receiver.ensures c.args.listed.now c.args.window c.args.receiver c.args.ready.senders.items c.begin_arbiter-arbitrating.ensures).ends
+returns-clause-ends g c = (c.join_arbiter-receiver.ensures c.args.listed.now c.args.window c.args.start c.args.receiver c.args.ready.senders.items c.begin_arbiter-arbitrating.ensures).ends
 
 pub returns-clause-shows : goal.returns-clause-shows
 returns-clause-shows g c =
@@ -48,7 +48,7 @@ returns-clause-shows g c =
     let is = c.requires.ready in
     let start = g.W.CountedWrite.taken c.args.writer.now in
     let went = g.W.CountedWrite.taken c.collect-collected.new.writer in
-    let sent = c.join_arbiter-receiver.ensures listed c.args.window c.args.receiver ready.senders.items c.begin_arbiter-arbitrating.ensures in
+    let sent = c.join_arbiter-receiver.ensures listed c.args.window c.args.start c.args.receiver ready.senders.items c.begin_arbiter-arbitrating.ensures in
     let old : List (Post g.row.A.Denot) = c.as_mut_slice.result.now in
     let new : List (Post g.row.A.Denot) = c.collect-collected.new.posts in
     let same : old ≡ ready.posts.items = c.as_mut_slice.ensures.value in
@@ -57,8 +57,8 @@ returns-clause-shows g c =
     let outcome = c.join_arbiter-receiver.result in
     let crew : IsCrew listed c.args.workers c.args.workers ready.senders.items old = subst (λ (l : List (Post g.row.A.Denot)). IsCrew listed c.args.workers c.args.workers ready.senders.items l) (sym same) is.crew in
     let settled : AllZip IsSettled outcome.senders.items new = subst (λ (l : List (Post g.row.A.Denot)). AllZip IsSettled outcome.senders.items l) back c.let_all_go.ensures in
-    subst (λ (o : Result Standing Stop). HasShown listed c.args.window (events_taken outcome.receiver.taken) start went o) (sym c.outcome.ensures)
-    (met listed c.args.workers c.args.window ready.senders.items old new ready.collector start went c.args.board.now c.collect-collected.new.board c.args.receiver outcome c.collect-collected.result c.requires.some (ids_differ listed c.requires.fit.ids_differ) crew is.collector_is sent c.collect-collected.ensures.ends settled)
+    subst (λ (o : Result Standing Stop). HasShown listed c.args.window c.args.start (events_taken outcome.receiver.taken) start went o) (sym c.outcome.ensures)
+    (met listed c.args.workers c.args.window c.args.start ready.senders.items old new ready.collector start went c.args.board.now c.collect-collected.new.board c.args.receiver outcome c.collect-collected.result c.requires.some (ids_differ listed c.requires.fit.ids_differ) crew is.collector_is sent c.collect-collected.ensures.ends settled)
 
 pub returns-clause-publishes : goal.returns-clause-publishes
 returns-clause-publishes g c =
@@ -67,7 +67,7 @@ returns-clause-publishes g c =
     let is = c.requires.ready in
     let start = g.W.CountedWrite.taken c.args.writer.now in
     let went = g.W.CountedWrite.taken c.collect-collected.new.writer in
-    let sent = c.join_arbiter-receiver.ensures listed c.args.window c.args.receiver ready.senders.items c.begin_arbiter-arbitrating.ensures in
+    let sent = c.join_arbiter-receiver.ensures listed c.args.window c.args.start c.args.receiver ready.senders.items c.begin_arbiter-arbitrating.ensures in
     let old : List (Post g.row.A.Denot) = c.as_mut_slice.result.now in
     let new : List (Post g.row.A.Denot) = c.collect-collected.new.posts in
     let same : old ≡ ready.posts.items = c.as_mut_slice.ensures.value in
@@ -76,5 +76,5 @@ returns-clause-publishes g c =
     let outcome = c.join_arbiter-receiver.result in
     let crew : IsCrew listed c.args.workers c.args.workers ready.senders.items old = subst (λ (l : List (Post g.row.A.Denot)). IsCrew listed c.args.workers c.args.workers ready.senders.items l) (sym same) is.crew in
     let settled : AllZip IsSettled outcome.senders.items new = subst (λ (l : List (Post g.row.A.Denot)). AllZip IsSettled outcome.senders.items l) back c.let_all_go.ensures in
-    subst (λ (o : Result Standing Stop). HasPublished listed c.args.window (events_taken outcome.receiver.taken) c.args.board.now c.collect-collected.new.board o) (sym c.outcome.ensures)
-    (met_on_board listed c.args.workers c.args.window ready.senders.items old new ready.collector start went c.args.board.now c.collect-collected.new.board c.args.receiver outcome c.collect-collected.result c.requires.some crew sent c.collect-collected.ensures.ends settled)
+    subst (λ (o : Result Standing Stop). HasPublished listed c.args.window c.args.start (events_taken outcome.receiver.taken) c.args.board.now c.collect-collected.new.board o) (sym c.outcome.ensures)
+    (met_on_board listed c.args.workers c.args.window c.args.start ready.senders.items old new ready.collector start went c.args.board.now c.collect-collected.new.board c.args.receiver outcome c.collect-collected.result c.requires.some crew sent c.collect-collected.ensures.ends settled)

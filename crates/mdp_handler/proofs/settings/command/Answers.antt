@@ -9,4 +9,5 @@ returns c =
     let named : app_of c.after_help.result ≡ plain = rw (c.after_help.ensures, c.about.ensures, c.version.ensures) (ap (λ (app : App). record app { top = record app.top { has_version = true } }) c.new.ensures.app) in
     let first = c.in_ok-arg.ensures.shape c.window_arg.ensures.own ∙ ap₂ with_rule named c.window_arg.ensures.rule in
     let second = c.in_ok-arg-2.ensures.shape c.workers_arg.ensures.own ∙ ap₂ with_rule first c.workers_arg.ensures.rule in
-    IfOk-weaker c.arg-3.result _ _ (λ command added. added.shape c.in_order_arg.ensures.own ∙ ap₂ with_rule second c.in_order_arg.ensures.rule) c.arg-3.ensures
+    let third = c.in_ok-arg-3.ensures.shape c.in_order_arg.ensures.own ∙ ap₂ with_rule second c.in_order_arg.ensures.rule in
+    IfOk-weaker c.arg-4.result _ _ (λ command added. added.shape c.join_arg.ensures.own ∙ ap₂ with_rule third c.join_arg.ensures.rule) c.arg-4.ensures

@@ -48,4 +48,13 @@ returns-clause-settings c =
         λ is. c.get_flag.ensures.other (read (codes "in-order") ∙ is),
         λ is. c.get_flag.ensures.none (read (codes "in-order") ∙ is),
       );
+      start = (
+        c.get_flag-2.result,
+        (
+          λ is. c.get_flag-2.ensures.value (read (codes "join") ∙ is),
+          λ is. c.get_flag-2.ensures.other (read (codes "join") ∙ is),
+          λ is. c.get_flag-2.ensures.none (read (codes "join") ∙ is),
+        ),
+        c.start_of.ensures,
+      );
     }

@@ -19,9 +19,9 @@ returns-clause-begins g c =
 pub returns-in_err-hand_on-clause-begins : goal.returns-in_err-hand_on-clause-begins
 returns-in_err-hand_on-clause-begins g c =
     let fault = err_from_is_err_and c.from_residual.result c.from_residual.ensures.1 in
-    rw fault.1 (λ listed room events start so_far.
+    rw fault.1 (λ listed room from events start so_far.
     let front = c.in_err-hand_on.ensures.begins in
-    early_here listed room events (joined_texts c.args.run.refusals) start (g.W.CountedWrite.taken c.args.writer.now) (g.W.CountedWrite.taken c.hand_on.new.writer) c.args.run.engine c.args.run.text.items front.0 front.1 so_far)
+    early_here listed room from events (joined_texts c.args.run.refusals) start (g.W.CountedWrite.taken c.args.writer.now) (g.W.CountedWrite.taken c.hand_on.new.writer) c.args.run.engine c.args.run.text.items front.0 front.1 so_far)
 
 -- what both writes took
 pub returns-clause-counts : goal.returns-clause-counts

@@ -12,7 +12,7 @@ loop-feed-init g c =
     let run = c.in-Ok.run' in
     let start = g.W.CountedWrite.taken c.args.writer.now in
     record {
-      taken = taken_none c.args.instruments.now c.args.window c.args.a.now c.args.b.now c.args.s.now start run.engine run.text.items run.refusals c.in-Ok.ensures.empty c.in-Ok.ensures.run;
+      taken = taken_none c.args.instruments.now c.args.window c.args.start c.args.a.now c.args.b.now c.args.s.now start run.engine run.text.items run.refusals c.in-Ok.ensures.empty c.in-Ok.ensures.run;
       counts = counted_none start;
       failed = refl;
     }
@@ -24,9 +24,9 @@ loop-feed-preserved g c =
     let here = c.loop-feed.records in
     let there = c.next.new.self in
     record {
-      taken = taken_more listed c.args.window c.args.a.now c.args.b.now c.args.s.now start (g.W.CountedWrite.taken c.loop-feed.writer) (g.W.CountedWrite.taken c.hand_on_pieces.new.writer)
+      taken = taken_more listed c.args.window c.args.start c.args.a.now c.args.b.now c.args.s.now start (g.W.CountedWrite.taken c.loop-feed.writer) (g.W.CountedWrite.taken c.hand_on_pieces.new.writer)
           c.loop-feed.run c.take.new.self c.hand_on_pieces.new.run here.a.now here.b.now here.s.now there.a.now there.b.now there.s.now c.in-Some.feed c.in-Some.record.now
-          c.in-Some.ensures c.in-Ok-take.ensures (λ arrivals. writes_on listed c.args.window arrivals start (g.W.CountedWrite.taken c.loop-feed.writer) (g.W.CountedWrite.taken c.hand_on_pieces.new.writer) c.take.new.self c.hand_on_pieces.new.run c.in_ok-hand_on_pieces.ensures.hands_on) c.loop-feed.invariant.taken;
+          c.in-Some.ensures c.in-Ok-take.ensures (λ arrivals. writes_on listed c.args.window c.args.start arrivals start (g.W.CountedWrite.taken c.loop-feed.writer) (g.W.CountedWrite.taken c.hand_on_pieces.new.writer) c.take.new.self c.hand_on_pieces.new.run c.in_ok-hand_on_pieces.ensures.hands_on) c.loop-feed.invariant.taken;
       counts = c.in_ok-hand_on_pieces.ensures.counts start c.loop-feed.invariant.counts;
       failed = c.in_ok-hand_on_pieces.ensures.failed ∙ c.loop-feed.invariant.failed;
     }
@@ -48,9 +48,9 @@ returns-clause-text g c =
     let taken = g.W.CountedWrite.taken c.loop-feed.writer in
     let run = c.loop-feed.run in
     let here = c.loop-feed.records in
-    let writes = taken_all listed c.args.window c.args.a.now c.args.b.now c.args.s.now start taken run.engine run.text.items run.refusals here.a.now here.b.now here.s.now c.in_default-next.ensures c.loop-feed.invariant.taken in
-    ended_by_line listed c.args.window c.args.a.now c.args.b.now c.args.s.now start (g.W.CountedWrite.taken c.finish.new.writer) c.finish.result
-    (run_printed listed c.args.window (in_order c.args.a.now c.args.b.now c.args.s.now) start taken (g.W.CountedWrite.taken c.finish.new.writer) run.engine run.text.items run.refusals c.finish.result c.finish.ensures.text writes)
+    let writes = taken_all listed c.args.window c.args.start c.args.a.now c.args.b.now c.args.s.now start taken run.engine run.text.items run.refusals here.a.now here.b.now here.s.now c.in_default-next.ensures c.loop-feed.invariant.taken in
+    ended_by_line listed c.args.window c.args.start c.args.a.now c.args.b.now c.args.s.now start (g.W.CountedWrite.taken c.finish.new.writer) c.finish.result
+    (run_printed listed c.args.window c.args.start (in_order c.args.a.now c.args.b.now c.args.s.now) start taken (g.W.CountedWrite.taken c.finish.new.writer) run.engine run.text.items run.refusals c.finish.result c.finish.ensures.text writes)
 
 pub returns-clause-written : goal.returns-clause-written
 returns-clause-written g c =
@@ -63,16 +63,16 @@ returns-clause-told g c =
 -- no run was made
 pub returns-in_default-clause-begins : goal.returns-in_default-clause-begins
 returns-in_default-clause-begins g c =
-    begins_by_line c.args.instruments.now c.args.window c.args.a.now c.args.b.now c.args.s.now (g.W.CountedWrite.taken c.args.writer.now) (g.W.CountedWrite.taken c.args.writer.now)
-    (begins_none c.args.instruments.now c.args.window (in_order c.args.a.now c.args.b.now c.args.s.now) (g.W.CountedWrite.taken c.args.writer.now))
+    begins_by_line c.args.instruments.now c.args.window c.args.start c.args.a.now c.args.b.now c.args.s.now (g.W.CountedWrite.taken c.args.writer.now) (g.W.CountedWrite.taken c.args.writer.now)
+    (begins_none c.args.instruments.now c.args.window c.args.start (in_order c.args.a.now c.args.b.now c.args.s.now) (g.W.CountedWrite.taken c.args.writer.now))
 
 -- a record was not taken
 pub returns-in_default-take-clause-begins : goal.returns-in_default-take-clause-begins
 returns-in_default-take-clause-begins g c =
     let run = c.loop-feed.run in
     let here = c.loop-feed.records in
-    begins_by_line c.args.instruments.now c.args.window c.args.a.now c.args.b.now c.args.s.now (g.W.CountedWrite.taken c.args.writer.now) (g.W.CountedWrite.taken c.loop-feed.writer)
-    (taken_begins c.args.instruments.now c.args.window c.args.a.now c.args.b.now c.args.s.now (g.W.CountedWrite.taken c.args.writer.now) (g.W.CountedWrite.taken c.loop-feed.writer)
+    begins_by_line c.args.instruments.now c.args.window c.args.start c.args.a.now c.args.b.now c.args.s.now (g.W.CountedWrite.taken c.args.writer.now) (g.W.CountedWrite.taken c.loop-feed.writer)
+    (taken_begins c.args.instruments.now c.args.window c.args.start c.args.a.now c.args.b.now c.args.s.now (g.W.CountedWrite.taken c.args.writer.now) (g.W.CountedWrite.taken c.loop-feed.writer)
     run.engine run.text.items run.refusals here.a.now here.b.now here.s.now c.loop-feed.invariant.taken)
 
 -- a write of a piece failed
@@ -83,8 +83,8 @@ returns-in_err-hand_on_pieces-clause-begins g c =
     let there = c.next.new.self in
     let front = c.in_err-hand_on_pieces.ensures.begins in
     rw fault.1
-    (begins_by_line c.args.instruments.now c.args.window c.args.a.now c.args.b.now c.args.s.now (g.W.CountedWrite.taken c.args.writer.now) (g.W.CountedWrite.taken c.hand_on_pieces.new.writer)
-    (piece_begins c.args.instruments.now c.args.window c.args.a.now c.args.b.now c.args.s.now (g.W.CountedWrite.taken c.args.writer.now) (g.W.CountedWrite.taken c.loop-feed.writer) (g.W.CountedWrite.taken c.hand_on_pieces.new.writer)
+    (begins_by_line c.args.instruments.now c.args.window c.args.start c.args.a.now c.args.b.now c.args.s.now (g.W.CountedWrite.taken c.args.writer.now) (g.W.CountedWrite.taken c.hand_on_pieces.new.writer)
+    (piece_begins c.args.instruments.now c.args.window c.args.start c.args.a.now c.args.b.now c.args.s.now (g.W.CountedWrite.taken c.args.writer.now) (g.W.CountedWrite.taken c.loop-feed.writer) (g.W.CountedWrite.taken c.hand_on_pieces.new.writer)
     c.loop-feed.run c.take.new.self here.a.now here.b.now here.s.now there.a.now there.b.now there.s.now c.in-Some.feed c.in-Some.record.now front.0
     c.in-Some.ensures c.in-Ok-take.ensures front.1 c.loop-feed.invariant.taken))
 
@@ -95,6 +95,6 @@ returns-clause-begins g c =
     let taken = g.W.CountedWrite.taken c.loop-feed.writer in
     let run = c.loop-feed.run in
     let here = c.loop-feed.records in
-    let writes = taken_all listed c.args.window c.args.a.now c.args.b.now c.args.s.now start taken run.engine run.text.items run.refusals here.a.now here.b.now here.s.now c.in_default-next.ensures c.loop-feed.invariant.taken in
-    failed_by_line listed c.args.window c.args.a.now c.args.b.now c.args.s.now start (g.W.CountedWrite.taken c.finish.new.writer) c.finish.result
-    (run_begins listed c.args.window (in_order c.args.a.now c.args.b.now c.args.s.now) start taken (g.W.CountedWrite.taken c.finish.new.writer) run.engine run.text.items run.refusals c.finish.result c.finish.ensures.begins writes)
+    let writes = taken_all listed c.args.window c.args.start c.args.a.now c.args.b.now c.args.s.now start taken run.engine run.text.items run.refusals here.a.now here.b.now here.s.now c.in_default-next.ensures c.loop-feed.invariant.taken in
+    failed_by_line listed c.args.window c.args.start c.args.a.now c.args.b.now c.args.s.now start (g.W.CountedWrite.taken c.finish.new.writer) c.finish.result
+    (run_begins listed c.args.window c.args.start (in_order c.args.a.now c.args.b.now c.args.s.now) start taken (g.W.CountedWrite.taken c.finish.new.writer) run.engine run.text.items run.refusals c.finish.result c.finish.ensures.begins writes)

@@ -22,15 +22,15 @@ settle_and_finish-requires-clause-s g c =
     c.run_crew-crew.ensures.takes c.in-Ok.ensures.s (c.join_reader-3.ensures Feed.S c.args.s.now c.in-Ok.to_s c.begin_reader-reads_s.ensures)
 
 pub returns-in_default-clause-begins : goal.returns-in_default-clause-begins
-returns-in_default-clause-begins g c = begins_nothing c.args.instruments.now c.args.window c.args.a.now c.args.b.now c.args.s.now (g.W.CountedWrite.taken c.args.writer.now) c.args.board.now
+returns-in_default-clause-begins g c = begins_nothing c.args.instruments.now c.args.window c.args.start c.args.a.now c.args.b.now c.args.s.now (g.W.CountedWrite.taken c.args.writer.now) c.args.board.now
 
 pub returns-clause-text : goal.returns-clause-text
 returns-clause-text g c =
-    map_ok c.settle_and_finish.result _ _ (λ summary ends. ends c.args.instruments.now c.args.window (g.W.CountedWrite.taken c.args.writer.now) c.args.board.now c.run_crew-crew.new.board c.run_crew-crew.ensures.shows c.run_crew-crew.ensures.publishes) c.settle_and_finish.ensures.text
+    map_ok c.settle_and_finish.result _ _ (λ summary ends. ends c.args.instruments.now c.args.window c.args.start (g.W.CountedWrite.taken c.args.writer.now) c.args.board.now c.run_crew-crew.new.board c.run_crew-crew.ensures.shows c.run_crew-crew.ensures.publishes) c.settle_and_finish.ensures.text
 
 pub returns-clause-begins : goal.returns-clause-begins
 returns-clause-begins g c =
-    map_err c.settle_and_finish.result _ _ (λ fault ends. ends c.args.instruments.now c.args.window (g.W.CountedWrite.taken c.args.writer.now) c.args.board.now c.run_crew-crew.new.board c.run_crew-crew.ensures.shows c.run_crew-crew.ensures.publishes) c.settle_and_finish.ensures.begins
+    map_err c.settle_and_finish.result _ _ (λ fault ends. ends c.args.instruments.now c.args.window c.args.start (g.W.CountedWrite.taken c.args.writer.now) c.args.board.now c.run_crew-crew.new.board c.run_crew-crew.ensures.shows c.run_crew-crew.ensures.publishes) c.settle_and_finish.ensures.begins
 
 pub returns-clause-written : goal.returns-clause-written
 returns-clause-written g c =

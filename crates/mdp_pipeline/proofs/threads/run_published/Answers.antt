@@ -4,22 +4,22 @@ use Rattle.mdp_pipeline.proofs.threads.run_published.Goals as goal
 
 pub unreachable-requires : goal.unreachable-requires
 unreachable-requires g c =
-    board_is_there c.args.instruments.now c.args.window c.args.a.now c.args.b.now c.args.s.now (g.W.CountedWrite.taken c.args.writer.now) (g.W.CountedWrite.taken c.run_where-outcome.new.writer)
+    board_is_there c.args.instruments.now c.args.window c.args.start c.args.a.now c.args.b.now c.args.s.now (g.W.CountedWrite.taken c.args.writer.now) (g.W.CountedWrite.taken c.run_where-outcome.new.writer)
     c.args.publisher c.run_where-outcome.new.board c.run_where-outcome.result c.in_default.is c.run_where-outcome.ensures.text c.run_where-outcome.ensures.begins
 
 pub returns-clause-board : goal.returns-clause-board
 returns-clause-board g c =
-    board_stays c.args.instruments.now c.args.window c.args.a.now c.args.b.now c.args.s.now (g.W.CountedWrite.taken c.args.writer.now) (g.W.CountedWrite.taken c.run_where-outcome.new.writer)
+    board_stays c.args.instruments.now c.args.window c.args.start c.args.a.now c.args.b.now c.args.s.now (g.W.CountedWrite.taken c.args.writer.now) (g.W.CountedWrite.taken c.run_where-outcome.new.writer)
     c.args.publisher c.in-Some.publisher c.run_where-outcome.new.board c.run_where-outcome.result c.in-Some.is c.run_where-outcome.ensures.text c.run_where-outcome.ensures.begins
 
 pub returns-clause-text : goal.returns-clause-text
 returns-clause-text g c =
     map_ok c.run_where-outcome.result _ _
-    (λ summary. prints_on_board c.args.instruments.now c.args.window c.args.a.now c.args.b.now c.args.s.now (g.W.CountedWrite.taken c.args.writer.now) (g.W.CountedWrite.taken c.run_where-outcome.new.writer)
+    (λ summary. prints_on_board c.args.instruments.now c.args.window c.args.start c.args.a.now c.args.b.now c.args.s.now (g.W.CountedWrite.taken c.args.writer.now) (g.W.CountedWrite.taken c.run_where-outcome.new.writer)
     c.args.publisher c.in-Some.publisher c.run_where-outcome.new.board summary c.in-Some.is) c.run_where-outcome.ensures.text
 
 pub returns-clause-begins : goal.returns-clause-begins
 returns-clause-begins g c =
     map_err c.run_where-outcome.result _ _
-    (λ fault. begins_on_board c.args.instruments.now c.args.window c.args.a.now c.args.b.now c.args.s.now (g.W.CountedWrite.taken c.args.writer.now) (g.W.CountedWrite.taken c.run_where-outcome.new.writer)
+    (λ fault. begins_on_board c.args.instruments.now c.args.window c.args.start c.args.a.now c.args.b.now c.args.s.now (g.W.CountedWrite.taken c.args.writer.now) (g.W.CountedWrite.taken c.run_where-outcome.new.writer)
     c.args.publisher c.in-Some.publisher c.run_where-outcome.new.board c.in-Some.is) c.run_where-outcome.ensures.begins

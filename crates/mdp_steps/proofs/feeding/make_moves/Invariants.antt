@@ -1,4 +1,5 @@
-use Rattle.std.proofs.Common.{◌-◌, map}
+use Rattle.std.proofs.Common.{map}
+use Rattle.mdp_arbiter.specs.Arbiter.{steps_left}
 use Rattle.mdp_steps.specs.Moves.{move_of}
 use Rattle.mdp_steps.proofs.Making.{MovesTo}
 use Rattle.mdp_steps.proofs.feeding.make_moves.Given as goal
@@ -7,6 +8,6 @@ use Rattle.mdp_steps.proofs.feeding.make_moves.Given as goal
 abbrev pub invariant-loop-step : goal.invariant-loop-step
 invariant-loop-step g l = MovesTo l.initial.arbiter l.arbiter (map move_of l.initial.turns.items) (map move_of l.turns.items)
 
--- each step raises the number of the packet that passes next
+-- each step leaves fewer
 abbrev pub decreases-loop-step : goal.decreases-loop-step
-decreases-loop-step g l = 4294967296 - l.arbiter.next
+decreases-loop-step g l = steps_left l.arbiter

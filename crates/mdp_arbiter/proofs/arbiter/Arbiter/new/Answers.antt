@@ -16,12 +16,14 @@ invariant_of-result g c = (
   λ k above. rw (c.requires.empty, get-empty nat_cmp k) refl,
   none_each _ _ _ c.in_ok-slots.ensures c.in_ok-newest.ensures,
   none_each _ _ _ c.in_ok-slots.ensures c.in_ok-bases.ensures,
+  λ waits. refl,
 )
 
 pub returns-clause-stands : goal.returns-clause-stands
 returns-clause-stands g c = record {
   room = omega (arith, c.capacity-room.ensures.room, c.capacity-room.ensures.in_range.room_least);
   begun = omega arith;
+  first = λ waits. refl;
   most = omega arith;
   top = refl;
   is_closed = refl;
@@ -30,4 +32,4 @@ returns-clause-stands g c = record {
 }
 
 pub returns-clause-start : goal.returns-clause-start
-returns-clause-start g c = rw (none_listed _ _ _ c.in_ok-slots.ensures c.in_ok-bases.ensures) refl
+returns-clause-start g c = rw (none_listed _ _ _ c.in_ok-slots.ensures c.in_ok-bases.ensures, c.has_joined.ensures) refl

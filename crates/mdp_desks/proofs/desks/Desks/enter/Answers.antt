@@ -4,7 +4,7 @@ use Rattle.std.specs.Prelude.{slice_get}
 use Rattle.std.specs.List.{AllPairs}
 use Rattle.mdp_arbiter.specs.Channel.{ids_of}
 use Rattle.mdp_desks.specs.declared.desk.Desk.{Desk}
-use Rattle.mdp_desks.proofs.Passing.{marks_put}
+use Rattle.mdp_desks.proofs.Passing.{marks_put, depths_kept}
 use Rattle.mdp_desks.proofs.Hearing.{ids_in, slot_under, one_heard, none_heard, listed_entered}
 use Rattle.mdp_desks.proofs.desks.Desks.enter.Goals as goal
 
@@ -19,6 +19,7 @@ invariant_of-self g c =
     let less : slot < length inside.desks.items = omega (arith, under, long) in
     let same = ap (λ (d : Desk). d.marked) (c.index.ensures ∙ get_or-set_same inside.desks.items slot c.enter.new.self c.index.result.now less) in
     record {
+      depths = depths_kept _ _ (rw c.enter.ensures listed) c.self.invariant.depths;
       same = c.self.invariant.same ∙ ap ids_of (sym (rw c.enter.ensures listed));
       differ = c.self.invariant.differ;
       marks_are = marks_put inside.desks.items _ _ slot c.enter.new.self _ c.self.invariant.marks_are c.put.ensures same;

@@ -1,5 +1,6 @@
 use Rattle.std.proofs.Common.{◌≡◌, List, length, map, drop, sym, ap, subst, ◌∙◌}
 use Rattle.std.proofs.lemmas.List.{take_at, length-map}
+use Rattle.mdp_desks.proofs.Passing.{depths_kept}
 use Rattle.mdp_arbiter.specs.Channel.{ids_of}
 use Rattle.mdp_desks.specs.declared.desk.Desk.{Desk}
 use Rattle.mdp_desks.specs.Desks.{desk_settled}
@@ -15,4 +16,4 @@ invariant_of-self g c =
     let long : length after ≡ inside.desks.len = ap length c.settle_all.ensures.desks ∙ simp length-map c.deref_mut.ensures.len in
     let kept = take_at after (drop (length after) inside.desks.items) inside.desks.len long in
     let listed : listed_in after ≡ listed_in inside.desks.items = ap listed_in is ∙ listed_settled c.args.packet inside.desks.items in
-    subst (λ (ds : List Desk). AreBeside ds inside.slots c.settle_all.new.marked) (sym kept) (record { same = c.self.invariant.same ∙ ap ids_of (sym listed); differ = c.self.invariant.differ; marks_are = c.settle_all.ensures.marks })
+    subst (λ (ds : List Desk). AreBeside ds inside.slots c.settle_all.new.marked) (sym kept) (record { same = c.self.invariant.same ∙ ap ids_of (sym listed); differ = c.self.invariant.differ; marks_are = c.settle_all.ensures.marks; depths = depths_kept _ _ listed c.self.invariant.depths })

@@ -1,4 +1,5 @@
-use Rattle.std.proofs.Common.{◌≡◌, ◌-◌}
+use Rattle.std.proofs.Common.{◌≡◌}
+use Rattle.mdp_arbiter.specs.Arbiter.{steps_left}
 use Rattle.mdp_engine.proofs.Moving.{MovesTo}
 use Rattle.mdp_engine.proofs.engine.Engine.move_on.Given as goal
 
@@ -10,6 +11,6 @@ invariant-loop-step g l = record {
   sound : l.self.has_failed ≡ l.initial.self.has_failed;
 }
 
--- each step raises the number of the packet that passes next
+-- each step leaves fewer
 abbrev pub decreases-loop-step : goal.decreases-loop-step
-decreases-loop-step g l = 4294967296 - l.self.arbiter.next
+decreases-loop-step g l = steps_left l.self.arbiter

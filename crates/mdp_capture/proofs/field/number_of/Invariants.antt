@@ -1,6 +1,6 @@
 use Rattle.std.proofs.Common.{◌≡◌, ◌≤◌, take}
 use Rattle.mdp_capture.specs.Line.{decimal}
-use Rattle.mdp_capture.proofs.field.id_of.Given as goal
+use Rattle.mdp_capture.proofs.field.number_of.Given as goal
 
 abbrev pub invariant-loop-digit : goal.invariant-loop-digit
-invariant-loop-digit l = (l.id ≡ decimal (take l.digit-index l.field)) × (l.id ≤ 2147483647)
+invariant-loop-digit l = (l.number ≡ decimal (take l.digit-index l.field)) × (l.number ≤ l.most)
