@@ -5,11 +5,6 @@
 # Prints each run that fails with how it differs, then one line 'N passed, M failed'. The exit status is 1 if any failed.
 set -u
 
-# How far the program is. A row is run where its file `from` names one of these pieces of work, and, where it has a
-# file `stage`, that file names one of these stages.
-made="first_path capture_text all_templates consolidation two_feeds recovery audit threads"
-stages="base"
-
 if [ $# -ne 1 ] || [ ! -x "$1" ]; then
     echo "usage: $0 PROGRAM" >&2
     exit 2
@@ -18,24 +13,6 @@ program=$(realpath "$1")
 rows=$(dirname "$(realpath "$0")")/rows
 scratch=$(mktemp -d)
 trap 'rm -rf "$scratch"' EXIT
-
-# Whether the word $1 is one of those that follow.
-is_among() {
-    local word=$1 other
-    shift
-    for other in "$@"; do
-        [ "$word" = "$other" ] && return 0
-    done
-    return 1
-}
-
-# Whether the row $1 holds of the program as it is.
-is_on() {
-    # shellcheck disable=SC2086
-    is_among "$(cat "$1/from")" $made || return 1
-    # shellcheck disable=SC2086
-    [ ! -e "$1/stage" ] || is_among "$(cat "$1/stage")" $stages
-}
 
 # Whether the file $1 is one of the texts that the row $2 allows on standard output.
 is_wanted_text() {
@@ -102,21 +79,13 @@ judge_over_threads() {
 
 passed=0
 failed=0
-off=0
 for row in "$rows"/*/; do
     row=${row%/}
-    if ! is_on "$row"; then
-        off=$((off + 1))
-        continue
-    fi
     words=()
     [ ! -e "$row/args" ] || mapfile -t words <"$row/args"
     judge "$row" ${words[@]+"${words[@]}"}
     [ ! -e "$row/merges" ] || judge_over_threads "$row" ${words[@]+"${words[@]}"}
 done
-if [ "$off" -ne 0 ]; then
-    echo "not run: $off rows of other stages"
-fi
 if [ "$passed" -eq 0 ] && [ "$failed" -eq 0 ]; then
     echo "FAILED: no row was run"
     failed=1
