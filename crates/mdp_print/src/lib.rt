@@ -11,6 +11,7 @@ mod pieces;
 mod short_text;
 mod status_lines;
 mod taken;
+mod totals;
 #[cfg(test)]
 mod tests;
 mod verdict_lines;
