@@ -2,7 +2,7 @@
 use Rattle.std.proofs.Common.{◌≡◌, ℕ, ℤ, ◌+◌, ◌≤◌, List, [], ◌∷◌, ◌++◌, length, sym, ap, ◌∙◌, append-nil, append_assoc, length-append, length-take, arith}
 use Rattle.std.proofs.lemmas.List.{take-append-le}
 use Rattle.std.proofs.lemmas.Grind.{flat_map-append}
-use Rattle.mdp_print.specs.Texts.{quote_text}
+use Rattle.mdp_text.specs.Levels.{quote_text}
 use Rattle.mdp_print.specs.Pieces.{BeginsWith, quotes_text}
 
 -- what stands at the front stays there

@@ -1,6 +1,6 @@
 use Rattle.std.proofs.Common.{◌≡◌, ◌≤◌, ◌+◌, ◌++◌, rules, arith, ap, ◌∙◌, sym, append-nil, length}
 use Rattle.std.proofs.lemmas.List.{length_push, nil_from_length}
-use Rattle.mdp_print.specs.Texts.{quote_text}
+use Rattle.mdp_text.specs.Levels.{quote_text}
 use Rattle.mdp_print.specs.Pieces.{quotes_text}
 use Rattle.mdp_print.proofs.Quotes.{one_back}
 use Rattle.mdp_print.proofs.pieces.put_few.Given.{Over}
