@@ -2,7 +2,7 @@
 
 ghost use Rattle.std.specs.Prelude.{◌≡◌, ◌+◌, ◌<◌, ◌≤◌, ◌++◌, ◌∷◌, [], length, decimal};
 ghost use Rattle.std.specs.Fmt.{signed_decimal};
-ghost use Rattle.mdp_print.specs.Texts.{quote_text};
+ghost use Rattle.mdp_text.specs.Levels.{quote_text};
 
 use itoa::write_digits;
 use std::marker::Model;
@@ -104,7 +104,7 @@ impl<const MOST: usize> TextFromEnd<MOST> {
 
     /// Puts a number in front, in decimal, with `-` where it is negative.
     #[inline]
-    pub(crate) fn put_signed(&mut self, number: i64)
+    pub fn put_signed(&mut self, number: i64)
         requires { 21 + length self.old ≤ MOST }
         ensures text { self.new ≡ signed_decimal number ++ self.old }
         ensures size { length self.new ≤ 21 + length self.old }
@@ -117,8 +117,8 @@ impl<const MOST: usize> TextFromEnd<MOST> {
 
     /// Puts a level in front: a space, the price, `x` and the size.
     #[inline]
-    #[tactic(auto, unfolding(crate::specs::Texts::quote_text))]
-    pub(crate) fn put_quote(&mut self, price: i64, size: i64)
+    #[tactic(auto, unfolding(crate::specs::Levels::quote_text))]
+    pub fn put_quote(&mut self, price: i64, size: i64)
         requires { 44 + length self.old ≤ MOST }
         ensures text { self.new ≡ quote_text price size ++ self.old }
         ensures size { length self.new ≤ 44 + length self.old }
