@@ -1,1 +1,3 @@
 mod Decimals
+mod Pieces
+mod Printed

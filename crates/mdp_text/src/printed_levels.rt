@@ -117,8 +117,7 @@ impl<const CAPACITY: usize> PrintedLevels<CAPACITY> {
         let lengths = self.lengths.as_slice();
         let start = start_of(lengths, from);
         let end = start_of(lengths, to);
-        let all = self.text.as_slice();
-        &all[start..end]
+        self.text.part(start, end)
     }
 
     /// Puts a level at a place, counted from 0; those from there on move back by one.

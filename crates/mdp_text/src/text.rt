@@ -1,6 +1,6 @@
 //! A text that is edited in place.
 
-ghost use Rattle.std.specs.Prelude.{◌≡◌, ◌≤◌, ◌+◌, ◌-◌, [], length};
+ghost use Rattle.std.specs.Prelude.{◌≡◌, ◌≤◌, ◌+◌, ◌-◌, [], length, take, drop};
 ghost use Rattle.std.specs.List.{splice};
 
 use std::marker::Model;
@@ -41,6 +41,17 @@ impl<const MOST: usize> Text<MOST> {
     {
         let all = &self.bytes[..];
         &all[..self.end]
+    }
+
+    /// Lends the bytes from `from` on and below `to`.
+    #[inline]
+    pub fn part(&self, from: usize, to: usize) -> &[u8]
+        requires order { from ≤ to }
+        requires inside { to ≤ length self.now }
+        ensures { result.now ≡ take (to - from) (drop from self.now) }
+    {
+        let all = self.as_slice();
+        &all[from..to]
     }
 
     /// Puts a piece in the place of the bytes from `from` on and below `to`; those behind move along.
