@@ -3,7 +3,8 @@ use Rattle.std.proofs.Common.{◌≡◌, ℕ, ◌+◌, ◌≤◌, List, ◌++◌
 use Rattle.std.proofs.lemmas.Grind.{flat_map-append}
 use Rattle.std.proofs.lemmas.List.{take-append-drop}
 use Rattle.mdp_quotes.specs.declared.total.Total.{Total}
-use Rattle.mdp_print.specs.Texts.{quote_text, totals_text}
+use Rattle.mdp_text.specs.Levels.{quote_text}
+use Rattle.mdp_print.specs.Texts.{totals_text}
 
 -- the text of all totals is that of the first ones and that of the others
 pub texts_cut : (n : ℕ) (totals : List Total) → totals_text totals ≡ totals_text (take n totals) ++ totals_text (drop n totals)

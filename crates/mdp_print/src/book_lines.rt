@@ -1,6 +1,6 @@
 //! The lines of good books.
 
-ghost use Rattle.std.specs.Prelude.{◌≡◌, ◌+◌, ◌<◌, ◌++◌, length, codes, vec_len, vec_capacity, OnOk, OnErr};
+ghost use Rattle.std.specs.Prelude.{◌≡◌, ◌+◌, ◌<◌, ◌≤◌, ◌++◌, length, codes, vec_len, vec_capacity, OnOk, OnErr};
 ghost use Rattle.mdp_print.specs.Texts.{direct_line, implied_line, consolidated_line, totals_text};
 ghost use Rattle.mdp_print.specs.Pieces.{BeginsWith, head_text};
 

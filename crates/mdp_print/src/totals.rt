@@ -1,7 +1,8 @@
 //! The totals of a consolidated side, appended from the text of the direct levels as far as they are the same.
 
 ghost use Rattle.std.specs.Prelude.{◌≡◌, ◌+◌, ◌<◌, ◌≤◌, ◌++◌, IfOk, true, take, length, vec_len, vec_capacity, OnOk, OnErr};
-ghost use Rattle.mdp_print.specs.Texts.{quote_text, levels_text, totals_text};
+ghost use Rattle.mdp_text.specs.Levels.{quote_text, levels_text};
+ghost use Rattle.mdp_print.specs.Texts.{totals_text};
 ghost use Rattle.mdp_print.specs.Pieces.{BeginsWith};
 
 use crate::pieces::put;

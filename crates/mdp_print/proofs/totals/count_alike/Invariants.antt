@@ -1,5 +1,6 @@
 use Rattle.std.proofs.Common.{◌-◌, ◌≡◌, ◌≤◌, take, length}
-use Rattle.mdp_print.specs.Texts.{levels_text, totals_text}
+use Rattle.mdp_text.specs.Levels.{levels_text}
+use Rattle.mdp_print.specs.Texts.{totals_text}
 use Rattle.mdp_print.proofs.totals.count_alike.Given as goal
 
 -- the totals and the levels so far have one text

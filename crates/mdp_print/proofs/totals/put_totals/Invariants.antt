@@ -7,7 +7,7 @@ use Rattle.mdp_print.proofs.totals.put_totals.Given as goal
 abbrev pub invariant-loop-count : goal.invariant-loop-count
 invariant-loop-count g l = record {
   inside : l.count ≤ length l.totals;
-  levels : l.passed ≤ length (g.S.LevelsText.items l.side);
+  levels : l.passed ≤ length l.direct;
   text : l.out.items ++ totals_text (drop l.count l.totals) ≡ l.initial.out.items ++ totals_text l.totals;
   len : vec_len l.out + length (totals_text (drop l.count l.totals)) ≡ vec_len l.initial.out + length (totals_text l.totals);
   front : BeginsWith l.out.items l.initial.out.items;
