@@ -56,6 +56,8 @@ fn a_short_text_grows_at_its_front(rt: HostRuntime) {
     text.put_signed(-12_345);
     text.put_bytes(b" and ");
     text.put_number(907);
-    text.put_quote(100, -5);
-    assert_eq!(rt; text.as_slice(), b" 100x-5907 and -12345\n".as_slice());
+    assert_eq!(rt; text.as_slice(), b"907 and -12345\n".as_slice());
+    let mut level = ShortText::new();
+    level.put_quote(1_000, -5);
+    assert_eq!(rt; level.as_slice(), b" 1000x-5".as_slice());
 }

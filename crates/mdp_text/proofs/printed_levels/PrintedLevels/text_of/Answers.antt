@@ -18,4 +18,4 @@ returns g c =
     let start = start_is c.args.from c.start_of-start.result _ _ c.start_of-start.ensures c.as_slice-lengths.ensures.value in
     let end = start_is c.args.to c.start_of-end.result _ _ c.start_of-end.ensures c.as_slice-lengths.ensures.value in
     rw (← c.self.view_is, c.part.ensures, start, end)
-      (part_is g.row.CAPACITY c.args.from c.args.to xs c.self.inside.lengths.items c.self.inside.text c.self.invariant c.requires.order inside)
+    (part_is g.row.CAPACITY c.args.from c.args.to xs c.self.inside.lengths.items c.self.inside.text c.self.invariant c.requires.order inside)
