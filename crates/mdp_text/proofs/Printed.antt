@@ -40,6 +40,22 @@ count_of_lengths xs = length-map xs measure
 pub one_is_short : (x : Level) → length (quote_text x.price x.size) ≤ 44 → All (λ (y : Level). length (quote_text y.price y.size) ≤ 44) (x ∷ [])
 one_is_short x short = All-cons IsShort x [] short (λ k d inside. absurd (omega arith))
 
+-- what was put in front of nothing is a level's text, and short
+pub record IsTextOf (x : Level) (text : List ℕ) : Type 0 where
+  pub says : text ≡ quote_text x.price x.size ++ []
+  pub only : text ≡ quote_text x.price x.size
+  pub short : length (quote_text x.price x.size) ≤ 44
+
+pub put_alone : (x : Level) (start put : List ℕ) → start ≡ [] → put ≡ quote_text x.price x.size ++ start → length put ≤ 44 + length start → IsTextOf x put
+put_alone x start put nothing is most =
+    let says : put ≡ quote_text x.price x.size ++ [] = is ∙ ap (λ ys. quote_text x.price x.size ++ ys) nothing in
+    let only : put ≡ quote_text x.price x.size = says ∙ append-nil (quote_text x.price x.size) in
+    record {
+      says = says;
+      only = only;
+      short = omega (arith, ap length only, ap length nothing, most);
+    }
+
 pub none_is_long : All (λ (y : Level). length (quote_text y.price y.size) ≤ 44) []
 none_is_long k d inside = absurd (omega arith)
 

@@ -2,7 +2,7 @@
 
 ghost use Rattle.std.specs.Prelude.{◌≡◌, ◌≤◌, ◌<◌, ◌-◌, [], length, take, drop, insert, remove, slice_set};
 ghost use Rattle.std.specs.List.{sum};
-ghost use Rattle.mdp_text.specs.Levels.{quote_text, levels_text};
+ghost use Rattle.mdp_text.specs.Levels.{levels_text};
 
 use crate::short_text::TextFromEnd;
 use crate::text::Text;
@@ -32,17 +32,6 @@ impl<const CAPACITY: usize> Model for PrintedLevels<CAPACITY> {
     ghost view = { λ p. p.levels.items };
 
     ghost invariant = { λ p. ArePrinted CAPACITY p.levels.items p.lengths.items p.text };
-}
-
-// Puts the text of a level together.
-#[inline]
-fn printed(level: &Level) -> LevelText
-    ensures text { result ≡ quote_text level.now.price level.now.size }
-    ensures size { length result ≤ 44 }
-{
-    let mut text = LevelText::new();
-    text.put_quote(level.price, i64::from(level.size));
-    text
 }
 
 // Gives where the text of the level at a place begins: behind those of the levels before it.
@@ -126,7 +115,8 @@ impl<const CAPACITY: usize> PrintedLevels<CAPACITY> {
         requires room { length self.old < CAPACITY }
         ensures { self.new ≡ insert self.old at level }
     {
-        let text = printed(&level);
+        let mut text = LevelText::new();
+        text.put_quote(level.price, i64::from(level.size));
         let start = start_of(self.lengths.as_slice(), at);
         self.text.splice(start, start, text.as_slice());
         self.lengths.insert(at, text.as_slice().len() as u8);
@@ -138,7 +128,8 @@ impl<const CAPACITY: usize> PrintedLevels<CAPACITY> {
         requires { at < length self.old }
         ensures { self.new ≡ slice_set self.old at level }
     {
-        let text = printed(&level);
+        let mut text = LevelText::new();
+        text.put_quote(level.price, i64::from(level.size));
         let start = start_of(self.lengths.as_slice(), at);
         let end = start_of(self.lengths.as_slice(), at + 1);
         self.text.splice(start, end, text.as_slice());
