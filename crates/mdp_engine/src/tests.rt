@@ -8,8 +8,7 @@ use crate::{Engine, Event, replay};
 use arrayvec::{ArrayString, ArrayVec};
 use mdp_arbiter::Start;
 use mdp_templates::{
-    Action, Entry, Instrument, InstrumentKind, Kind, Level, Memory, Message, Name, Packet,
-    Snapshot, are_fit,
+    Action, Entry, Instrument, InstrumentKind, Kind, Level, Memory, Name, Packet, Snapshot, are_fit,
 };
 use mdp_window::MapWindow;
 use std::alloc::Global;
@@ -177,10 +176,9 @@ fn snapshot(last: u32, levels: [Level; 2]) -> Snapshot {
 
 /// A packet with one message, which ends its event and has this entry.
 fn packet(alloc: Global, number: u32, entry: Entry) -> Result<Packet<Global>, Memory> {
-    let entries = Vec::from_slice(alloc, &[entry])?;
-    let mut messages = Vec::new(alloc);
-    messages.push(Message::new(entries, true))?;
-    Ok(Packet::new(number, messages))
+    let mut packet = Packet::new(alloc, number);
+    packet.push(&[entry], true)?;
+    Ok(packet)
 }
 
 fn event(alloc: Global, came: Came) -> Result<Event<Global>, Memory> {
