@@ -239,7 +239,6 @@ fn follow(rt: &impl Abort, alloc: Global, engine: &mut OverMap, row: &Row) -> Re
     engine.on(event(alloc, *came)?)?;
     assert_eq!(rt; engine.next(), *next);
     assert_eq!(rt; engine.lost(), *lost);
-    assert_eq!(rt; engine.lines(), *lines);
     let mut out = Vec::from_slice(alloc, b"held: ")?;
     engine.drain_lines(&mut out)?;
     assert_eq!(rt; &out[..6], b"held: ".as_slice());
