@@ -281,3 +281,23 @@ fn owes_the_lines_of_each_event_behind_it(rt: HostRuntime) -> Result<(), Fail> {
     follows(&rt, alloc, &CLOSED)?;
     Ok(())
 }
+
+/// Hands an engine the events of a table, and sees that it lends all their lines, and none once they are cleared.
+fn lends(rt: &impl Abort, alloc: Global, engine: &mut OverMap, rows: &[Row]) -> Result<(), Fail> {
+    for row in rows {
+        engine.on(event(alloc, row.0)?)?;
+    }
+    assert_eq!(rt; engine.lines(), text_of(alloc, rows)?.as_slice());
+    engine.clear_lines();
+    assert!(rt; engine.lines().is_empty());
+    Ok(())
+}
+
+#[test]
+fn lends_its_lines_until_they_are_cleared(rt: HostRuntime) -> Result<(), Fail> {
+    let alloc = rt.alloc();
+    let mut engine = Engine::new(alloc, &near()?, MapWindow::new(alloc, 4), Start::FromOne)?;
+    lends(&rt, alloc, &mut engine, &REORDERED[..2])?;
+    lends(&rt, alloc, &mut engine, &REORDERED[2..])?;
+    Ok(())
+}
