@@ -10,9 +10,9 @@ mod counting;
 mod pieces;
 mod status_lines;
 mod taken;
-mod totals;
 #[cfg(test)]
 mod tests;
+mod totals;
 mod verdict_lines;
 mod writing;
 

@@ -12,10 +12,10 @@ returns-in_err-put-clause-full g c =
     let levels = c.levels.result.now in
     let so_many : (passed + alike) - passed ≡ alike = omega arith in
     let same : totals_text (take alike c.args.totals.now) ≡ levels_text (take alike (drop passed levels)) =
-        c.count_alike-alike.ensures.same ∙ ap (λ xs. levels_text (take alike xs)) (take_rest levels passed) in
+    c.count_alike-alike.ensures.same ∙ ap (λ xs. levels_text (take alike xs)) (take_rest levels passed) in
     let text : c.text_of.result.now ≡ totals_text (take alike c.args.totals.now) =
-        c.text_of.ensures ∙ ap (λ xs. levels_text (take ((passed + alike) - passed) (drop passed xs))) (sym c.levels.ensures.items)
-            ∙ ap (λ n. levels_text (take n (drop passed levels))) so_many ∙ sym same in
+    c.text_of.ensures ∙ ap (λ xs. levels_text (take ((passed + alike) - passed) (drop passed xs))) (sym c.levels.ensures.items)
+    ∙ ap (λ n. levels_text (take n (drop passed levels))) so_many ∙ sym same in
     let all : vec_capacity c.args.out.now < vec_len c.args.out.now + length (totals_text c.args.totals.now) =
-        omega (arith, c.in_err-put.ensures.full, ap length text, lengths_cut alike c.args.totals.now) in
+    omega (arith, c.in_err-put.ensures.full, ap length text, lengths_cut alike c.args.totals.now) in
     search rules

@@ -15,7 +15,7 @@ loop-count-preserved g c =
     let cut = take_rest totals c.loop-count.count in
     let next : drop some.totals left ≡ drop (c.loop-count.count + some.totals) totals = drop-drop some.totals c.loop-count.count totals in
     let more : c.put_some.new.out.items ≡ before ++ totals_text (take some.totals left) =
-        c.in_ok-some.ensures.ok ∙ ap (λ xs. before ++ totals_text (take some.totals xs)) cut in
+    c.in_ok-some.ensures.ok ∙ ap (λ xs. before ++ totals_text (take some.totals xs)) cut in
     let longer = ap (λ xs. length (totals_text (take some.totals xs))) cut in
     record {
       inside = omega (arith, c.in_ok-some.ensures.totals, ap length cut, so_far.inside);
