@@ -8,8 +8,7 @@ use arrayvec::{ArrayString, ArrayVec};
 use mdp_engine::Event;
 use mdp_lanes::{Intake, IntakeReceiver, IntakeSender};
 use mdp_templates::{
-    Action, Entry, Instrument, InstrumentKind, Kind, Level, Memory, Name, Packet,
-    Snapshot, are_fit,
+    Action, Entry, Instrument, InstrumentKind, Kind, Level, Memory, Name, Packet, Snapshot, are_fit,
 };
 use std::alloc::Allocator;
 use std::sync::Wait;
