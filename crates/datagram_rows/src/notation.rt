@@ -28,7 +28,7 @@ fn push_entry(text: &mut String, entry: &Entry) -> Result<(), AllocError> {
 }
 
 // Writes a message as ` (end entries)` or ` (more entries)`.
-fn push_message(text: &mut String, message: &Message<Global>) -> Result<(), AllocError> {
+fn push_message(text: &mut String, message: &Message<'_>) -> Result<(), AllocError> {
     text.push_str(if message.is_end() { " (end" } else { " (more" })?;
     for entry in message.entries() {
         push_entry(text, entry)?;
@@ -40,8 +40,8 @@ fn push_message(text: &mut String, message: &Message<Global>) -> Result<(), Allo
 pub fn packet_text(alloc: Global, packet: &Packet<Global>) -> Result<String, AllocError> {
     let number = packet.number();
     let mut text = format!(in alloc; "ok packet {number}")?;
-    for message in packet.messages() {
-        push_message(&mut text, message)?;
+    for n in 0..packet.len() {
+        push_message(&mut text, &packet.message(n))?;
     }
     Ok(text)
 }

@@ -6,7 +6,7 @@ ghost use Rattle.mdp_templates.specs.Instrument.{AreFit};
 
 use crate::{Arbiter, Start, Step};
 use arrayvec::{ArrayString, ArrayVec};
-use mdp_templates::{Instrument, InstrumentKind, Message, Name, Packet, Snapshot, are_fit};
+use mdp_templates::{Instrument, InstrumentKind, Name, Packet, Snapshot, are_fit};
 use mdp_window::{MapWindow, Put, RingWindow, Window};
 use refusing::Refusing;
 use std::alloc::Global;
@@ -35,11 +35,13 @@ fn near() -> Result<[Instrument; 1], Fail>
 
 /// A packet with as many messages, each without entries.
 fn packet(alloc: Global, number: u32, messages: u8) -> Result<Packet<Global>, Fail> {
-    let mut all = Vec::new(alloc);
+    let mut packet = Packet::new(alloc, number);
     for _ in 0..messages {
-        all.push(Message::new(Vec::new(alloc), true))?;
+        if packet.push(&[], true).is_err() {
+            return Err("out of memory".into());
+        }
     }
-    Ok(Packet::new(number, all))
+    Ok(packet)
 }
 
 /// A snapshot of an empty book.
@@ -101,7 +103,7 @@ fn answer_to<W: Window<Packet<Global>> + Drop>(
             Answer::Nothing
         }
         Call::Step => match arbiter.step() {
-            Some(Step::Pass(packet)) => Answer::Pass(packet.number(), packet.messages().len()),
+            Some(Step::Pass(packet)) => Answer::Pass(packet.number(), packet.len()),
             Some(Step::Jump { old, new }) => Answer::Jump(old, new),
             None => Answer::Nothing,
         },
@@ -304,7 +306,7 @@ fn take_in_all(rt: &impl Abort, alloc: Global, arbiter: &mut OverRefusing) -> Re
         };
         came_back = came_back.saturating_add(1);
         assert_eq!(rt; back.number(), number);
-        assert_eq!(rt; back.messages().len(), 1);
+        assert_eq!(rt; back.len(), 1);
         assert_eq!(rt; arbiter.next(), 1);
         // so far packet 33 came, which is as far ahead of packet 1 as the window has room
         assert_eq!(rt; arbiter.lost(), number > 33);
@@ -323,7 +325,7 @@ fn recovers(rt: &impl Abort, arbiter: &mut OverRefusing) {
         match arbiter.step() {
             Some(Step::Pass(packet)) => {
                 assert_eq!(rt; packet.number(), number);
-                assert_eq!(rt; packet.messages().len(), 1);
+                assert_eq!(rt; packet.len(), 1);
             }
             _ => assert!(rt; false),
         }

@@ -2,7 +2,7 @@
 use Rattle.std.proofs.Common.{◌≡◌, ◌≢◌, ℕ, zero, suc, ◌+◌, ◌-◌, ◌<◌, ◌≤◌, min, List, [], ◌∷◌, ◌++◌, take, drop, length, Some, true, refl, sym, ap, ◌∙◌, arith}
 use Rattle.std.specs.Prelude.{insert, remove, FitsSigned}
 use Rattle.std.specs.Int.{w32}
-use Rattle.std.proofs.lemmas.List.{length-take, length-append}
+use Rattle.std.proofs.lemmas.List.{length-take, length-append, take_all, drop_all}
 use Rattle.std.proofs.lemmas.List.Elements.{All-append, All-cons, All-take, All-drop, All-push}
 use Rattle.std.proofs.lemmas.List.Edits.{length-insert, length-remove}
 use Rattle.std.proofs.lemmas.Bool.Decides.{nat_tests}
@@ -61,3 +61,10 @@ side_push capacity depth levels x size is room = record {
   deep = is.deep;
   sizes = All-push (λ (y : Level). FitsSigned w32 y.size) levels x is.sizes size;
 }
+
+-- a level that comes in where the levels end stands behind the last
+pub insert_at_end : (n : ℕ) (levels : List Level) (x : Level) → n ≡ length levels → insert levels n x ≡ levels ++ x ∷ []
+insert_at_end n levels x end =
+    let front = take_all n levels (omega (arith, end)) in
+    let behind = drop_all n levels (omega (arith, end)) in
+    ap (λ ys. ys ++ (x ∷ drop n levels)) front ∙ ap (λ ys. levels ++ (x ∷ ys)) behind

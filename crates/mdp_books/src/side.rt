@@ -4,15 +4,15 @@ ghost use Rattle.std.specs.Prelude.{◌≡◌, ◌<◌, ◌≤◌, [], ◌∷◌
 ghost use Rattle.std.specs.Bool.{OnFalse};
 ghost use Rattle.mdp_books.specs.Side.{after_new, after_change, after_delete, side_after, HaveSizes};
 
-use arrayvec::ArrayVec;
 use mdp_templates::{Action, Level};
+use mdp_text::PrintedLevels;
 use std::marker::Model;
 
-/// The levels of one side, the best first, with room for `CAPACITY` of them, and how many it has at most.
+/// The levels of one side with their printed text, the best first, with room for `CAPACITY` of them, and how many it has at most.
 #[derive(Drop)]
 pub struct Side<const CAPACITY: usize> {
     depth: usize,
-    levels: ArrayVec<Level, CAPACITY>,
+    levels: PrintedLevels<CAPACITY>,
 }
 
 impl<const CAPACITY: usize> Model for Side<CAPACITY> {
@@ -20,25 +20,27 @@ impl<const CAPACITY: usize> Model for Side<CAPACITY> {
 
     ghost Value = { SideContent };
 
-    ghost view = { λ s. record { depth = s.depth; levels = s.levels.items } };
+    ghost view = { λ s. record { depth = s.depth; levels = s.levels } };
 
-    ghost invariant = { λ s. IsSide CAPACITY (record { depth = s.depth; levels = s.levels.items }) };
+    ghost invariant = { λ s. IsSide CAPACITY (record { depth = s.depth; levels = s.levels }) };
 }
 
 impl<const CAPACITY: usize> Side<CAPACITY> {
-    /// Makes a side of this depth with no levels.
+    /// Makes a side of this depth with no levels. A text has room for ten.
     pub fn new(depth: usize) -> Side<CAPACITY>
-        requires { depth ≤ CAPACITY }
+        requires small { CAPACITY ≤ 10 }
+        requires deep { depth ≤ CAPACITY }
         ensures { result ≡ record { depth = depth; levels = [] } }
     {
         Side {
             depth,
-            levels: ArrayVec::new(),
+            levels: PrintedLevels::new(),
         }
     }
 
     /// Makes a side of this depth and these levels, the best first.
     pub fn from_levels(depth: usize, levels: &[Level]) -> Side<CAPACITY>
+        requires small { CAPACITY ≤ 10 }
         requires few { length levels.now ≤ depth }
         requires deep { depth ≤ CAPACITY }
         ensures { result ≡ record { depth = depth; levels = levels.now } }
@@ -51,12 +53,23 @@ impl<const CAPACITY: usize> Side<CAPACITY> {
     }
 
     /// Lends the levels, the best first.
+    #[inline]
     pub fn levels(&self) -> &[Level]
         ensures items { result.now ≡ self.now.levels }
         ensures few { length self.now.levels ≤ CAPACITY }
         ensures sizes { HaveSizes self.now.levels }
     {
-        self.levels.as_slice()
+        self.levels.levels()
+    }
+
+    /// Lends the levels with their printed text.
+    #[inline]
+    pub fn printed(&self) -> &PrintedLevels<CAPACITY>
+        ensures items { result.now ≡ self.now.levels }
+        ensures few { length self.now.levels ≤ CAPACITY }
+        ensures sizes { HaveSizes self.now.levels }
+    {
+        &self.levels
     }
 
     /// Does what an entry asks for at a position, counted from 1 (MDP 3.0, the update action and the price
@@ -79,7 +92,7 @@ impl<const CAPACITY: usize> Side<CAPACITY> {
         requires { length self.old.levels < self.old.depth }
         ensures { self.new ≡ record { depth = self.old.depth; levels = self.old.levels ++ level ∷ [] } }
     {
-        self.levels.push(level);
+        self.levels.insert(self.levels.len(), level);
     }
 
     // Enters a new level at a position: those from there on move down, and what falls past the depth is dropped.
@@ -103,7 +116,7 @@ impl<const CAPACITY: usize> Side<CAPACITY> {
         if position == 0 || position > self.levels.len() {
             return false;
         }
-        self.levels[position - 1] = with;
+        self.levels.set(position - 1, with);
         true
     }
 

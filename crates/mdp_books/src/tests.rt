@@ -172,3 +172,14 @@ fn a_longer_snapshot_gives_its_first_levels(rt: HostRuntime) -> Result<(), Fail>
     );
     Ok(())
 }
+
+#[test]
+fn the_printed_text_follows_the_entries(rt: HostRuntime) {
+    let mut side = Side::<10>::from_levels(10, &TEN[..3]);
+    assert_eq!(rt; side.printed().text(), b" 100x1 99x1 98x1".as_slice());
+    assert!(rt; side.apply(Action::New, 1, level(101, 20)));
+    assert!(rt; side.apply(Action::Change, 2, level(-100, -3)));
+    assert!(rt; side.apply(Action::Delete, 3, level(0, 0)));
+    assert_eq!(rt; side.printed().text(), b" 101x20 -100x-3 98x1".as_slice());
+    assert_eq!(rt; side.printed().len(), 3);
+}

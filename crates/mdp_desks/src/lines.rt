@@ -7,18 +7,19 @@ ghost use Rattle.mdp_quotes.specs.Top.{top_of_book};
 ghost use Rattle.mdp_print.specs.Texts.{consolidated_line};
 ghost use Rattle.mdp_desks.specs.Lines.{book_lines};
 
-use mdp_books::Book;
+use mdp_books::{Book, Sides};
 use mdp_print::{put_consolidated, put_direct, put_fault, put_implied};
 use mdp_quotes::{Live, TopOfBook};
 use mdp_templates::Memory;
 use std::alloc::Allocator;
 
-// Appends the `C` line of a good book, and hands back the top of what it shows; none of a faulty book.
+// Appends the `C` line of a good book with these sides, and hands back the top of what it shows; none of a faulty book.
 fn put_totals<A: Allocator>(
     out: &mut Vec<u8, A>,
     packet: u32,
     message: u64,
     name: &[u8],
+    sides: &Sides,
     live: &Live,
 ) -> Result<Option<TopOfBook>, Memory>
     ensures line { OnOk result (IfSome (consolidation_of live.now) (λ quotes. out.new.items ≡ out.old.items ++ consolidated_line packet message name.now quotes.bids quotes.offers)) }
@@ -26,7 +27,15 @@ fn put_totals<A: Allocator>(
 {
     match live.consolidated() {
         Some(quotes) => {
-            put_consolidated(out, packet, message, name, quotes.bids(), quotes.offers())?;
+            put_consolidated(
+                out,
+                packet,
+                message,
+                name,
+                quotes.bids(),
+                quotes.offers(),
+                sides,
+            )?;
             Ok(Some(quotes.top()))
         }
         None => Ok(None),
@@ -48,23 +57,9 @@ pub fn put_book<A: Allocator>(
 {
     match live.book() {
         Book::Good(sides) => {
-            put_direct(
-                out,
-                packet,
-                message,
-                name,
-                sides.bids.levels(),
-                sides.offers.levels(),
-            )?;
-            put_implied(
-                out,
-                packet,
-                message,
-                name,
-                sides.implied_bids.levels(),
-                sides.implied_offers.levels(),
-            )?;
-            put_totals(out, packet, message, name, live)
+            put_direct(out, packet, message, name, sides)?;
+            put_implied(out, packet, message, name, sides)?;
+            put_totals(out, packet, message, name, sides, live)
         }
         Book::Fault(place) => {
             put_fault(out, packet, message, name, place)?;

@@ -91,7 +91,7 @@ impl<A: Allocator + Copy> AuditedDesks<A> {
         out: &mut Vec<u8, A>,
         packet: u32,
         message: u64,
-        taken: &Message<A>,
+        taken: &Message<'_>,
     ) -> Result<(), Memory>
         ensures desks { OnOk result (self.new ≡ desks_after (sent_as packet message taken.now) self.old) }
         ensures text { OnOk result (out.new.items ≡ out.old.items ++ desks_text (sent_as packet message taken.now) self.old) }
@@ -111,9 +111,8 @@ impl<A: Allocator + Copy> AuditedDesks<A> {
         ensures text { OnOk result (out.new.items ≡ out.old.items ++ passed_text (sent_in packet.now) self.old) }
     {
         let number = packet.number();
-        let messages = packet.messages();
-        for n in 0..messages.len() {
-            self.take(out, number, n as u64 + 1, &messages[n])?;
+        for n in 0..packet.len() {
+            self.take(out, number, n as u64 + 1, &packet.message(n))?;
         }
         Ok(())
     }

@@ -25,10 +25,11 @@ use mdp_window::{Put, Window};
 use std::alloc::Allocator;
 use std::marker::Model;
 
-/// Arbitrates the feeds of a channel, keeps its books, and holds the lines that are owed until they are drained.
+/// Arbitrates the feeds of a channel, keeps its books, and holds the lines that are owed until they leave it: they are
+/// drained into a text, or lent by `lines` and, once they were handed on, forgotten by `clear_lines`.
 ///
-/// Once memory has run out the engine has failed: it takes in nothing more and drains nothing more, and what was
-/// drained is a beginning of the lines.
+/// Once memory has run out the engine has failed: it takes in nothing more and drains nothing more. What was drained
+/// or handed on before is a beginning of the lines; what a failed engine holds may break off anywhere.
 #[derive(Drop)]
 pub struct Engine<A: Allocator, W: Window<Packet<A>> + Drop> {
     arbiter: Arbiter<A, W>,
@@ -143,8 +144,26 @@ impl<A: Allocator + Copy, W: Window<Packet<A>> + Drop> Engine<A, W> {
             self.has_failed = true;
             return Err(Memory);
         }
-        self.held.clear();
+        self.clear_lines();
         Ok(())
+    }
+
+    /// Lends the lines that are held.
+    pub fn lines(&self) -> &[u8]
+        ensures { result.now ≡ self.now.held }
+    {
+        self.held.as_slice()
+    }
+
+    /// Forgets the lines that are held, since they were handed on, and keeps the room that they took for those that come.
+    pub fn clear_lines(&mut self)
+        ensures drained { self.new ≡ record self.old { held = [] } }
+        ensures stands { (listed : List Instrument) (es : List Accepted) (drained : List ℕ) → Stands listed es drained self.old
+            → Stands listed es (drained ++ self.old.held) self.new }
+        ensures under { (listed : List Instrument) (feed : List PacketContent) (es : List Accepted) (drained : List ℕ)
+            → StandsUnder listed feed es drained self.old → StandsUnder listed feed es (drained ++ self.old.held) self.new }
+    {
+        self.held.clear();
     }
 
     // Answers `Memory` once memory has run out.

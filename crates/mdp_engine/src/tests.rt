@@ -8,8 +8,7 @@ use crate::{Engine, Event, replay};
 use arrayvec::{ArrayString, ArrayVec};
 use mdp_arbiter::Start;
 use mdp_templates::{
-    Action, Entry, Instrument, InstrumentKind, Kind, Level, Memory, Message, Name, Packet,
-    Snapshot, are_fit,
+    Action, Entry, Instrument, InstrumentKind, Kind, Level, Memory, Name, Packet, Snapshot, are_fit,
 };
 use mdp_window::MapWindow;
 use std::alloc::Global;
@@ -177,10 +176,9 @@ fn snapshot(last: u32, levels: [Level; 2]) -> Snapshot {
 
 /// A packet with one message, which ends its event and has this entry.
 fn packet(alloc: Global, number: u32, entry: Entry) -> Result<Packet<Global>, Memory> {
-    let entries = Vec::from_slice(alloc, &[entry])?;
-    let mut messages = Vec::new(alloc);
-    messages.push(Message::new(entries, true))?;
-    Ok(Packet::new(number, messages))
+    let mut packet = Packet::new(alloc, number);
+    packet.push(&[entry], true)?;
+    Ok(packet)
 }
 
 fn event(alloc: Global, came: Came) -> Result<Event<Global>, Memory> {
@@ -281,5 +279,25 @@ fn owes_the_lines_of_each_event_behind_it(rt: HostRuntime) -> Result<(), Fail> {
     follows(&rt, alloc, &REORDERED)?;
     follows(&rt, alloc, &RECOVERED)?;
     follows(&rt, alloc, &CLOSED)?;
+    Ok(())
+}
+
+/// Hands an engine the events of a table, and sees that it lends all their lines, and none once they are cleared.
+fn lends(rt: &impl Abort, alloc: Global, engine: &mut OverMap, rows: &[Row]) -> Result<(), Fail> {
+    for row in rows {
+        engine.on(event(alloc, row.0)?)?;
+    }
+    assert_eq!(rt; engine.lines(), text_of(alloc, rows)?.as_slice());
+    engine.clear_lines();
+    assert!(rt; engine.lines().is_empty());
+    Ok(())
+}
+
+#[test]
+fn lends_its_lines_until_they_are_cleared(rt: HostRuntime) -> Result<(), Fail> {
+    let alloc = rt.alloc();
+    let mut engine = Engine::new(alloc, &near()?, MapWindow::new(alloc, 4), Start::FromOne)?;
+    lends(&rt, alloc, &mut engine, &REORDERED[..2])?;
+    lends(&rt, alloc, &mut engine, &REORDERED[2..])?;
     Ok(())
 }

@@ -6,7 +6,7 @@ ghost use Rattle.mdp_lanes.specs.Queues.{IsSenderOf, IsFreshSenderOf};
 
 use crate::{Ends, Intake, IntakeReceiver, IntakeSender, Lane, LaneReceiver, LaneSender};
 use arrayvec::ArrayVec;
-use mdp_templates::{Feed, Memory, Message, Packet, Snapshot};
+use mdp_templates::{Feed, Memory, Packet, Snapshot};
 use refusing::Refusing;
 use std::alloc::{AllocError, Allocator, Global};
 use std::process::Abort;
@@ -56,7 +56,7 @@ enum Mark {
 
 fn mark_of<A: Allocator>(item: &Item<A>) -> Mark {
     match item {
-        Item::Packet(packet) => Mark::Packet(packet.number(), packet.messages().len()),
+        Item::Packet(packet) => Mark::Packet(packet.number(), packet.len()),
         Item::Snapshot(snapshot) => Mark::Snapshot(snapshot.last()),
         Item::Close => Mark::Close,
         Item::End => Mark::End,
@@ -65,9 +65,9 @@ fn mark_of<A: Allocator>(item: &Item<A>) -> Mark {
 
 /// A packet of one empty message, which lies in memory.
 fn packet<A: Allocator + Copy>(alloc: A, number: u32) -> Packet<A> {
-    let mut messages = Vec::new(alloc);
-    let _ = messages.push(Message::new(Vec::new(alloc), true));
-    Packet::new(number, messages)
+    let mut packet = Packet::new(alloc, number);
+    let _ = packet.push(&[], true);
+    packet
 }
 
 /// A snapshot of an empty book.
@@ -364,7 +364,7 @@ fn compare_packets(rt: &impl Abort, taken: &[Packet<Global>], many: u32) {
     let mut place = 0u32;
     for packet in taken {
         assert_eq!(rt; packet.number(), place);
-        assert_eq!(rt; packet.messages().len(), 1);
+        assert_eq!(rt; packet.len(), 1);
         place = place.saturating_add(1);
     }
     assert_eq!(rt; place, many);

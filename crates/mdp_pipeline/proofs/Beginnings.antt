@@ -124,16 +124,16 @@ text_begins listed room from readings more sent held n shown =
     ∙ append_assoc (sent ++ take n held) (drop n held) (later ++ end)
 
 -- The first records were taken, and of the text that is held so many bytes went out.
-pub begins_so_far : (listed : List Instrument) (room : ℕ) (from : Start) (arrivals done left : List Arrival) (start taken taken' : List ℕ) (engine : View) (held : List ℕ) (refusals : RefusalTexts) (n : ℕ)
-    → arrivals ≡ done ++ left → taken' ≡ taken ++ take n held → Writes listed room from done start taken engine held refusals → BeginsAll listed room from arrivals start taken'
-begins_so_far listed room from arrivals done left start taken taken' engine held refusals n parts went so_far =
+pub begins_so_far : (listed : List Instrument) (room : ℕ) (from : Start) (arrivals done left : List Arrival) (start taken taken' : List ℕ) (engine : View) (refusals : RefusalTexts) (n : ℕ)
+    → arrivals ≡ done ++ left → taken' ≡ taken ++ take n engine.held → Writes listed room from done start taken engine refusals → BeginsAll listed room from arrivals start taken'
+begins_so_far listed room from arrivals done left start taken taken' engine refusals n parts went so_far =
     let readings = so_far.over.readings in
     let more = readings_exist left in
     let all = readings ++ more.0 in
     let run = so_far.over.run in
-    let front = so_far.sent ++ held in
-    let shown : front ≡ shown_lines listed (moves_of listed room from (events_of readings)) =
-    sym (append-nil front) ∙ ap (λ (t : List ℕ). front ++ t) (sym run.drained) ∙ run.stands.shows.text_is
+    let held = engine.held in
+    let shown : so_far.sent ++ held ≡ shown_lines listed (moves_of listed room from (events_of readings)) =
+    run.stands.shows.text_is
     ∙ ap (λ (c : Channel). shown_lines listed (trace c (events_of readings))) run.channel in
     record {
       text = text_of listed room from all;
@@ -149,18 +149,18 @@ begins_so_far listed room from arrivals done left start taken taken' engine held
 -- ---- a run
 
 -- a run whose records are not all taken
-pub taken_begins : (listed : List Instrument) (room : ℕ) (from : Start) (a b s : List RecordContent) (start taken : List ℕ) (engine : View) (held : List ℕ) (refusals : RefusalTexts) (a' b' s' : List RecordContent)
-    → HasTaken listed room from a b s start taken engine held refusals a' b' s' → BeginsAll listed room from (in_order a b s) start taken
-taken_begins listed room from a b s start taken engine held refusals a' b' s' so_far =
-    begins_so_far listed room from (in_order a b s) so_far.done (in_order a' b' s') start taken taken engine held refusals 0 so_far.left (sym (append-nil taken)) so_far.writes
+pub taken_begins : (listed : List Instrument) (room : ℕ) (from : Start) (a b s : List RecordContent) (start taken : List ℕ) (engine : View) (refusals : RefusalTexts) (a' b' s' : List RecordContent)
+    → HasTaken listed room from a b s start taken engine refusals a' b' s' → BeginsAll listed room from (in_order a b s) start taken
+taken_begins listed room from a b s start taken engine refusals a' b' s' so_far =
+    begins_so_far listed room from (in_order a b s) so_far.done (in_order a' b' s') start taken taken engine refusals 0 so_far.left (sym (append-nil taken)) so_far.writes
 
 -- a run whose text was to go out after one record more
 pub piece_begins : {A : Type 0} (listed : List Instrument) (room : ℕ) (from : Start) (a b s : List RecordContent) (start taken taken' : List ℕ) (old new : Run A) (a' b' s' a'' b'' s'' : List RecordContent) (feed : Feed) (entry : RecordContent) (n : ℕ)
     → in_order a' b' s' ≡ (record { feed = feed; entry = entry }) ∷ in_order a'' b'' s''
     → TakesAs (kind_of feed) feed entry.line entry.received old new
-    → taken' ≡ taken ++ take n new.text.items
-    → HasTaken listed room from a b s start taken old.engine old.text.items old.refusals a' b' s'
+    → taken' ≡ taken ++ take n new.engine.held
+    → HasTaken listed room from a b s start taken old.engine old.refusals a' b' s'
     → BeginsAll listed room from (in_order a b s) start taken'
 piece_begins listed room from a b s start taken taken' old new a' b' s' a'' b'' s'' feed entry n next takes went so_far =
     let on = taken_more listed room from a b s start taken taken old new new a' b' s' a'' b'' s'' feed entry next takes (λ arrivals writes. writes) so_far in
-    begins_so_far listed room from (in_order a b s) on.done (in_order a'' b'' s'') start taken taken' new.engine new.text.items new.refusals n on.left went on.writes
+    begins_so_far listed room from (in_order a b s) on.done (in_order a'' b'' s'') start taken taken' new.engine new.refusals n on.left went on.writes

@@ -27,11 +27,9 @@ use Rattle.mdp_pipeline.specs.Running.{BeginsAll, EndsAs, EndsEarly, HandsOn, Ha
 -- ---- the text so far
 
 -- what was sent and what is held is what the moves show
-shown_so_far : (listed : List Instrument) (room : ℕ) (from : Start) (events : List Event) (start taken : List ℕ) (engine : View) (held : List ℕ) → (so_far : HasShown listed room from events start taken engine held) → so_far.sent ++ held ≡ shown_lines listed (moves_of listed room from events)
-shown_so_far listed room from events start taken engine held so_far =
-    let front = so_far.sent ++ held in
-    sym (append-nil front) ∙ ap (λ (t : List ℕ). front ++ t) (sym so_far.drained) ∙ so_far.stands.shows.text_is
-    ∙ ap (λ (c : Channel). shown_lines listed (trace c events)) so_far.channel
+shown_so_far : (listed : List Instrument) (room : ℕ) (from : Start) (events : List Event) (start taken : List ℕ) (engine : View) → (so_far : HasShown listed room from events start taken engine) → so_far.sent ++ engine.held ≡ shown_lines listed (moves_of listed room from events)
+shown_so_far listed room from events start taken engine so_far =
+    so_far.stands.shows.text_is ∙ ap (λ (c : Channel). shown_lines listed (trace c events)) so_far.channel
 
 -- what more events show
 abbrev shown_later : List Instrument → ℕ → Start → List Event → List Event → List ℕ
@@ -46,9 +44,10 @@ shown_front listed room from events more =
     ∙ shown_lines_after-append listed [] (moves_of listed room from events) (go_on channel events (state_at channel events) more)
 
 -- of the text that is held so many bytes went out; whatever comes behind these events, it is a beginning of the whole
-pub early : (listed : List Instrument) (room : ℕ) (from : Start) (events more : List Event) (refusals start taken taken' : List ℕ) (engine : View) (held : List ℕ) (n : ℕ) → taken' ≡ taken ++ take n held
-    → HasShown listed room from events start taken engine held → EndsEarly listed room from (events ++ more) refusals start taken'
-early listed room from events more refusals start taken taken' engine held n went so_far =
+pub early : (listed : List Instrument) (room : ℕ) (from : Start) (events more : List Event) (refusals start taken taken' : List ℕ) (engine : View) (n : ℕ) → taken' ≡ taken ++ take n engine.held
+    → HasShown listed room from events start taken engine → EndsEarly listed room from (events ++ more) refusals start taken'
+early listed room from events more refusals start taken taken' engine n went so_far =
+    let held = engine.held in
     let later = shown_later listed room from events more in
     let end = end_lines listed room from refusals (events ++ more) in
     record {
@@ -57,17 +56,17 @@ early listed room from events more refusals start taken taken' engine held n wen
       taken_is = went ∙ ap (λ (t : List ℕ). t ++ take n held) so_far.taken_is ∙ append_assoc start so_far.sent (take n held);
       whole =
           ap (λ (t : List ℕ). t ++ end) (shown_front listed room from events more)
-          ∙ ap (λ (t : List ℕ). (t ++ later) ++ end) (sym (shown_so_far listed room from events start taken engine held so_far))
+          ∙ ap (λ (t : List ℕ). (t ++ later) ++ end) (sym (shown_so_far listed room from events start taken engine so_far))
           ∙ append_assoc (so_far.sent ++ held) later end
           ∙ ap (λ (t : List ℕ). (so_far.sent ++ t) ++ (later ++ end)) (sym (take-append-drop n held))
           ∙ ap (λ (t : List ℕ). t ++ (later ++ end)) (sym (append_assoc so_far.sent (take n held) (drop n held)))
           ∙ append_assoc (so_far.sent ++ take n held) (drop n held) (later ++ end);
     }
 
-pub early_here : (listed : List Instrument) (room : ℕ) (from : Start) (events : List Event) (refusals start taken taken' : List ℕ) (engine : View) (held : List ℕ) (n : ℕ) → taken' ≡ taken ++ take n held
-    → HasShown listed room from events start taken engine held → EndsEarly listed room from events refusals start taken'
-early_here listed room from events refusals start taken taken' engine held n went so_far =
-    subst (λ (es : List Event). EndsEarly listed room from es refusals start taken') (append-nil events) (early listed room from events [] refusals start taken taken' engine held n went so_far)
+pub early_here : (listed : List Instrument) (room : ℕ) (from : Start) (events : List Event) (refusals start taken taken' : List ℕ) (engine : View) (n : ℕ) → taken' ≡ taken ++ take n engine.held
+    → HasShown listed room from events start taken engine → EndsEarly listed room from events refusals start taken'
+early_here listed room from events refusals start taken taken' engine n went so_far =
+    subst (λ (es : List Event). EndsEarly listed room from es refusals start taken') (append-nil events) (early listed room from events [] refusals start taken taken' engine n went so_far)
 
 -- nothing went out
 pub early_none : (listed : List Instrument) (room : ℕ) (from : Start) (events : List Event) (refusals start : List ℕ) → EndsEarly listed room from events refusals start start
@@ -81,13 +80,14 @@ TellsNext engine next = (listed : List Instrument) (es : List Event) (drained : 
 abbrev pub TellsLost : View → Bool → Type 0
 TellsLost engine lost = (listed : List Instrument) (es : List Event) (drained : List ℕ) → Stands listed es drained engine → lost ≡ is_lost engine.arbiter.channel es (state_at engine.arbiter.channel es)
 
-pub ends_as : (listed : List Instrument) (room : ℕ) (from : Start) (events : List Event) (start taken taken' : List ℕ) (engine : View) (held end : List ℕ) (refusals : RefusalTexts) (next : ℕ) (lost : Bool)
-    → taken' ≡ (taken ++ held) ++ end → end ≡ joined_texts refusals ++ last_line next lost → TellsNext engine next → TellsLost engine lost
-    → HasShown listed room from events start taken engine held → EndsAs listed room from events (joined_texts refusals) start taken' next lost
-ends_as listed room from events start taken taken' engine held end refusals next lost went end_is next_is lost_is so_far =
+pub ends_as : (listed : List Instrument) (room : ℕ) (from : Start) (events : List Event) (start taken taken' : List ℕ) (engine : View) (end : List ℕ) (refusals : RefusalTexts) (next : ℕ) (lost : Bool)
+    → taken' ≡ (taken ++ engine.held) ++ end → end ≡ joined_texts refusals ++ last_line next lost → TellsNext engine next → TellsLost engine lost
+    → HasShown listed room from events start taken engine → EndsAs listed room from events (joined_texts refusals) start taken' next lost
+ends_as listed room from events start taken taken' engine end refusals next lost went end_is next_is lost_is so_far =
+    let held = engine.held in
     let front = so_far.sent ++ held in
-    let next_after_all : next ≡ next_after listed room from events = next_is listed events front so_far.stands ∙ ap (λ (c : Channel). (state_at c events).next) so_far.channel in
-    let lost_after_all : lost ≡ is_lost_after listed room from events = lost_is listed events front so_far.stands ∙ ap (λ (c : Channel). is_lost c events (state_at c events)) so_far.channel in
+    let next_after_all : next ≡ next_after listed room from events = next_is listed events so_far.sent so_far.stands ∙ ap (λ (c : Channel). (state_at c events).next) so_far.channel in
+    let lost_after_all : lost ≡ is_lost_after listed room from events = lost_is listed events so_far.sent so_far.stands ∙ ap (λ (c : Channel). is_lost c events (state_at c events)) so_far.channel in
     let ending : end ≡ end_lines listed room from (joined_texts refusals) events =
     end_is
     ∙ ap (λ (n : ℕ). joined_texts refusals ++ last_line n lost) next_after_all
@@ -98,17 +98,18 @@ ends_as listed room from events start taken taken' engine held end refusals next
       next_is = next_after_all;
       lost_is = lost_after_all;
       shown =
-          ap (λ (t : List ℕ). t ++ end) (shown_so_far listed room from events start taken engine held so_far)
+          ap (λ (t : List ℕ). t ++ end) (shown_so_far listed room from events start taken engine so_far)
           ∙ ap (λ (t : List ℕ). shown_lines listed (moves_of listed room from events) ++ t) ending;
     }
 
 -- the text went out, and of the refusals and the last line so many bytes
-pub early_in_end : (listed : List Instrument) (room : ℕ) (from : Start) (events : List Event) (start taken taken' : List ℕ) (engine : View) (held end : List ℕ) (refusals : RefusalTexts) (next : ℕ) (lost : Bool) (n : ℕ)
-    → taken' ≡ (taken ++ held) ++ take n end → end ≡ joined_texts refusals ++ last_line next lost → TellsNext engine next → TellsLost engine lost
-    → HasShown listed room from events start taken engine held → EndsEarly listed room from events (joined_texts refusals) start taken'
+pub early_in_end : (listed : List Instrument) (room : ℕ) (from : Start) (events : List Event) (start taken taken' : List ℕ) (engine : View) (end : List ℕ) (refusals : RefusalTexts) (next : ℕ) (lost : Bool) (n : ℕ)
+    → taken' ≡ (taken ++ engine.held) ++ take n end → end ≡ joined_texts refusals ++ last_line next lost → TellsNext engine next → TellsLost engine lost
+    → HasShown listed room from events start taken engine → EndsEarly listed room from events (joined_texts refusals) start taken'
 unfolding ends_as
-early_in_end listed room from events start taken taken' engine held end refusals next lost n went end_is next_is lost_is so_far =
-    let all = ends_as listed room from events start taken ((taken ++ held) ++ end) engine held end refusals next lost refl end_is next_is lost_is so_far in
+early_in_end listed room from events start taken taken' engine end refusals next lost n went end_is next_is lost_is so_far =
+    let held = engine.held in
+    let all = ends_as listed room from events start taken ((taken ++ held) ++ end) engine end refusals next lost refl end_is next_is lost_is so_far in
     let front = so_far.sent ++ held in
     record {
       sent = front ++ take n end;
@@ -124,26 +125,26 @@ told_as listed room from events refusals start taken next next' lost lost' next_
     subst (λ (n : ℕ). EndsAs listed room from events refusals start taken n lost') (sym next_is) (subst (λ (l : Bool). EndsAs listed room from events refusals start taken next l) (sym lost_is) ends)
 
 -- what the end comes to, where all of the text went out
-pub ends_of : (taken mid after : List ℕ) (engine : View) (held : List ℕ) (refusals : RefusalTexts) (next : ℕ) (lost : Bool) (result : Result Summary RunFault)
-    → TellsNext engine next → TellsLost engine lost → mid ≡ taken ++ held
+pub ends_of : (taken mid after : List ℕ) (engine : View) (refusals : RefusalTexts) (next : ℕ) (lost : Bool) (result : Result Summary RunFault)
+    → TellsNext engine next → TellsLost engine lost → mid ≡ taken ++ engine.held
     → IfOk result (λ (summary : Summary). (summary.next ≡ next) × (summary.lost ≡ lost)) → OnOk result (after ≡ mid ++ (joined_texts refusals ++ last_line next lost))
-    → IfOk result (λ (summary : Summary). (listed : List Instrument) (room : ℕ) (from : Start) (events : List Event) (start : List ℕ) → HasShown listed room from events start taken engine held
+    → IfOk result (λ (summary : Summary). (listed : List Instrument) (room : ℕ) (from : Start) (events : List Event) (start : List ℕ) → HasShown listed room from events start taken engine
     → EndsAs listed room from events (joined_texts refusals) start after summary.next summary.lost)
-ends_of taken mid after engine held refusals next lost (Ok summary) next_is lost_is text tells went = λ listed room from events start so_far.
+ends_of taken mid after engine refusals next lost (Ok summary) next_is lost_is text tells went = λ listed room from events start so_far.
     let end = joined_texts refusals ++ last_line next lost in
-    let ends = ends_as listed room from events start taken after engine held end refusals next lost (went ∙ ap (λ (t : List ℕ). t ++ end) text) refl next_is lost_is so_far in
+    let ends = ends_as listed room from events start taken after engine end refusals next lost (went ∙ ap (λ (t : List ℕ). t ++ end) text) refl next_is lost_is so_far in
     told_as listed room from events (joined_texts refusals) start after next summary.next lost summary.lost tells.0 tells.1 ends
-ends_of taken mid after engine held refusals next lost (Err fault) next_is lost_is text tells went = tt
+ends_of taken mid after engine refusals next lost (Err fault) next_is lost_is text tells went = tt
 
-pub early_of : (taken mid after : List ℕ) (engine : View) (held : List ℕ) (refusals : RefusalTexts) (next : ℕ) (lost : Bool) (result : Result Summary RunFault)
-    → TellsNext engine next → TellsLost engine lost → mid ≡ taken ++ held
+pub early_of : (taken mid after : List ℕ) (engine : View) (refusals : RefusalTexts) (next : ℕ) (lost : Bool) (result : Result Summary RunFault)
+    → TellsNext engine next → TellsLost engine lost → mid ≡ taken ++ engine.held
     → IfErr result (λ (fault : RunFault). (n : ℕ) × (after ≡ mid ++ take n (joined_texts refusals ++ last_line next lost)))
-    → IfErr result (λ (fault : RunFault). (listed : List Instrument) (room : ℕ) (from : Start) (events : List Event) (start : List ℕ) → HasShown listed room from events start taken engine held
+    → IfErr result (λ (fault : RunFault). (listed : List Instrument) (room : ℕ) (from : Start) (events : List Event) (start : List ℕ) → HasShown listed room from events start taken engine
     → EndsEarly listed room from events (joined_texts refusals) start after)
-early_of taken mid after engine held refusals next lost (Ok summary) next_is lost_is text begins = tt
-early_of taken mid after engine held refusals next lost (Err fault) next_is lost_is text begins = λ listed room from events start so_far.
+early_of taken mid after engine refusals next lost (Ok summary) next_is lost_is text begins = tt
+early_of taken mid after engine refusals next lost (Err fault) next_is lost_is text begins = λ listed room from events start so_far.
     let end = joined_texts refusals ++ last_line next lost in
-    early_in_end listed room from events start taken after engine held end refusals next lost begins.0 (begins.1 ∙ ap (λ (t : List ℕ). t ++ take begins.0 end) text) refl next_is lost_is so_far
+    early_in_end listed room from events start taken after engine end refusals next lost begins.0 (begins.1 ∙ ap (λ (t : List ℕ). t ++ take begins.0 end) text) refl next_is lost_is so_far
 
 -- ---- the end of a run over threads
 
@@ -208,20 +209,19 @@ early_shown listed room from events more refusals start taken outcome shown =
 
 -- ---- runs over records of all feeds in one list
 
-pub writes_shown : (listed : List Instrument) (room : ℕ) (from : Start) (arrivals : List Arrival) (start taken : List ℕ) (engine : View) (held : List ℕ) (refusals : RefusalTexts)
-    → (so_far : Writes listed room from arrivals start taken engine held refusals) → HasShown listed room from (events_of so_far.over.readings) start taken engine held
-writes_shown listed room from arrivals start taken engine held refusals so_far = record {
+pub writes_shown : (listed : List Instrument) (room : ℕ) (from : Start) (arrivals : List Arrival) (start taken : List ℕ) (engine : View) (refusals : RefusalTexts)
+    → (so_far : Writes listed room from arrivals start taken engine refusals) → HasShown listed room from (events_of so_far.over.readings) start taken engine
+writes_shown listed room from arrivals start taken engine refusals so_far = record {
   sent = so_far.sent;
   taken_is = so_far.taken_is;
   stands = so_far.over.run.stands;
-  drained = so_far.over.run.drained;
   channel = so_far.over.run.channel;
 }
 
-pub prints_all : (listed : List Instrument) (room : ℕ) (from : Start) (arrivals : List Arrival) (start taken taken' : List ℕ) (engine : View) (held : List ℕ) (refusals : RefusalTexts) (next : ℕ) (lost : Bool)
-    → (so_far : Writes listed room from arrivals start taken engine held refusals) → EndsAs listed room from (events_of so_far.over.readings) (joined_texts refusals) start taken' next lost
+pub prints_all : (listed : List Instrument) (room : ℕ) (from : Start) (arrivals : List Arrival) (start taken taken' : List ℕ) (engine : View) (refusals : RefusalTexts) (next : ℕ) (lost : Bool)
+    → (so_far : Writes listed room from arrivals start taken engine refusals) → EndsAs listed room from (events_of so_far.over.readings) (joined_texts refusals) start taken' next lost
     → (text : List ℕ) × (taken' ≡ start ++ text) × PrintsAll listed room from arrivals text next lost
-prints_all listed room from arrivals start taken taken' engine held refusals next lost so_far ends = (
+prints_all listed room from arrivals start taken taken' engine refusals next lost so_far ends = (
   ends.text,
   ends.taken_is,
   record {
@@ -233,10 +233,10 @@ prints_all listed room from arrivals start taken taken' engine held refusals nex
   },
 )
 
-pub begins_all : (listed : List Instrument) (room : ℕ) (from : Start) (arrivals : List Arrival) (start taken taken' : List ℕ) (engine : View) (held : List ℕ) (refusals : RefusalTexts)
-    → (so_far : Writes listed room from arrivals start taken engine held refusals) → EndsEarly listed room from (events_of so_far.over.readings) (joined_texts refusals) start taken'
+pub begins_all : (listed : List Instrument) (room : ℕ) (from : Start) (arrivals : List Arrival) (start taken taken' : List ℕ) (engine : View) (refusals : RefusalTexts)
+    → (so_far : Writes listed room from arrivals start taken engine refusals) → EndsEarly listed room from (events_of so_far.over.readings) (joined_texts refusals) start taken'
     → BeginsAll listed room from arrivals start taken'
-begins_all listed room from arrivals start taken taken' engine held refusals so_far ends =
+begins_all listed room from arrivals start taken taken' engine refusals so_far ends =
     let events = events_of so_far.over.readings in
     record {
       text = shown_output listed room from (refusals_text (by_feed so_far.over.readings)) events;
@@ -249,29 +249,22 @@ begins_all listed room from arrivals start taken taken' engine held refusals so_
       whole = sym (ap (λ (t : RefusalTexts). shown_output listed room from (joined_texts t) events) so_far.over.run.refusals_are) ∙ ends.whole;
     }
 
--- ---- a front of the text goes out
-
-pub shown_on : {A : Type 0} (listed : List Instrument) (room : ℕ) (from : Start) (events : List Event) (start taken taken' : List ℕ) (old new : Run A) → HandsOn taken taken' old new
-    → HasShown listed room from events start taken old.engine old.text.items → HasShown listed room from events start taken' new.engine new.text.items
-shown_on listed room from events start taken taken' old new on so_far = record {
-  sent = so_far.sent ++ on.sent;
-  taken_is = on.went ∙ ap (λ (t : List ℕ). t ++ on.sent) so_far.taken_is ∙ append_assoc start so_far.sent on.sent;
-  stands =
-      subst (λ (v : View). Stands listed events ((so_far.sent ++ on.sent) ++ new.text.items) v) (sym on.engine)
-      (subst (λ (t : List ℕ). Stands listed events t old.engine) (ap (λ (t : List ℕ). so_far.sent ++ t) on.kept ∙ sym (append_assoc so_far.sent on.sent new.text.items)) so_far.stands);
-  drained = ap (λ (v : View). v.held) on.engine ∙ so_far.drained;
-  channel = ap (λ (v : View). v.arbiter.channel) on.engine ∙ so_far.channel;
-}
+-- ---- lines of the engine go out
 
 pub writes_on : {A : Type 0} (listed : List Instrument) (room : ℕ) (from : Start) (arrivals : List Arrival) (start taken taken' : List ℕ) (old new : Run A) → HandsOn taken taken' old new
-    → Writes listed room from arrivals start taken old.engine old.text.items old.refusals → Writes listed room from arrivals start taken' new.engine new.text.items new.refusals
+    → Writes listed room from arrivals start taken old.engine old.refusals → Writes listed room from arrivals start taken' new.engine new.refusals
 writes_on listed room from arrivals start taken taken' old new on so_far =
-    let same : so_far.sent ++ old.text.items ≡ (so_far.sent ++ on.sent) ++ new.text.items = ap (λ (t : List ℕ). so_far.sent ++ t) on.kept ∙ sym (append_assoc so_far.sent on.sent new.text.items) in
+    let over = so_far.over in
     record {
       sent = so_far.sent ++ on.sent;
       taken_is = on.went ∙ ap (λ (t : List ℕ). t ++ on.sent) so_far.taken_is ∙ append_assoc start so_far.sent on.sent;
-      over =
-          subst (λ (v : View). RunsOver listed room from arrivals v ((so_far.sent ++ on.sent) ++ new.text.items) new.refusals) (sym on.engine)
-          (subst (λ (t : RefusalTexts). RunsOver listed room from arrivals old.engine ((so_far.sent ++ on.sent) ++ new.text.items) t) (sym on.refusals)
-          (subst (λ (t : List ℕ). RunsOver listed room from arrivals old.engine t old.refusals) same so_far.over));
+      over = record {
+        readings = over.readings;
+        are = over.are;
+        run = record {
+          stands = on.stands listed (events_of over.readings) so_far.sent over.run.stands;
+          channel = on.channel ∙ over.run.channel;
+          refusals_are = on.refusals ∙ over.run.refusals_are;
+        };
+      };
     }

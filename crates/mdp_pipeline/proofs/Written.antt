@@ -83,29 +83,28 @@ refusals-push readings feeds.S entry (refused refusal) =
 
 -- a record more
 read_more : {A : Type 0} (listed : List Instrument) (room : ℕ) (from : Start) (readings : List Reading) (feed : Feed) (entry : RecordContent) (sent : List ℕ) (old new : Run A)
-    → (takes : TakesAs (kind_of feed) feed entry.line entry.received old new) → HasRun listed room from readings old.engine (sent ++ old.text.items) old.refusals
-    → HasRun listed room from (readings ++ reading_of (record { feed = feed; entry = entry }) takes.said ∷ []) new.engine (sent ++ new.text.items) new.refusals
+    → (takes : TakesAs (kind_of feed) feed entry.line entry.received old new) → HasRun listed room from readings sent old.engine old.refusals
+    → HasRun listed room from (readings ++ reading_of (record { feed = feed; entry = entry }) takes.said ∷ []) sent new.engine new.refusals
 read_more listed room from readings feed entry sent old new takes run =
     let reading = reading_of (record { feed = feed; entry = entry }) takes.said in
     record {
-      stands = subst (λ (es : List Event). Stands listed es (sent ++ new.text.items) new.engine) (sym (events-push readings reading)) (takes.takes.goes.stands listed (events_of readings) sent run.stands);
-      drained = takes.takes.goes.drained run.drained;
+      stands = subst (λ (es : List Event). Stands listed es sent new.engine) (sym (events-push readings reading)) (takes.takes.goes.stands listed (events_of readings) sent run.stands);
       channel = takes.takes.goes.channel ∙ run.channel;
       refusals_are = takes.takes.refusals ∙ ap (after_said feed entry.line takes.said) run.refusals_are ∙ sym (refusals-push readings feed entry takes.said);
     }
 
 -- ---- what went out
 
-pub writes_none : (listed : List Instrument) (room : ℕ) (from : Start) (taken : List ℕ) (engine : View) (text : List ℕ) (refusals : RefusalTexts) → text ≡ [] → HasRun listed room from [] engine [] refusals → Writes listed room from [] taken taken engine text refusals
-writes_none listed room from taken engine text refusals empty run = record {
+pub writes_none : (listed : List Instrument) (room : ℕ) (from : Start) (taken : List ℕ) (engine : View) (refusals : RefusalTexts) → HasRun listed room from [] [] engine refusals → Writes listed room from [] taken taken engine refusals
+writes_none listed room from taken engine refusals run = record {
   sent = [];
   taken_is = sym (append-nil taken);
-  over = record { readings = []; are = record { of = refl; each = tt }; run = subst (λ (t : List ℕ). HasRun listed room from [] engine t refusals) (sym empty) run };
+  over = record { readings = []; are = record { of = refl; each = tt }; run = run };
 }
 
 pub writes_more : {A : Type 0} (listed : List Instrument) (room : ℕ) (from : Start) (arrivals : List Arrival) (feed : Feed) (entry : RecordContent) (start taken : List ℕ) (old new : Run A)
-    → TakesAs (kind_of feed) feed entry.line entry.received old new → Writes listed room from arrivals start taken old.engine old.text.items old.refusals
-    → Writes listed room from (arrivals ++ (record { feed = feed; entry = entry }) ∷ []) start taken new.engine new.text.items new.refusals
+    → TakesAs (kind_of feed) feed entry.line entry.received old new → Writes listed room from arrivals start taken old.engine old.refusals
+    → Writes listed room from (arrivals ++ (record { feed = feed; entry = entry }) ∷ []) start taken new.engine new.refusals
 writes_more listed room from arrivals feed entry start taken old new takes so_far = record {
   sent = so_far.sent;
   taken_is = so_far.taken_is;
@@ -119,21 +118,21 @@ writes_more listed room from arrivals feed entry start taken old new takes so_fa
 -- ---- the records that are left
 
 -- the records so far, in the order of their lines, and what was written of them
-pub record HasTaken (listed : List Instrument) (room : ℕ) (from : Start) (a b s : List RecordContent) (start taken : List ℕ) (engine : View) (held : List ℕ) (refusals : RefusalTexts) (a' b' s' : List RecordContent) : Type 0 where
+pub record HasTaken (listed : List Instrument) (room : ℕ) (from : Start) (a b s : List RecordContent) (start taken : List ℕ) (engine : View) (refusals : RefusalTexts) (a' b' s' : List RecordContent) : Type 0 where
   pub done : List Arrival
   pub left : in_order a b s ≡ done ++ in_order a' b' s'
-  pub writes : Writes listed room from done start taken engine held refusals
+  pub writes : Writes listed room from done start taken engine refusals
 
-pub taken_none : (listed : List Instrument) (room : ℕ) (from : Start) (a b s : List RecordContent) (taken : List ℕ) (engine : View) (text : List ℕ) (refusals : RefusalTexts) → text ≡ [] → HasRun listed room from [] engine [] refusals
-    → HasTaken listed room from a b s taken taken engine text refusals a b s
-taken_none listed room from a b s taken engine text refusals empty run = record { done = []; left = refl; writes = writes_none listed room from taken engine text refusals empty run }
+pub taken_none : (listed : List Instrument) (room : ℕ) (from : Start) (a b s : List RecordContent) (taken : List ℕ) (engine : View) (refusals : RefusalTexts) → HasRun listed room from [] [] engine refusals
+    → HasTaken listed room from a b s taken taken engine refusals a b s
+taken_none listed room from a b s taken engine refusals run = record { done = []; left = refl; writes = writes_none listed room from taken engine refusals run }
 
 pub taken_more : {A : Type 0} (listed : List Instrument) (room : ℕ) (from : Start) (a b s : List RecordContent) (start taken taken' : List ℕ) (old new sent : Run A) (a' b' s' a'' b'' s'' : List RecordContent) (feed : Feed) (entry : RecordContent)
     → in_order a' b' s' ≡ (record { feed = feed; entry = entry }) ∷ in_order a'' b'' s''
     → TakesAs (kind_of feed) feed entry.line entry.received old new
-    → ((arrivals : List Arrival) → Writes listed room from arrivals start taken new.engine new.text.items new.refusals → Writes listed room from arrivals start taken' sent.engine sent.text.items sent.refusals)
-    → HasTaken listed room from a b s start taken old.engine old.text.items old.refusals a' b' s'
-    → HasTaken listed room from a b s start taken' sent.engine sent.text.items sent.refusals a'' b'' s''
+    → ((arrivals : List Arrival) → Writes listed room from arrivals start taken new.engine new.refusals → Writes listed room from arrivals start taken' sent.engine sent.refusals)
+    → HasTaken listed room from a b s start taken old.engine old.refusals a' b' s'
+    → HasTaken listed room from a b s start taken' sent.engine sent.refusals a'' b'' s''
 taken_more listed room from a b s start taken taken' old new sent a' b' s' a'' b'' s'' feed entry next takes goes_out so_far =
     let arrival : Arrival = record { feed = feed; entry = entry } in
     record {
@@ -142,11 +141,11 @@ taken_more listed room from a b s start taken taken' old new sent a' b' s' a'' b
       writes = goes_out (so_far.done ++ arrival ∷ []) (writes_more listed room from so_far.done feed entry start taken old new takes so_far.writes);
     }
 
-pub taken_all : (listed : List Instrument) (room : ℕ) (from : Start) (a b s : List RecordContent) (start taken : List ℕ) (engine : View) (held : List ℕ) (refusals : RefusalTexts) (a' b' s' : List RecordContent) → in_order a' b' s' ≡ []
-    → HasTaken listed room from a b s start taken engine held refusals a' b' s' → Writes listed room from (in_order a b s) start taken engine held refusals
-taken_all listed room from a b s start taken engine held refusals a' b' s' none so_far =
+pub taken_all : (listed : List Instrument) (room : ℕ) (from : Start) (a b s : List RecordContent) (start taken : List ℕ) (engine : View) (refusals : RefusalTexts) (a' b' s' : List RecordContent) → in_order a' b' s' ≡ []
+    → HasTaken listed room from a b s start taken engine refusals a' b' s' → Writes listed room from (in_order a b s) start taken engine refusals
+taken_all listed room from a b s start taken engine refusals a' b' s' none so_far =
     let all : in_order a b s ≡ so_far.done = so_far.left ∙ ap (λ (t : List Arrival). so_far.done ++ t) none ∙ append-nil so_far.done in
-    subst (λ (arrivals : List Arrival). Writes listed room from arrivals start taken engine held refusals) (sym all) so_far.writes
+    subst (λ (arrivals : List Arrival). Writes listed room from arrivals start taken engine refusals) (sym all) so_far.writes
 
 -- ---- how much went out
 
@@ -168,35 +167,35 @@ fault_counted start taken after written (Ok summary) told so_far = tt
 fault_counted start taken after written (Err fault) told so_far = told start so_far
 
 -- a run over all records has ended
-pub run_printed : (listed : List Instrument) (room : ℕ) (from : Start) (arrivals : List Arrival) (start taken after : List ℕ) (engine : View) (held : List ℕ) (refusals : RefusalTexts) (result : Result Summary RunFault)
-    → IfOk result (λ (summary : Summary). (listed : List Instrument) (room : ℕ) (from : Start) (events : List Event) (start : List ℕ) → HasShown listed room from events start taken engine held
+pub run_printed : (listed : List Instrument) (room : ℕ) (from : Start) (arrivals : List Arrival) (start taken after : List ℕ) (engine : View) (refusals : RefusalTexts) (result : Result Summary RunFault)
+    → IfOk result (λ (summary : Summary). (listed : List Instrument) (room : ℕ) (from : Start) (events : List Event) (start : List ℕ) → HasShown listed room from events start taken engine
     → EndsAs listed room from events (joined_texts refusals) start after summary.next summary.lost)
-    → Writes listed room from arrivals start taken engine held refusals
+    → Writes listed room from arrivals start taken engine refusals
     → IfOk result (λ (summary : Summary). (text : List ℕ) × (after ≡ start ++ text) × PrintsAll listed room from arrivals text summary.next summary.lost)
-run_printed listed room from arrivals start taken after engine held refusals (Ok summary) ends so_far =
-    prints_all listed room from arrivals start taken after engine held refusals summary.next summary.lost so_far
-    (ends listed room from (events_of so_far.over.readings) start (writes_shown listed room from arrivals start taken engine held refusals so_far))
-run_printed listed room from arrivals start taken after engine held refusals (Err fault) ends so_far = tt
+run_printed listed room from arrivals start taken after engine refusals (Ok summary) ends so_far =
+    prints_all listed room from arrivals start taken after engine refusals summary.next summary.lost so_far
+    (ends listed room from (events_of so_far.over.readings) start (writes_shown listed room from arrivals start taken engine refusals so_far))
+run_printed listed room from arrivals start taken after engine refusals (Err fault) ends so_far = tt
 
-pub run_begins : (listed : List Instrument) (room : ℕ) (from : Start) (arrivals : List Arrival) (start taken after : List ℕ) (engine : View) (held : List ℕ) (refusals : RefusalTexts) (result : Result Summary RunFault)
-    → IfErr result (λ (fault : RunFault). (listed : List Instrument) (room : ℕ) (from : Start) (events : List Event) (start : List ℕ) → HasShown listed room from events start taken engine held
+pub run_begins : (listed : List Instrument) (room : ℕ) (from : Start) (arrivals : List Arrival) (start taken after : List ℕ) (engine : View) (refusals : RefusalTexts) (result : Result Summary RunFault)
+    → IfErr result (λ (fault : RunFault). (listed : List Instrument) (room : ℕ) (from : Start) (events : List Event) (start : List ℕ) → HasShown listed room from events start taken engine
     → EndsEarly listed room from events (joined_texts refusals) start after)
-    → Writes listed room from arrivals start taken engine held refusals
+    → Writes listed room from arrivals start taken engine refusals
     → IfErr result (λ (fault : RunFault). BeginsAll listed room from arrivals start after)
-run_begins listed room from arrivals start taken after engine held refusals (Ok summary) ends so_far = tt
-run_begins listed room from arrivals start taken after engine held refusals (Err fault) ends so_far =
-    begins_all listed room from arrivals start taken after engine held refusals so_far
-    (ends listed room from (events_of so_far.over.readings) start (writes_shown listed room from arrivals start taken engine held refusals so_far))
+run_begins listed room from arrivals start taken after engine refusals (Ok summary) ends so_far = tt
+run_begins listed room from arrivals start taken after engine refusals (Err fault) ends so_far =
+    begins_all listed room from arrivals start taken after engine refusals so_far
+    (ends listed room from (events_of so_far.over.readings) start (writes_shown listed room from arrivals start taken engine refusals so_far))
 
 -- ---- snapshots
 
 pub recovered_more : {A : Type 0} (snapshots : List SnapshotContent) (i : ℕ) (snapshot copied : SnapshotContent) (first now new : Run A) → i < length snapshots → snapshot ≡ get_or snapshots i snapshot → copied ≡ snapshot
-    → GoesOn (map recovered (take i snapshots)) first.engine first.text.items now.engine now.text.items → GoesOn (recovered copied ∷ []) now.engine now.text.items new.engine new.text.items
-    → GoesOn (map recovered (take (i + 1) snapshots)) first.engine first.text.items new.engine new.text.items
+    → GoesOn (map recovered (take i snapshots)) first.engine now.engine → GoesOn (recovered copied ∷ []) now.engine new.engine
+    → GoesOn (map recovered (take (i + 1) snapshots)) first.engine new.engine
 recovered_more snapshots i snapshot copied first now new within at is so_far one =
     let same : map recovered (take i snapshots) ++ recovered copied ∷ [] ≡ map recovered (take (i + 1) snapshots) =
     ap (λ (s : SnapshotContent). map recovered (take i snapshots) ++ recovered s ∷ []) (is ∙ at)
     ∙ sym (map-append recovered (take i snapshots) (get_or snapshots i snapshot ∷ []))
     ∙ ap (map recovered) (sym (take_more snapshots i snapshot within)) in
-    subst (λ (es : List Event). GoesOn es first.engine first.text.items new.engine new.text.items) same
-    (goes_more (map recovered (take i snapshots)) (recovered copied ∷ []) first.engine now.engine new.engine first.text.items now.text.items new.text.items so_far one)
+    subst (λ (es : List Event). GoesOn es first.engine new.engine) same
+    (goes_more (map recovered (take i snapshots)) (recovered copied ∷ []) first.engine now.engine new.engine so_far one)

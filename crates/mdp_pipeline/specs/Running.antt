@@ -23,16 +23,15 @@ abbrev pub after_said : Feed → ℕ → Said → RefusalTexts → RefusalTexts
 after_said feed line (brings events) texts = texts
 after_said feed line (refused refusal) texts = with_refusal feed line refusal texts
 
--- Events were taken in, and the lines that they owe stand behind the text: wherever the engine stood, after whatever
--- text was sent before, it stands at these events more.
-pub record GoesOn (events : List Event) (engine : View) (text : List ℕ) (engine' : View) (text' : List ℕ) : Type 0 where
-  pub stands : (listed : List Instrument) (before : List Event) (sent : List ℕ) → Stands listed before (sent ++ text) engine → Stands listed (before ++ events) (sent ++ text') engine'
-  pub drained : engine.held ≡ [] → engine'.held ≡ []
+-- Events were taken in, and the engine holds the lines that they owe: wherever it stood, after whatever text was sent
+-- before, it stands at these events more.
+pub record GoesOn (events : List Event) (engine engine' : View) : Type 0 where
+  pub stands : (listed : List Instrument) (before : List Event) (sent : List ℕ) → Stands listed before sent engine → Stands listed (before ++ events) sent engine'
   pub channel : engine'.arbiter.channel ≡ engine.arbiter.channel
 
 -- a run has taken in what a record says
 pub record TakesSaid {A : Type 0} (feed : Feed) (line : ℕ) (said : Said) (old new : Run A) : Type 0 where
-  pub goes : GoesOn (brought_by said) old.engine old.text.items new.engine new.text.items
+  pub goes : GoesOn (brought_by said) old.engine new.engine
   pub refusals : new.refusals ≡ after_said feed line said old.refusals
 
 -- a run has taken in what came on a feed of this kind, as it says
@@ -41,52 +40,43 @@ pub record TakesAs {A : Type 0} (kind : Kind) (feed : Feed) (line : ℕ) (receiv
   pub says : Says kind received said
   pub takes : TakesSaid feed line said old new
 
--- the engine stands at the events of these readings after the text so far, and holds no line back
-pub record HasRun (listed : List Instrument) (room : ℕ) (from : Start) (readings : List Reading) (engine : View) (text : List ℕ)
+-- the engine stands at the events of these readings, of which this text was sent
+pub record HasRun (listed : List Instrument) (room : ℕ) (from : Start) (readings : List Reading) (sent : List ℕ) (engine : View)
     (refusals : RefusalTexts) : Type 0 where
-  pub stands : Stands listed (events_of readings) text engine
-  pub drained : engine.held ≡ []
+  pub stands : Stands listed (events_of readings) sent engine
   pub channel : engine.arbiter.channel ≡ channel_of listed room from
   pub refusals_are : refusals ≡ refusals_of readings
 
--- a record more, and what it says
-pub record HasRead (listed : List Instrument) (room : ℕ) (from : Start) (readings : List Reading) (arrival : Arrival) (engine : View)
-    (text : List ℕ) (refusals : RefusalTexts) : Type 0 where
-  pub said : Said
-  pub says : Says (kind_of arrival.feed) arrival.entry.received said
-  pub run : HasRun listed room from (readings ++ (record { arrival = arrival; said = said }) ∷ []) engine text refusals
-
--- a run over these records
-pub record RunsOver (listed : List Instrument) (room : ℕ) (from : Start) (arrivals : List Arrival) (engine : View) (text : List ℕ)
+-- a run over these records, of which this text was sent
+pub record RunsOver (listed : List Instrument) (room : ℕ) (from : Start) (arrivals : List Arrival) (sent : List ℕ) (engine : View)
     (refusals : RefusalTexts) : Type 0 where
   pub readings : List Reading
   pub are : AreReadings arrivals readings
-  pub run : HasRun listed room from readings engine text refusals
+  pub run : HasRun listed room from readings sent engine refusals
 
--- a run over these records whose text went out as far as the writer took it; the rest is held
+-- a run over these records whose text went out as far as the writer took it; the rest is held by the engine
 pub record Writes (listed : List Instrument) (room : ℕ) (from : Start) (arrivals : List Arrival) (start taken : List ℕ) (engine : View)
-    (held : List ℕ) (refusals : RefusalTexts) : Type 0 where
+    (refusals : RefusalTexts) : Type 0 where
   pub sent : List ℕ
   pub taken_is : taken ≡ start ++ sent
-  pub over : RunsOver listed room from arrivals engine (sent ++ held) refusals
+  pub over : RunsOver listed room from arrivals sent engine refusals
 
 -- ---- what the caller's thread has shown of the events that it took, whatever the feeds
 
 -- the engine stands at these events, and what it shows of them went out as far as the writer took it; the rest is held
-pub record HasShown (listed : List Instrument) (room : ℕ) (from : Start) (events : List Event) (start taken : List ℕ) (engine : View)
-    (held : List ℕ) : Type 0 where
+pub record HasShown (listed : List Instrument) (room : ℕ) (from : Start) (events : List Event) (start taken : List ℕ)
+    (engine : View) : Type 0 where
   pub sent : List ℕ
   pub taken_is : taken ≡ start ++ sent
-  pub stands : Stands listed events (sent ++ held) engine
-  pub drained : engine.held ≡ []
+  pub stands : Stands listed events sent engine
   pub channel : engine.arbiter.channel ≡ channel_of listed room from
 
--- a front of the text went out
+-- lines that the engine held went out: wherever it stood, after whatever text was sent before, it stands there still after these lines too
 pub record HandsOn {A : Type 0} (taken taken' : List ℕ) (old new : Run A) : Type 0 where
   pub sent : List ℕ
   pub went : taken' ≡ taken ++ sent
-  pub kept : old.text.items ≡ sent ++ new.text.items
-  pub engine : new.engine ≡ old.engine
+  pub stands : (listed : List Instrument) (events : List Event) (before : List ℕ) → Stands listed events before old.engine → Stands listed events (before ++ sent) new.engine
+  pub channel : new.engine.arbiter.channel ≡ old.engine.arbiter.channel
   pub refusals : new.refusals ≡ old.refusals
 
 -- feed A's lines, then B's, then S's

@@ -25,24 +25,18 @@ use std::alloc::Allocator;
 /// How many bytes of text are gathered before they are written.
 const PIECE: usize = 1 << 16;
 
-// Writes a text, and empties it.
-fn hand_on<W: CountedWrite, A: Allocator>(
-    writer: &mut W,
-    text: &mut Vec<u8, A>,
-    written: &mut u64,
-) -> Result<(), RunFault>
+// Writes a text, and counts its bytes.
+fn hand_on<W: CountedWrite>(writer: &mut W, text: &[u8], written: &mut u64) -> Result<(), RunFault>
     requires { W.failed writer.old < 2 ^ 64 - 1 }
-    ensures taken { OnOk result (W.taken writer.new ≡ W.taken writer.old ++ text.old.items) }
-    ensures begins { IfErr result (λ _. (n : ℕ) × (W.taken writer.new ≡ W.taken writer.old ++ take n text.old.items)) }
+    ensures taken { OnOk result (W.taken writer.new ≡ W.taken writer.old ++ text.now) }
+    ensures begins { IfErr result (λ _. (n : ℕ) × (W.taken writer.new ≡ W.taken writer.old ++ take n text.now)) }
     ensures failed { FailsBy result (W.failed writer.old) (W.failed writer.new) }
-    ensures emptied { OnOk result (text.new.items ≡ []) }
     ensures counts { OnOk result ((start : List ℕ) → HasCounted start (W.taken writer.old) written.old → HasCounted start (W.taken writer.new) written.new) }
     ensures told { IfErr result (λ fault. (start : List ℕ) → HasCounted start (W.taken writer.old) written.old → HasCounted start (W.taken writer.new) (written_before fault)) }
 {
     match write_all_counted(writer, text) {
         Ok(()) => {
             *written = written.saturating_add(text.len() as u64);
-            text.clear();
             Ok(())
         }
         Err((count, _)) => Err(RunFault::Output {
@@ -51,7 +45,7 @@ fn hand_on<W: CountedWrite, A: Allocator>(
     }
 }
 
-// Writes the text so far where it is large enough.
+// Writes the lines that the engine holds where they are a piece, and lets them go.
 fn hand_on_pieces<W: CountedWrite, A: Allocator + Copy>(
     writer: &mut W,
     run: &mut Run<A>,
@@ -59,14 +53,16 @@ fn hand_on_pieces<W: CountedWrite, A: Allocator + Copy>(
 ) -> Result<(), RunFault>
     requires { W.failed writer.old < 2 ^ 64 - 1 }
     ensures hands_on { OnOk result (HandsOn (W.taken writer.old) (W.taken writer.new) run.old run.new) }
-    ensures begins { IfErr result (λ _. (n : ℕ) × (W.taken writer.new ≡ W.taken writer.old ++ take n run.old.text.items)) }
+    ensures begins { IfErr result (λ _. (n : ℕ) × (W.taken writer.new ≡ W.taken writer.old ++ take n run.old.engine.held)) }
     ensures counts { OnOk result ((start : List ℕ) → HasCounted start (W.taken writer.old) written.old → HasCounted start (W.taken writer.new) written.new) }
     ensures told { IfErr result (λ fault. (start : List ℕ) → HasCounted start (W.taken writer.old) written.old → HasCounted start (W.taken writer.new) (written_before fault)) }
     ensures failed { FailsBy result (W.failed writer.old) (W.failed writer.new) }
 {
-    if run.text.len() >= PIECE {
-        hand_on(writer, &mut run.text, written)?;
+    if run.engine.lines().len() < PIECE {
+        return Ok(());
     }
+    hand_on(writer, run.engine.lines(), written)?;
+    run.engine.clear_lines();
     Ok(())
 }
 
@@ -114,7 +110,7 @@ pub fn run_in_order<W: CountedWrite, A: Allocator + Copy>(
     finish(writer, run, written)
 }
 
-// Writes what is left of the text, the refusals and the last line.
+// Writes the lines that the engine still holds, the refusals and the last line.
 fn finish<W: CountedWrite, A: Allocator + Copy>(
     writer: &mut W,
     run: Run<A>,
@@ -122,23 +118,19 @@ fn finish<W: CountedWrite, A: Allocator + Copy>(
 ) -> Result<Summary, RunFault>
     requires { W.failed writer.old < 2 ^ 64 - 1 }
     ensures text { IfOk result (λ summary. (listed : List Instrument) (room : ℕ) (from : Start) (events : List Event) (start : List ℕ) →
-        HasShown listed room from events start (W.taken writer.old) run.engine run.text.items →
+        HasShown listed room from events start (W.taken writer.old) run.engine →
         EndsAs listed room from events (joined_texts run.refusals) start (W.taken writer.new) summary.next summary.lost) }
     ensures begins { IfErr result (λ _. (listed : List Instrument) (room : ℕ) (from : Start) (events : List Event) (start : List ℕ) →
-        HasShown listed room from events start (W.taken writer.old) run.engine run.text.items →
+        HasShown listed room from events start (W.taken writer.old) run.engine →
         EndsEarly listed room from events (joined_texts run.refusals) start (W.taken writer.new)) }
     ensures counts { IfOk result (λ summary. (start : List ℕ) → HasCounted start (W.taken writer.old) written → HasCounted start (W.taken writer.new) summary.written) }
     ensures told { IfErr result (λ fault. (start : List ℕ) → HasCounted start (W.taken writer.old) written → HasCounted start (W.taken writer.new) (written_before fault)) }
     ensures failed { FailsBy result (W.failed writer.old) (W.failed writer.new) }
 {
-    let Run {
-        engine,
-        mut text,
-        refusals,
-    } = run;
+    let Run { engine, refusals } = run;
     let next = engine.next();
     let lost = engine.lost();
-    hand_on(writer, &mut text, &mut written)?;
+    hand_on(writer, engine.lines(), &mut written)?;
     write_end(writer, refusals, next, lost, written)
 }
 
@@ -158,10 +150,10 @@ pub fn write_end<W: CountedWrite, A: Allocator + Copy>(
     ensures told { IfErr result (λ fault. (start : List ℕ) → HasCounted start (W.taken writer.old) written → HasCounted start (W.taken writer.new) (written_before fault)) }
     ensures failed { FailsBy result (W.failed writer.old) (W.failed writer.new) }
 {
-    let Ok(mut end) = refusals.into_end(next, lost) else {
+    let Ok(end) = refusals.into_end(next, lost) else {
         return Err(RunFault::Memory { written });
     };
-    hand_on(writer, &mut end, &mut written)?;
+    hand_on(writer, &end, &mut written)?;
     Ok(Summary {
         next,
         lost,

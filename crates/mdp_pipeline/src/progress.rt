@@ -17,12 +17,11 @@ use mdp_templates::{Feed, Instrument, Memory, Packet, Snapshot};
 use mdp_window::RingWindow;
 use std::alloc::Allocator;
 
-/// The engine and the texts of a run.
+/// The engine of a run, which holds what is printed at event ends and jumps as far as it was not handed on, and the lines of
+/// refused datagrams.
 #[derive(Drop)]
 pub struct Run<A: Allocator + Copy> {
     pub engine: Engine<A, RingWindow<Packet<A>, A>>,
-    /// What is printed at event ends and jumps, as far as it was not handed on.
-    pub text: Vec<u8, A>,
     pub refusals: Refusals<A>,
 }
 
@@ -37,30 +36,27 @@ impl<A: Allocator + Copy> Run<A> {
         requires fit { AreFit instruments.now }
         requires least { 1 ≤ window }
         requires most { window ≤ 65536 }
-        ensures run { IfOk result (λ r. HasRun instruments.now window start [] r.engine [] r.refusals) }
-        ensures empty { IfOk result (λ r. r.text.items ≡ []) }
+        ensures run { IfOk result (λ r. HasRun instruments.now window start [] [] r.engine r.refusals) }
     {
         let window = RingWindow::new(alloc, u64::from(window))?;
         Ok(Run {
             engine: Engine::new(alloc, instruments, window, start)?,
-            text: Vec::new(alloc),
             refusals: Refusals::new(alloc),
         })
     }
 
-    /// Takes an event, and the lines that it owes.
-    pub fn on(&mut self, event: Event<A>) -> Result<(), Memory>
-        ensures goes { OnOk result (GoesOn (event_of event ∷ []) self.old.engine self.old.text.items self.new.engine self.new.text.items) }
+    // Takes an event; the lines that it owes are held.
+    fn on(&mut self, event: Event<A>) -> Result<(), Memory>
+        ensures goes { OnOk result (GoesOn (event_of event ∷ []) self.old.engine self.new.engine) }
         ensures refusals { OnOk result (self.new.refusals ≡ self.old.refusals) }
     {
         self.engine.on(event)?;
-        self.engine.drain_lines(&mut self.text)?;
         Ok(())
     }
 
     // Takes snapshots, in their order.
     fn recover(&mut self, alloc: A, snapshots: &[Snapshot]) -> Result<(), Memory>
-        ensures goes { OnOk result (GoesOn (map recovered snapshots.now) self.old.engine self.old.text.items self.new.engine self.new.text.items) }
+        ensures goes { OnOk result (GoesOn (map recovered snapshots.now) self.old.engine self.new.engine) }
         ensures refusals { OnOk result (self.new.refusals ≡ self.old.refusals) }
     {
         for snapshot in snapshots {

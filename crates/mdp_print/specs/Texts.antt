@@ -1,24 +1,16 @@
 -- The texts of the lines that are printed: the bytes of each kind of line, each ended by one line feed.
-use Rattle.std.specs.Prelude.{ℕ, ℤ, List, [], ◌∷◌, ◌++◌, Bool, codes, decimal, if◌then◌else◌}
-use Rattle.std.specs.Fmt.{signed_decimal}
+use Rattle.std.specs.Prelude.{ℕ, List, [], ◌∷◌, ◌++◌, Bool, codes, decimal, if◌then◌else◌}
 use Rattle.std.specs.List.{flat_map}
 use Rattle.mdp_sbe.specs.declared.refusal.Refusal.{Refusal}
 use Rattle.mdp_sbe.specs.Refusal.{refusal_number, refusal_name}
 use Rattle.mdp_templates.specs.declared.entry.Level.{Level}
+use Rattle.mdp_text.specs.Levels.{quote_text, levels_text}
 use Rattle.mdp_books.specs.declared.book.Place.{Place}
 use Rattle.mdp_quotes.specs.declared.total.Total.{Total}
 use Rattle.mdp_quotes.specs.declared.verdict.Verdict.{Verdict}
 use Rattle.mdp_quotes.specs.declared.verdict.Verdict.TheVariants.{Neither, Missing, Extra, Better, Worse, Equal, EqualLess, EqualMore}
 use Rattle.mdp_templates.specs.declared.feed.Feed.{Feed}
 use Rattle.mdp_templates.specs.Feed.{feed_letter}
-
--- one space, the price in units of 10^-9, `x`, and the size
-unfoldable pub quote_text : ℤ → ℤ → List ℕ
-quote_text price size = codes " " ++ signed_decimal price ++ codes "x" ++ signed_decimal size
-
--- the levels of a side, from the best on
-abbrev pub levels_text : List Level → List ℕ
-levels_text levels = flat_map (λ level. quote_text level.price level.size) levels
 
 -- the levels of a consolidated side, from the best on
 abbrev pub totals_text : List Total → List ℕ

@@ -1,31 +1,72 @@
 //! The lines of good books.
 
-ghost use Rattle.std.specs.Prelude.{◌≡◌, ◌+◌, ◌<◌, ◌++◌, length, codes, vec_len, vec_capacity, OnOk, OnErr};
-ghost use Rattle.mdp_print.specs.Texts.{direct_line, implied_line, consolidated_line};
-ghost use Rattle.mdp_print.specs.Pieces.{BeginsWith, head_text, quotes_text};
+ghost use Rattle.std.specs.Prelude.{◌≡◌, ◌+◌, ◌<◌, ◌≤◌, ◌++◌, length, codes, vec_len, vec_capacity, OnOk, OnErr};
+ghost use Rattle.mdp_print.specs.Texts.{direct_line, implied_line, consolidated_line, totals_text};
+ghost use Rattle.mdp_print.specs.Pieces.{BeginsWith, head_text};
 
-use crate::pieces::{Quote, put, put_event, put_side, settle};
+use crate::pieces::{put, put_event, put_side, settle};
+use crate::totals::put_totals;
+use mdp_books::Sides;
 use mdp_quotes::Total;
-use mdp_templates::{Level, Memory};
+use mdp_templates::{DIRECT_DEPTH, Memory};
+use mdp_text::PrintedLevels;
 use std::alloc::Allocator;
 
-// Appends the line of two sides under a letter.
-fn put_sides<Q: Quote, A: Allocator>(
+// Appends the line of the texts of two sides under a letter.
+fn put_sides<A: Allocator>(
     out: &mut Vec<u8, A>,
     letter: u8,
     packet: u32,
     message: u64,
     name: &[u8],
-    bids: &[Q],
-    offers: &[Q],
+    bids: &[u8],
+    offers: &[u8],
 ) -> Result<(), Memory>
-    ensures ok { OnOk result (out.new.items ≡ out.old.items ++ head_text letter packet message name.now ++ codes " B" ++ quotes_text Q.price Q.size bids.now ++ codes " O" ++ quotes_text Q.price Q.size offers.now ++ codes "\n") }
+    ensures ok { OnOk result (out.new.items ≡ out.old.items ++ head_text letter packet message name.now ++ codes " B" ++ bids.now ++ codes " O" ++ offers.now ++ codes "\n") }
     ensures err { OnErr result (BeginsWith out.new.items out.old.items) }
-    ensures full { OnErr result (vec_capacity out.old < vec_len out.old + length (head_text letter packet message name.now ++ codes " B" ++ quotes_text Q.price Q.size bids.now ++ codes " O" ++ quotes_text Q.price Q.size offers.now ++ codes "\n")) }
+    ensures full { OnErr result (vec_capacity out.old < vec_len out.old + length (head_text letter packet message name.now ++ codes " B" ++ bids.now ++ codes " O" ++ offers.now ++ codes "\n")) }
 {
     put_event(out, letter, packet, message, name)?;
     put_side(out, b" B", bids)?;
     put_side(out, b" O", offers)?;
+    put(out, b"\n")
+}
+
+// Appends the letter of a side, with a space before it, and the texts of totals.
+fn put_total_side<A: Allocator>(
+    out: &mut Vec<u8, A>,
+    word: &[u8],
+    totals: &[Total],
+    direct: &PrintedLevels<DIRECT_DEPTH>,
+) -> Result<(), Memory>
+    ensures ok { OnOk result (out.new.items ≡ out.old.items ++ (word.now ++ totals_text totals.now)) }
+    ensures err { OnErr result (BeginsWith out.new.items out.old.items) }
+    ensures len { OnOk result (vec_len out.new ≡ vec_len out.old + length (word.now ++ totals_text totals.now)) }
+    ensures room { vec_capacity out.old ≤ vec_capacity out.new }
+    ensures full { OnErr result (vec_capacity out.old < vec_len out.old + length (word.now ++ totals_text totals.now)) }
+{
+    put(out, word)?;
+    put_totals(out, totals, direct)
+}
+
+// Appends the line of the totals of two sides.
+#[tactic(auto, unfolding(crate::specs::Texts::consolidated_line))]
+fn put_total_sides<A: Allocator>(
+    out: &mut Vec<u8, A>,
+    packet: u32,
+    message: u64,
+    name: &[u8],
+    bids: &[Total],
+    offers: &[Total],
+    sides: &Sides,
+) -> Result<(), Memory>
+    ensures ok { OnOk result (out.new.items ≡ out.old.items ++ consolidated_line packet message name.now bids.now offers.now) }
+    ensures err { OnErr result (BeginsWith out.new.items out.old.items) }
+    ensures full { OnErr result (vec_capacity out.old < vec_len out.old + length (consolidated_line packet message name.now bids.now offers.now)) }
+{
+    put_event(out, b'C', packet, message, name)?;
+    put_total_side(out, b" B", bids, sides.bids.printed())?;
+    put_total_side(out, b" O", offers, sides.offers.printed())?;
     put(out, b"\n")
 }
 
@@ -38,14 +79,15 @@ pub fn put_direct<A: Allocator>(
     packet: u32,
     message: u64,
     name: &[u8],
-    bids: &[Level],
-    offers: &[Level],
+    sides: &Sides,
 ) -> Result<(), Memory>
-    ensures ok { OnOk result (out.new.items ≡ out.old.items ++ direct_line packet message name.now bids.now offers.now) }
+    ensures ok { OnOk result (out.new.items ≡ out.old.items ++ direct_line packet message name.now sides.now.bids.levels sides.now.offers.levels) }
     ensures err { OnErr result (out.new.items ≡ out.old.items) }
-    ensures full { OnErr result (vec_capacity out.old < vec_len out.old + length (direct_line packet message name.now bids.now offers.now)) }
+    ensures full { OnErr result (vec_capacity out.old < vec_len out.old + length (direct_line packet message name.now sides.now.bids.levels sides.now.offers.levels)) }
 {
     let start = out.len();
+    let bids = sides.bids.printed().text();
+    let offers = sides.offers.printed().text();
     let outcome = put_sides(out, b'D', packet, message, name, bids, offers);
     settle(out, start, outcome)
 }
@@ -57,20 +99,22 @@ pub fn put_implied<A: Allocator>(
     packet: u32,
     message: u64,
     name: &[u8],
-    bids: &[Level],
-    offers: &[Level],
+    sides: &Sides,
 ) -> Result<(), Memory>
-    ensures ok { OnOk result (out.new.items ≡ out.old.items ++ implied_line packet message name.now bids.now offers.now) }
+    ensures ok { OnOk result (out.new.items ≡ out.old.items ++ implied_line packet message name.now sides.now.implied_bids.levels sides.now.implied_offers.levels) }
     ensures err { OnErr result (out.new.items ≡ out.old.items) }
-    ensures full { OnErr result (vec_capacity out.old < vec_len out.old + length (implied_line packet message name.now bids.now offers.now)) }
+    ensures full { OnErr result (vec_capacity out.old < vec_len out.old + length (implied_line packet message name.now sides.now.implied_bids.levels sides.now.implied_offers.levels)) }
 {
     let start = out.len();
+    let bids = sides.implied_bids.printed().text();
+    let offers = sides.implied_offers.printed().text();
     let outcome = put_sides(out, b'I', packet, message, name, bids, offers);
     settle(out, start, outcome)
 }
 
 /// Appends the `C` line of a book's consolidated sides, from the best price on, as [`put_direct`] does
-/// of its direct ones.
+/// of its direct ones. `sides` is the book that was added up: the text of a total that is one of its direct levels
+/// is copied from there. The line is that of the totals whatever `sides` holds.
 #[tactic(auto, unfolding(crate::specs::Texts::consolidated_line))]
 pub fn put_consolidated<A: Allocator>(
     out: &mut Vec<u8, A>,
@@ -79,12 +123,13 @@ pub fn put_consolidated<A: Allocator>(
     name: &[u8],
     bids: &[Total],
     offers: &[Total],
+    sides: &Sides,
 ) -> Result<(), Memory>
     ensures ok { OnOk result (out.new.items ≡ out.old.items ++ consolidated_line packet message name.now bids.now offers.now) }
     ensures err { OnErr result (out.new.items ≡ out.old.items) }
     ensures full { OnErr result (vec_capacity out.old < vec_len out.old + length (consolidated_line packet message name.now bids.now offers.now)) }
 {
     let start = out.len();
-    let outcome = put_sides(out, b'C', packet, message, name, bids, offers);
+    let outcome = put_total_sides(out, packet, message, name, bids, offers, sides);
     settle(out, start, outcome)
 }

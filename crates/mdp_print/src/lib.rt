@@ -8,17 +8,17 @@
 mod book_lines;
 mod counting;
 mod pieces;
-mod short_text;
 mod status_lines;
 mod taken;
 #[cfg(test)]
 mod tests;
+mod totals;
 mod verdict_lines;
 mod writing;
 
 pub use book_lines::{put_consolidated, put_direct, put_implied};
 pub use counting::Counting;
-pub use short_text::{ShortText, TextFromEnd};
+pub use mdp_text::{ShortText, TextFromEnd};
 pub use status_lines::{put_fault, put_jump, put_last, put_refusal};
 pub use verdict_lines::put_audit;
 pub use writing::{CountedWrite, write_all_counted};

@@ -5,10 +5,10 @@ ghost use Rattle.mdp_print.specs.Texts.{place_text, fault_line, jump_line, refus
 ghost use Rattle.mdp_print.specs.Pieces.{BeginsWith};
 
 use crate::pieces::{put, put_event, settle};
-use crate::short_text::ShortText;
 use mdp_books::Place;
 use mdp_sbe::Refusal;
 use mdp_templates::{Feed, Memory};
+use mdp_text::ShortText;
 use std::alloc::Allocator;
 
 // Gives the end of an `F` line: the place of an entry.

@@ -1,10 +1,12 @@
 //! The texts of the lines, writers that fail, and allocations that are refused.
 
+ghost use Rattle.std.specs.Prelude.{◌≤◌, length};
+
 use crate::{
     CountedWrite, Counting, put_audit, put_consolidated, put_direct, put_fault, put_implied,
     put_jump, put_last, put_refusal, write_all_counted,
 };
-use mdp_books::Place;
+use mdp_books::{Place, Side, Sides};
 use mdp_quotes::{Total, Verdict};
 use mdp_sbe::Refusal;
 use mdp_templates::{Feed, Level, Memory};
@@ -23,14 +25,43 @@ fn total(price: i64, size: i64) -> Total {
     Total { price, size }
 }
 
+/// The sides of a book whose direct ones have these levels.
+fn with_direct(bids: &[Level], offers: &[Level]) -> Sides
+    requires bids { length bids.now ≤ 10 }
+    requires offers { length offers.now ≤ 10 }
+{
+    Sides {
+        bids: Side::from_levels(10, bids),
+        offers: Side::from_levels(10, offers),
+        implied_bids: Side::new(2),
+        implied_offers: Side::new(2),
+    }
+}
+
+/// The sides of a book whose implied ones have these levels.
+fn with_implied(bids: &[Level], offers: &[Level]) -> Sides
+    requires bids { length bids.now ≤ 2 }
+    requires offers { length offers.now ≤ 2 }
+{
+    Sides {
+        bids: Side::new(10),
+        offers: Side::new(10),
+        implied_bids: Side::from_levels(2, bids),
+        implied_offers: Side::from_levels(2, offers),
+    }
+}
+
 #[test]
 fn prints_direct_sides(rt: HostRuntime) -> Result<(), Fail> {
     let mut out = Vec::new(rt.alloc());
     let bids = [level(100_000_000_000, 5), level(-25_000_000, 0)];
     let offers = [level(i64::MIN, i32::MAX), level(i64::MAX, i32::MIN)];
-    assert!(rt; put_direct(&mut out, 7, 3, b"ESM6", &bids, &offers).is_ok());
-    assert!(rt; put_direct(&mut out, u32::MAX, u64::MAX, b"", &[], &[]).is_ok());
-    assert!(rt; put_direct(&mut out, 1, 1, b"NEAR", &[], &offers[..1]).is_ok());
+    let both = with_direct(&bids, &offers);
+    assert!(rt; put_direct(&mut out, 7, 3, b"ESM6", &both).is_ok());
+    let none = with_direct(&[], &[]);
+    assert!(rt; put_direct(&mut out, u32::MAX, u64::MAX, b"", &none).is_ok());
+    let one = with_direct(&[], &offers[..1]);
+    assert!(rt; put_direct(&mut out, 1, 1, b"NEAR", &one).is_ok());
     let lines =
         b"D 7.3 ESM6 B 100000000000x5 -25000000x0 O -9223372036854775808x2147483647 9223372036854775807x-2147483648\nD 4294967295.18446744073709551615  B O\nD 1.1 NEAR B O -9223372036854775808x2147483647\n";
     assert_eq!(rt; out.as_slice(), &lines[..]);
@@ -40,8 +71,10 @@ fn prints_direct_sides(rt: HostRuntime) -> Result<(), Fail> {
 #[test]
 fn prints_implied_sides(rt: HostRuntime) -> Result<(), Fail> {
     let mut out = Vec::new(rt.alloc());
-    assert!(rt; put_implied(&mut out, 12, 34, b"FAR", &[level(-1, 10)], &[]).is_ok());
-    assert!(rt; put_implied(&mut out, 12, 34, b"FAR", &[], &[level(0, 1), level(9, 2)]).is_ok());
+    let bid = with_implied(&[level(-1, 10)], &[]);
+    assert!(rt; put_implied(&mut out, 12, 34, b"FAR", &bid).is_ok());
+    let offers = with_implied(&[], &[level(0, 1), level(9, 2)]);
+    assert!(rt; put_implied(&mut out, 12, 34, b"FAR", &offers).is_ok());
     let lines = b"I 12.34 FAR B -1x10 O\nI 12.34 FAR B O 0x1 9x2\n";
     assert_eq!(rt; out.as_slice(), &lines[..]);
     Ok(())
@@ -52,11 +85,35 @@ fn prints_consolidated_sides(rt: HostRuntime) -> Result<(), Fail> {
     let mut out = Vec::new(rt.alloc());
     let bids = [total(10, 4_294_967_294), total(-10, i64::MAX)];
     let offers = [total(i64::MAX, i64::MIN)];
-    assert!(rt; put_consolidated(&mut out, 1, 2, b"N-F", &bids, &offers).is_ok());
-    assert!(rt; put_consolidated(&mut out, 1, 2, b"N-F", &[], &[]).is_ok());
+    let none = with_direct(&[], &[]);
+    assert!(rt; put_consolidated(&mut out, 1, 2, b"N-F", &bids, &offers, &none).is_ok());
+    assert!(rt; put_consolidated(&mut out, 1, 2, b"N-F", &[], &[], &none).is_ok());
     let lines =
         b"C 1.2 N-F B 10x4294967294 -10x9223372036854775807 O 9223372036854775807x-9223372036854775808\nC 1.2 N-F B O\n";
     assert_eq!(rt; out.as_slice(), &lines[..]);
+    Ok(())
+}
+
+#[test]
+fn copies_the_totals_that_are_levels(rt: HostRuntime) -> Result<(), Fail> {
+    let mut out = Vec::new(rt.alloc());
+    // an implied bid before all, one at the price of 98, and one between two levels
+    let levels = [level(99, 1), level(98, 2), level(97, 3), level(95, 4)];
+    let bids = [
+        total(100, 7),
+        total(99, 1),
+        total(98, 12),
+        total(97, 3),
+        total(96, 8),
+        total(95, 4),
+    ];
+    // levels out of order, and one price twice
+    let crossed = [level(5, 1), level(3, 2), level(5, 6)];
+    let offers = [total(3, 2), total(5, 7)];
+    let sides = with_direct(&levels, &crossed);
+    assert!(rt; put_consolidated(&mut out, 1, 2, b"N", &bids, &offers, &sides).is_ok());
+    let line = b"C 1.2 N B 100x7 99x1 98x12 97x3 96x8 95x4 O 3x2 5x7\n";
+    assert_eq!(rt; out.as_slice(), &line[..]);
     Ok(())
 }
 
@@ -241,10 +298,11 @@ fn put_line<A: Allocator>(out: &mut Vec<u8, A>, kind: usize) -> Result<(), Memor
     };
     let levels = [level(-25_000_000, 7), level(i64::MIN, i32::MAX)];
     let totals = [total(i64::MAX, i64::MAX), total(i64::MIN, i64::MIN)];
+    let direct = with_direct(&levels, &levels);
     match kind {
-        0 => put_direct(out, u32::MAX, u64::MAX, b"NEAR", &levels, &levels),
-        1 => put_implied(out, 1, 2, b"NEAR", &levels, &[]),
-        2 => put_consolidated(out, 1, 2, b"NEAR", &totals, &totals),
+        0 => put_direct(out, u32::MAX, u64::MAX, b"NEAR", &direct),
+        1 => put_implied(out, 1, 2, b"NEAR", &with_implied(&levels, &[])),
+        2 => put_consolidated(out, 1, 2, b"NEAR", &totals, &totals, &direct),
         3 => put_fault(out, 1, 2, b"A NAME OF 20 LETTERS", &place),
         4 => put_audit(
             out,

@@ -5,9 +5,9 @@ ghost use Rattle.mdp_print.specs.Texts.{verdict_text, audit_line};
 ghost use Rattle.mdp_print.specs.Pieces.{BeginsWith};
 
 use crate::pieces::{put, put_event, settle};
-use crate::short_text::ShortText;
 use mdp_quotes::Verdict;
 use mdp_templates::Memory;
+use mdp_text::ShortText;
 use std::alloc::Allocator;
 
 // Tells the word for a verdict, of ten bytes at most.

@@ -19,7 +19,7 @@ fn report_message<A: Allocator + Copy>(
     slots: &[u16],
     packet: u32,
     message: u64,
-    taken: &Message<A>,
+    taken: &Message<'_>,
     out: &mut Reports<A>,
 ) -> Result<(), Memory>
     requires { length slots.now ≡ length desks.old }
@@ -48,9 +48,8 @@ fn report_packet<A: Allocator + Copy>(
     ensures reports { OnOk result (out.new ≡ out.old ++ reports_passed slots.now (sent_in packet.now) desks.old) }
 {
     let number = packet.number();
-    let messages = packet.messages();
-    for n in 0..messages.len() {
-        report_message(desks, slots, number, n as u64 + 1, &messages[n], out)?;
+    for n in 0..packet.len() {
+        report_message(desks, slots, number, n as u64 + 1, &packet.message(n), out)?;
     }
     Ok(())
 }

@@ -7,7 +7,7 @@ use crate::{Steps, Turn, feed, feed_all};
 use arrayvec::{ArrayString, ArrayVec};
 use mdp_arbiter::{Arbiter, Start};
 use mdp_engine::Event;
-use mdp_templates::{Instrument, InstrumentKind, Memory, Message, Name, Packet, Snapshot, are_fit};
+use mdp_templates::{Instrument, InstrumentKind, Memory, Name, Packet, Snapshot, are_fit};
 use mdp_window::MapWindow;
 use refusing::Refusing;
 use std::alloc::{Allocator, Global};
@@ -36,9 +36,9 @@ fn near() -> Result<[Instrument; 1], Fail>
 
 /// A packet of one message without entries.
 fn packet<A: Allocator + Copy>(alloc: A, number: u32) -> Result<Event<A>, Memory> {
-    let mut messages = Vec::new(alloc);
-    messages.push(Message::new(Vec::new(alloc), true))?;
-    Ok(Event::Packet(Packet::new(number, messages)))
+    let mut packet = Packet::new(alloc, number);
+    packet.push(&[], true)?;
+    Ok(Event::Packet(packet))
 }
 
 /// A snapshot of the one security, with an empty book.

@@ -6,6 +6,7 @@ ghost use Rattle.mdp_templates.specs.Answer.{OnRefusal};
 ghost use Rattle.mdp_templates.specs.Incremental.{IsBook, IsCarrier, IsIncremental, IsRefusedIncremental, IsPacket, EndsEvent};
 ghost use Rattle.mdp_templates.specs.Layout.{IsRefusedLayout};
 ghost use Rattle.mdp_templates.specs.Entry.{entry_of};
+ghost use Rattle.mdp_templates.specs.Spans.{AddsMessage};
 ghost use Rattle.mdp_templates.specs.Refused.{IsRefusedAs};
 ghost use Rattle.mdp_templates.specs.Refused.FeedKind.{incremental};
 ghost use Rattle.mdp_sbe.specs.Framing.{IsRefusedRoot};
@@ -13,7 +14,7 @@ ghost use Rattle.mdp_sbe.specs.Framing.{IsRefusedRoot};
 use crate::entry::Entry;
 use crate::fault::Fault;
 use crate::layout::read_layout;
-use crate::packet::{Message, Packet};
+use crate::packet::{Packet, Span};
 use crate::template::Template;
 use mdp_sbe::{Header, Messages, Refusal};
 use std::alloc::Allocator;
@@ -21,9 +22,12 @@ use std::alloc::Allocator;
 /// The length of a root block up to its match event indicator, which ends it, in bytes.
 const ROOT_LENGTH: u16 = 9;
 
-/// How many messages room is taken for at first: few packets have more, and a list of so many is small enough for the C library to take
-/// it back from another thread without a lock.
+/// How many messages room is taken for at first: few packets have more.
 const USUAL_MESSAGES: usize = 3;
+
+/// How many entries room is taken for at first, of all messages: few packets have more, and a list of so many is small enough for the
+/// C library to take it back from another thread without a lock.
+const USUAL_ENTRIES: usize = 5;
 
 /// Bit 7 of the match event indicator: the message is the last of its event.
 const LAST_OF_EVENT: u8 = 0x80;
@@ -36,60 +40,75 @@ fn ends_event(root: &[u8]) -> bool
     root[8] & LAST_OF_EVENT != 0
 }
 
-// Reads a book update: its entries, and whether it ends its event.
-fn read_book<A: Allocator + Copy>(
-    alloc: A,
-    message: &mdp_sbe::Message<'_>,
-) -> Result<Message<A>, Fault>
-    ensures ok { IfOk result (IsBook (parts message.now)) }
-    ensures refused { IfErr result (OnRefusal (IsRefusedLayout entry_of 9 27 (parts message.now))) }
+// Gives the place of a message with no entries, behind so many of the others.
+fn no_entries(start: usize, end: bool) -> Span
+    ensures { result ≡ record { start = start; count = 0; end = end } }
 {
-    let (root, entries) = read_layout::<A, Entry>(alloc, message, ROOT_LENGTH)?;
-    let end = ends_event(root);
-    Ok(Message::new(entries, end))
+    Span {
+        start,
+        count: 0,
+        end,
+    }
 }
 
-// Reads a message of which nothing counts but whether it ends its event.
-fn read_carrier<A: Allocator + Copy>(
-    alloc: A,
+// Reads a book update: appends its entries, and gives their place.
+fn read_book<A: Allocator + Copy>(
     message: &mdp_sbe::Message<'_>,
-) -> Result<Message<A>, Refusal>
-    ensures ok { IfOk result (IsCarrier (parts message.now)) }
+    entries: &mut Vec<Entry, A>,
+) -> Result<Span, Fault>
+    ensures ok { IfOk result (AddsMessage (IsBook (parts message.now)) entries.old.items entries.new.items) }
+    ensures refused { IfErr result (OnRefusal (IsRefusedLayout entry_of 9 27 (parts message.now))) }
+{
+    let start = entries.len();
+    let (root, count) = read_layout::<A, Entry>(message, ROOT_LENGTH, entries)?;
+    let end = ends_event(root);
+    Ok(Span { start, count, end })
+}
+
+// Reads a message of which nothing counts but whether it ends its event, which it tells.
+fn read_carrier(message: &mdp_sbe::Message<'_>) -> Result<bool, Refusal>
+    ensures ok { IfOk result (λ end. IsCarrier (parts message.now) (record { entries = []; end = end })) }
     ensures refused { IfErr result (IsRefusedRoot (parts message.now) 9) }
 {
     let (root, _) = message.root(ROOT_LENGTH)?;
-    let end = ends_event(root);
-    Ok(Message::new(Vec::new(alloc), end))
+    Ok(ends_event(root))
 }
 
-// Reads a message by its template.
+// Reads a message by its template: appends its entries, and gives their place.
 fn read_message<A: Allocator + Copy>(
-    alloc: A,
     message: &mdp_sbe::Message<'_>,
-) -> Result<Message<A>, Fault>
-    ensures ok { IfOk result (IsIncremental (parts message.now)) }
+    entries: &mut Vec<Entry, A>,
+) -> Result<Span, Fault>
+    ensures ok { IfOk result (AddsMessage (IsIncremental (parts message.now)) entries.old.items entries.new.items) }
     ensures refused { IfErr result (OnRefusal (IsRefusedIncremental (parts message.now))) }
 {
     match Template::of(message.template) {
-        Template::Book => read_book(alloc, message),
-        Template::Carrier => Ok(read_carrier(alloc, message)?),
+        Template::Book => read_book(message, entries),
+        Template::Carrier => Ok(no_entries(entries.len(), read_carrier(message)?)),
         Template::ChannelReset => Err(Fault::Refused(Refusal::ChannelReset)),
-        Template::Other => Ok(Message::new(Vec::new(alloc), false)),
+        Template::Other => Ok(no_entries(entries.len(), false)),
     }
 }
 
-// Reads all messages, or answers the first refusal in reading order.
-fn read_messages<A: Allocator + Copy>(alloc: A, rest: &[u8]) -> Result<Vec<Message<A>, A>, Fault>
-    ensures ok { IfOk result (λ v. AreMessages IsIncremental rest.now v.items []) }
+// Reads all messages into a packet of this number, or answers the first refusal in reading order.
+fn read_messages<A: Allocator + Copy>(
+    alloc: A,
+    number: u32,
+    rest: &[u8],
+) -> Result<Packet<A>, Fault>
+    ensures number { IfOk result (λ p. p.number ≡ number) }
+    ensures ok { IfOk result (λ p. AreMessages IsIncremental rest.now p.messages []) }
     ensures refused { IfErr result (OnRefusal (AreRefused IsIncremental IsRefusedIncremental rest.now)) }
 {
-    let mut list = Vec::with_capacity(alloc, USUAL_MESSAGES)?;
+    let mut entries = Vec::with_capacity(alloc, USUAL_ENTRIES)?;
+    let mut spans = Vec::with_capacity(alloc, USUAL_MESSAGES)?;
     let mut cursor = Messages::new(rest);
     while let Some(next) = cursor.next() {
         let message = next?;
-        list.push(read_message(alloc, &message)?)?;
+        let span = read_message(&message, &mut entries)?;
+        spans.push(span)?;
     }
-    Ok(list)
+    Ok(Packet::of_spans(number, entries, spans))
 }
 
 /// Reads a packet of an incremental feed, or answers the first refusal in reading order. A packet with
@@ -102,6 +121,6 @@ pub fn read_packet<A: Allocator + Copy>(alloc: A, text: &[u8]) -> Result<Packet<
     if header.number == 0 {
         return Err(Fault::Refused(Refusal::NumberZero));
     }
-    let messages = read_messages(alloc, &text[Header::LENGTH..])?;
-    Ok(Packet::new(header.number, messages))
+    let packet = read_messages(alloc, header.number, &text[Header::LENGTH..])?;
+    Ok(packet)
 }

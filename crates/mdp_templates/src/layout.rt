@@ -1,11 +1,12 @@
 //! The layout that both book templates share: a root block, and a group whose entries are read in order.
 
-ghost use Rattle.std.specs.Prelude.{◌≡◌, ◌≤◌, List, ℕ, length, vec_len, All, Result, IfOk, IfErr};
+ghost use Rattle.std.specs.Prelude.{◌≡◌, ◌≤◌, ◌+◌, List, ℕ, length, All, Result, IfOk, IfErr, OnOk};
 ghost use Rattle.mdp_sbe.specs.Framing.{parts};
 ghost use Rattle.mdp_sbe.specs.Group.{IsGrouped, IsRefusedGrouped};
 ghost use Rattle.mdp_sbe.specs.declared.refusal.Refusal.{Refusal};
 ghost use Rattle.mdp_templates.specs.Answer.{OnRefusal};
 ghost use Rattle.mdp_templates.specs.Layout.{AreEntries, AreRefusedEntries, IsLaidOut, IsRefusedLayout};
+ghost use Rattle.mdp_templates.specs.Spans.{Adds};
 
 use crate::fault::Fault;
 use mdp_sbe::{Group, Message, Refusal};
@@ -40,35 +41,35 @@ fn read_blocks<'a>(
     Ok((root, group))
 }
 
-// Reads the entries of a group, or answers the first refusal in reading order.
+// Appends the entries of a group, or answers the first refusal in reading order.
 fn read_entries<A: Allocator + Copy, E: GroupEntry>(
-    alloc: A,
     group: &Group<'_>,
-) -> Result<Vec<E, A>, Fault>
+    list: &mut Vec<E, A>,
+) -> Result<(), Fault>
     requires { All (λ text. E.LENGTH ≤ length text) group.now }
-    ensures ok { IfOk result (λ v. AreEntries E.reads group.now v.items) }
-    ensures few { IfOk result (λ v. vec_len v ≤ 255) }
+    ensures ok { OnOk result (Adds (AreEntries E.reads group.now) list.old.items list.new.items) }
     ensures refused { IfErr result (OnRefusal (AreRefusedEntries E.reads group.now)) }
 {
-    let mut entries = Vec::with_capacity(alloc, group.len())?;
+    list.reserve(group.len())?;
     for n in 0..group.len() {
         let entry = E::read(group.entry(n))?;
-        entries.push(entry)?;
+        list.push(entry)?;
     }
-    Ok(entries)
+    Ok(())
 }
 
-/// Reads the root block of a message, and its entries.
+/// Reads the root block of a message, appends its entries, and tells how many they are.
 pub(crate) fn read_layout<'a, A: Allocator + Copy, E: GroupEntry>(
-    alloc: A,
     message: &Message<'a>,
     least_root: u16,
-) -> Result<(&'a [u8], Vec<E, A>), Fault>
-    ensures ok { IfOk result (λ p. IsLaidOut E.reads least_root E.LENGTH (parts message.now) p.0.now p.1.items) }
-    ensures few { IfOk result (λ p. vec_len p.1 ≤ 255) }
+    list: &mut Vec<E, A>,
+) -> Result<(&'a [u8], u8), Fault>
+    ensures ok { IfOk result (λ p. Adds (IsLaidOut E.reads least_root E.LENGTH (parts message.now) p.0.now) list.old.items list.new.items) }
+    ensures count { IfOk result (λ p. length list.new.items ≡ length list.old.items + p.1) }
     ensures refused { IfErr result (OnRefusal (IsRefusedLayout E.reads least_root E.LENGTH (parts message.now))) }
 {
     let (root, group) = read_blocks(message, least_root, E::LENGTH)?;
-    let entries = read_entries(alloc, &group)?;
-    Ok((root, entries))
+    let count = group.len() as u8;
+    read_entries(&group, list)?;
+    Ok((root, count))
 }

@@ -52,7 +52,8 @@ fn read_snapshot<A: Allocator + Copy>(
     ensures ok { IfOk result (IsSnapshot (parts message.now)) }
     ensures refused { IfErr result (OnRefusal (IsRefusedSnapshot (parts message.now))) }
 {
-    let (root, quotes) = read_layout::<A, Option<Quote>>(alloc, message, ROOT_LENGTH)?;
+    let mut quotes = Vec::new(alloc);
+    let (root, _) = read_layout::<A, Option<Quote>>(message, ROOT_LENGTH, &mut quotes)?;
     match snapshot_of(root, &quotes) {
         Some(snapshot) => Ok(snapshot),
         None => Err(Fault::Refused(Refusal::SnapshotLevels)),

@@ -46,7 +46,7 @@ const TABLE: [(Call, Answer, u32, [Option<u32>; 2]); 8] = [
 
 fn answer_to<W: Window<Packet<Global>>>(alloc: Global, window: &mut W, call: Call) -> Answer {
     match call {
-        Call::Put(number) => match window.put(Packet::new(number, Vec::new(alloc))) {
+        Call::Put(number) => match window.put(Packet::new(alloc, number)) {
             Put::Kept => Answer::Kept,
             Put::Back(packet) => Answer::Back(packet.number()),
             Put::Memory(packet) => Answer::Memory(packet.number()),

@@ -8,8 +8,7 @@ use arrayvec::{ArrayString, ArrayVec};
 use mdp_engine::Event;
 use mdp_lanes::{Intake, IntakeReceiver, IntakeSender};
 use mdp_templates::{
-    Action, Entry, Instrument, InstrumentKind, Kind, Level, Memory, Message, Name, Packet,
-    Snapshot, are_fit,
+    Action, Entry, Instrument, InstrumentKind, Kind, Level, Memory, Name, Packet, Snapshot, are_fit,
 };
 use std::alloc::Allocator;
 use std::sync::Wait;
@@ -76,18 +75,17 @@ pub fn listed() -> Result<[Instrument; 3], Fail>
 /// A packet with one message, which ends its event.
 fn packet<A: Allocator + Copy>(alloc: A, quote: Quote) -> Result<Event<A>, Memory> {
     let (number, security, kind, price, size) = quote;
-    let mut entries = Vec::new(alloc);
-    entries.push(Entry {
+    let entry = Entry {
         security,
         kind,
         action: Action::New,
         level: 1,
         price,
         size,
-    })?;
-    let mut messages = Vec::new(alloc);
-    messages.push(Message::new(entries, true))?;
-    Ok(Event::Packet(Packet::new(number, messages)))
+    };
+    let mut packet = Packet::new(alloc, number);
+    packet.push(&[entry], true)?;
+    Ok(Event::Packet(packet))
 }
 
 /// A batch of packets.

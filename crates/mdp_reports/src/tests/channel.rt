@@ -6,8 +6,7 @@ ghost use Rattle.mdp_templates.specs.Instrument.{AreFit};
 use arrayvec::{ArrayString, ArrayVec};
 use mdp_engine::Event;
 use mdp_templates::{
-    Action, Entry, Instrument, InstrumentKind, Kind, Level, Memory, Message, Name, Packet,
-    Snapshot, are_fit,
+    Action, Entry, Instrument, InstrumentKind, Kind, Level, Memory, Name, Packet, Snapshot, are_fit,
 };
 use std::alloc::Allocator;
 use std::test::Fail;
@@ -168,15 +167,12 @@ fn packet<A: Allocator + Copy>(
     first: Row,
     second: Option<Row>,
 ) -> Result<Packet<A>, Memory> {
-    let mut entries = Vec::new(alloc);
-    entries.push(entry(first))?;
+    let mut packet = Packet::new(alloc, number);
     match second {
-        Some(second) => entries.push(entry(second))?,
-        None => {}
+        Some(second) => packet.push(&[entry(first), entry(second)], true)?,
+        None => packet.push(&[entry(first)], true)?,
     }
-    let mut messages = Vec::new(alloc);
-    messages.push(Message::new(entries, true))?;
-    Ok(Packet::new(number, messages))
+    Ok(packet)
 }
 
 fn event<A: Allocator + Copy>(alloc: A, came: Came) -> Result<Event<A>, Memory> {

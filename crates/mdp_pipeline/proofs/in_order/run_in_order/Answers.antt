@@ -12,7 +12,7 @@ loop-feed-init g c =
     let run = c.in-Ok.run' in
     let start = g.W.CountedWrite.taken c.args.writer.now in
     record {
-      taken = taken_none c.args.instruments.now c.args.window c.args.start c.args.a.now c.args.b.now c.args.s.now start run.engine run.text.items run.refusals c.in-Ok.ensures.empty c.in-Ok.ensures.run;
+      taken = taken_none c.args.instruments.now c.args.window c.args.start c.args.a.now c.args.b.now c.args.s.now start run.engine run.refusals c.in-Ok.ensures.run;
       counts = counted_none start;
       failed = refl;
     }
@@ -48,9 +48,9 @@ returns-clause-text g c =
     let taken = g.W.CountedWrite.taken c.loop-feed.writer in
     let run = c.loop-feed.run in
     let here = c.loop-feed.records in
-    let writes = taken_all listed c.args.window c.args.start c.args.a.now c.args.b.now c.args.s.now start taken run.engine run.text.items run.refusals here.a.now here.b.now here.s.now c.in_default-next.ensures c.loop-feed.invariant.taken in
+    let writes = taken_all listed c.args.window c.args.start c.args.a.now c.args.b.now c.args.s.now start taken run.engine run.refusals here.a.now here.b.now here.s.now c.in_default-next.ensures c.loop-feed.invariant.taken in
     ended_by_line listed c.args.window c.args.start c.args.a.now c.args.b.now c.args.s.now start (g.W.CountedWrite.taken c.finish.new.writer) c.finish.result
-    (run_printed listed c.args.window c.args.start (in_order c.args.a.now c.args.b.now c.args.s.now) start taken (g.W.CountedWrite.taken c.finish.new.writer) run.engine run.text.items run.refusals c.finish.result c.finish.ensures.text writes)
+    (run_printed listed c.args.window c.args.start (in_order c.args.a.now c.args.b.now c.args.s.now) start taken (g.W.CountedWrite.taken c.finish.new.writer) run.engine run.refusals c.finish.result c.finish.ensures.text writes)
 
 pub returns-clause-written : goal.returns-clause-written
 returns-clause-written g c =
@@ -73,7 +73,7 @@ returns-in_default-take-clause-begins g c =
     let here = c.loop-feed.records in
     begins_by_line c.args.instruments.now c.args.window c.args.start c.args.a.now c.args.b.now c.args.s.now (g.W.CountedWrite.taken c.args.writer.now) (g.W.CountedWrite.taken c.loop-feed.writer)
     (taken_begins c.args.instruments.now c.args.window c.args.start c.args.a.now c.args.b.now c.args.s.now (g.W.CountedWrite.taken c.args.writer.now) (g.W.CountedWrite.taken c.loop-feed.writer)
-    run.engine run.text.items run.refusals here.a.now here.b.now here.s.now c.loop-feed.invariant.taken)
+    run.engine run.refusals here.a.now here.b.now here.s.now c.loop-feed.invariant.taken)
 
 -- a write of a piece failed
 pub returns-in_err-hand_on_pieces-clause-begins : goal.returns-in_err-hand_on_pieces-clause-begins
@@ -95,6 +95,6 @@ returns-clause-begins g c =
     let taken = g.W.CountedWrite.taken c.loop-feed.writer in
     let run = c.loop-feed.run in
     let here = c.loop-feed.records in
-    let writes = taken_all listed c.args.window c.args.start c.args.a.now c.args.b.now c.args.s.now start taken run.engine run.text.items run.refusals here.a.now here.b.now here.s.now c.in_default-next.ensures c.loop-feed.invariant.taken in
+    let writes = taken_all listed c.args.window c.args.start c.args.a.now c.args.b.now c.args.s.now start taken run.engine run.refusals here.a.now here.b.now here.s.now c.in_default-next.ensures c.loop-feed.invariant.taken in
     failed_by_line listed c.args.window c.args.start c.args.a.now c.args.b.now c.args.s.now start (g.W.CountedWrite.taken c.finish.new.writer) c.finish.result
-    (run_begins listed c.args.window c.args.start (in_order c.args.a.now c.args.b.now c.args.s.now) start taken (g.W.CountedWrite.taken c.finish.new.writer) run.engine run.text.items run.refusals c.finish.result c.finish.ensures.begins writes)
+    (run_begins listed c.args.window c.args.start (in_order c.args.a.now c.args.b.now c.args.s.now) start taken (g.W.CountedWrite.taken c.finish.new.writer) run.engine run.refusals c.finish.result c.finish.ensures.begins writes)

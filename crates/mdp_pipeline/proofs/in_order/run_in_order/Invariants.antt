@@ -7,7 +7,7 @@ use Rattle.mdp_pipeline.proofs.in_order.run_in_order.Given as goal
 -- the run is over the records so far in the order of their lines, and no write has failed
 abbrev pub invariant-loop-feed : goal.invariant-loop-feed
 invariant-loop-feed g l = record {
-  taken : HasTaken l.instruments l.window l.fn.start l.fn.a l.fn.b l.fn.s (g.W.CountedWrite.taken l.fn.writer) (g.W.CountedWrite.taken l.writer) l.run.engine l.run.text.items l.run.refusals l.records.a.now l.records.b.now l.records.s.now;
+  taken : HasTaken l.instruments l.window l.fn.start l.fn.a l.fn.b l.fn.s (g.W.CountedWrite.taken l.fn.writer) (g.W.CountedWrite.taken l.writer) l.run.engine l.run.refusals l.records.a.now l.records.b.now l.records.s.now;
   counts : HasCounted (g.W.CountedWrite.taken l.fn.writer) (g.W.CountedWrite.taken l.writer) l.written;
   failed : g.W.CountedWrite.failed l.writer ≡ g.W.CountedWrite.failed l.fn.writer;
 }

@@ -4,7 +4,7 @@ use Rattle.std.proofs.lemmas.Result.{err_from_is_err_and}
 use Rattle.mdp_pipeline.proofs.in_order.write_end.Goals as goal
 
 pub returns-clause-text : goal.returns-clause-text
-returns-clause-text g c = c.in_ok-hand_on.ensures.taken ∙ ap (λ (t : List ℕ). g.W.CountedWrite.taken c.args.writer.now ++ t) c.in-Ok.ensures
+returns-clause-text g c = c.in_ok-hand_on.ensures.taken ∙ ap (λ (t : List ℕ). g.W.CountedWrite.taken c.args.writer.now ++ t) (c.deref.ensures.value ∙ c.in-Ok.ensures)
 
 -- there was no memory for the refusals
 pub returns-in_default-clause-begins : goal.returns-in_default-clause-begins
@@ -14,4 +14,4 @@ pub returns-in_err-hand_on-clause-begins : goal.returns-in_err-hand_on-clause-be
 returns-in_err-hand_on-clause-begins g c =
     let fault = err_from_is_err_and c.from_residual.result c.from_residual.ensures.1 in
     let front = c.in_err-hand_on.ensures.begins in
-    rw fault.1 (front.0, front.1 ∙ ap (λ (t : List ℕ). g.W.CountedWrite.taken c.args.writer.now ++ take front.0 t) c.in-Ok.ensures)
+    rw fault.1 (front.0, front.1 ∙ ap (λ (t : List ℕ). g.W.CountedWrite.taken c.args.writer.now ++ take front.0 t) (c.deref.ensures.value ∙ c.in-Ok.ensures))

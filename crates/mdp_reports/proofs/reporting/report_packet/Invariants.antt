@@ -8,6 +8,6 @@ use Rattle.mdp_reports.proofs.reporting.report_packet.Given as goal
 abbrev pub invariant-loop-n : goal.invariant-loop-n
 invariant-loop-n g l = record {
   many : length l.slots ≡ length l.desks;
-  desks : passed_desks (sent_from l.number (l.n + 1) (drop l.n l.messages)) l.desks ≡ passed_desks (sent_from l.number 1 l.messages) l.fn.desks;
-  reports : l.out ++ reports_passed l.slots (sent_from l.number (l.n + 1) (drop l.n l.messages)) l.desks ≡ l.fn.out ++ reports_passed l.slots (sent_from l.number 1 l.messages) l.fn.desks;
+  desks : passed_desks (sent_from l.number (l.n + 1) (drop l.n l.packet.messages)) l.desks ≡ passed_desks (sent_from l.number 1 l.packet.messages) l.fn.desks;
+  reports : l.out ++ reports_passed l.slots (sent_from l.number (l.n + 1) (drop l.n l.packet.messages)) l.desks ≡ l.fn.out ++ reports_passed l.slots (sent_from l.number 1 l.packet.messages) l.fn.desks;
 }

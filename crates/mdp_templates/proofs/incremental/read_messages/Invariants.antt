@@ -1,11 +1,15 @@
 use Rattle.std.proofs.Common.{length}
 use Rattle.mdp_sbe.specs.Framing.{AreMessages}
 use Rattle.mdp_templates.specs.Incremental.{IsIncremental}
+use Rattle.mdp_templates.specs.Spans.{AreWithin, messages_at}
 use Rattle.mdp_templates.proofs.incremental.read_messages.Given as goal
 
 -- the messages read so far stand before what is left
 abbrev pub invariant-loop-next : goal.invariant-loop-next
-invariant-loop-next g l = AreMessages IsIncremental l.rest l.list.items l.cursor
+invariant-loop-next g l = record {
+  within : AreWithin (length l.entries.items) l.spans.items;
+  read : AreMessages IsIncremental l.rest (messages_at l.entries.items l.spans.items) l.cursor;
+}
 
 abbrev pub decreases-loop-next : goal.decreases-loop-next
 decreases-loop-next g l = length l.cursor

@@ -3,4 +3,4 @@ use Rattle.mdp_books.proofs.Positions.{side_remove}
 use Rattle.mdp_books.proofs.side.Side.delete.Goals as goal
 
 pub invariant_of-self : goal.invariant_of-self
-invariant_of-self g c = rw c.remove.ensures.items (side_remove _ _ _ _ c.self.invariant (omega arith))
+invariant_of-self g c = rw c.remove.ensures (side_remove _ _ _ _ c.self.invariant (omega arith))

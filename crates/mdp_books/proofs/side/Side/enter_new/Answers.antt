@@ -4,8 +4,8 @@ use Rattle.mdp_books.proofs.side.Side.enter_new.Goals as goal
 
 pub invariant_of-self : goal.invariant_of-self
 invariant_of-self g c =
-    rw (c.insert.ensures.items, c.truncate.ensures.items) (side_insert _ _ c.args.position _ _ (search rules) c.self.invariant (omega arith) (omega arith) (omega arith))
+    rw (c.insert.ensures, c.truncate.ensures) (side_insert _ _ c.args.position _ _ (search rules) c.self.invariant (omega arith) (omega arith) (omega arith))
 
 pub returns-clause-after : goal.returns-clause-after
 returns-clause-after g c =
-    rw (← c.self.view_is, c.insert.ensures.items, c.truncate.ensures.items) (new_is c.self.inside.depth c.args.position c.args.with c.self.inside.levels.items (omega arith) (omega arith) (omega arith))
+    rw (← c.self.view_is, c.insert.ensures, c.truncate.ensures) (new_is c.self.inside.depth c.args.position c.args.with c.self.inside.levels (omega arith) (omega arith) (omega arith))

@@ -1,0 +1,31 @@
+use Rattle.std.proofs.Common.{◌≡◌, ◌+◌, ◌++◌, ◌∷◌, ℕ, List, drop, append_assoc, ap, sym, ◌∙◌}
+use Rattle.mdp_templates.specs.Packet.{MessageContent}
+use Rattle.mdp_templates.proofs.Spanning.{left_from}
+use Rattle.mdp_books.specs.Feed.{sent_as, sent_from}
+use Rattle.mdp_desks.specs.declared.desk.Desk.{Desk}
+use Rattle.mdp_desks.specs.Desks.{desks_text, passed_desks, passed_text}
+use Rattle.mdp_engine.proofs.audited_desks.AuditedDesks.pass.Goals as goal
+
+pub loop-n-preserved : goal.loop-n-preserved
+loop-n-preserved g c =
+    let k = c.number-number.result in
+    let n = c.loop-n.n in
+    let ms = c.args.packet.now.messages in
+    let m = c.message.result in
+    let desks = c.loop-n.self in
+    let out = c.loop-n.out.items in
+    let text = desks_text (sent_as k (n + 1) m) desks in
+    let later = sent_from k (n + 1 + 1) (drop (n + 1) ms) in
+    let left : drop n ms ≡ m ∷ drop (n + 1) ms = left_from ms n m c.message.ensures in
+    record {
+      desks =
+          ap (passed_desks later) c.in_ok-take.ensures.desks
+          ∙ sym (ap (λ (l : List MessageContent). passed_desks (sent_from k (n + 1) l) desks) left)
+          ∙ c.loop-n.invariant.desks;
+      text =
+          ap (λ (t : List ℕ). t ++ passed_text later c.take.new.self) c.in_ok-take.ensures.text
+          ∙ append_assoc out text (passed_text later c.take.new.self)
+          ∙ ap (λ (ds : List Desk). out ++ (text ++ passed_text later ds)) c.in_ok-take.ensures.desks
+          ∙ sym (ap (λ (l : List MessageContent). out ++ passed_text (sent_from k (n + 1) l) desks) left)
+          ∙ c.loop-n.invariant.text;
+    }
