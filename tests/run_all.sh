@@ -1,7 +1,8 @@
 #!/usr/bin/env bash
 # Proves everything from nothing and runs all tests: the merge gate, then the examples, the demonstration of the board, a pcap file
 # where tshark is there, the rows, cut and bent datagrams, the refusals of the system, refused allocations and the manual's commands on the
-# programs that the gate has built, and a look at the names in docs/DEFINITIONS.md. The last line is 'N passed, M failed', over all of them. The exit status is 1 if any failed.
+# programs that the gate has built, and a look at the names in docs/DEFINITIONS.md and at the code that the documents show. The last line
+# is 'N passed, M failed', over all of them. The exit status is 1 if any failed.
 set -u
 
 cd "$(dirname "$(realpath "$0")")/.." || exit 2
@@ -83,5 +84,6 @@ run_part "the refusals of the system" tests/run_refusals.sh "$program"
 run_part "refused allocations" tests/run_refused_allocations.sh "$program"
 run_part "the manual" tests/run_manual.sh "$program"
 run_part "the definitions" tests/check_definitions.sh
+run_part "the documents' code" tests/check_snippets.sh
 echo "$passed passed, $failed failed"
 [ "$failed" -eq 0 ]

@@ -1,6 +1,7 @@
 //! Runs over threads: the text of a capture that any merge gives, readers and workers that run at once, and each start refused; what is
-//! published on a board; and each allocation and each write refused, also on one thread.
+//! published on a board; runs as the manual shows them; and each allocation and each write refused, also on one thread.
 
+mod embedding;
 mod failed_writes;
 mod on_board;
 mod pace;
