@@ -127,7 +127,21 @@ fn board<R: Wait, A: Allocator + Copy>(rt: &R, heap: A) -> Option<(Publisher<A>,
     Some((publisher, reader))
 }
 
-/// The step and the row of the one security that a reader shows when the run over the capture is over.
+/// The step and the row that a reader of the one slot shows that is told of all that was published.
+fn look<A: Allocator + Copy>(
+    publisher: &mut Publisher<A>,
+    reader: &mut Reader<A>,
+) -> Option<(u64, Row)>
+    requires board { reader.old.board ≡ publisher.old.board }
+    requires slots { reader.old.slots ≡ 1 }
+{
+    reader.learn(publisher.tell());
+    let mut rows = [Row::Never];
+    let step = reader.read(&[0], &mut rows)?;
+    Some((step, rows[0]))
+}
+
+/// What a reader shows of the one security when the run over the capture is over.
 fn last_row<R, A>(rt: &R, alloc: Global, heap: A, capture: &[u8]) -> Option<(u64, Row)>
 where
     R: Threads + Wait + Sync,
@@ -153,14 +167,12 @@ where
         publisher,
         &mut kept,
     );
-    reader.learn(publisher.tell());
-    let mut rows = [Row::Never];
-    let step = reader.read(&[0], &mut rows);
+    let shown = look(&mut publisher, &mut reader);
     publisher.end(rt);
     if outcome.is_err() {
         return None;
     }
-    Some((step?, rows[0]))
+    shown
 }
 
 #[test]
