@@ -2,6 +2,7 @@
 //! any reader that counts its failures.
 #![tactic(auto)]
 
+mod ahead;
 mod blocks;
 mod capture;
 mod draft;
@@ -9,6 +10,7 @@ mod fault;
 mod field;
 mod laws;
 mod line;
+mod over_threads;
 mod reader;
 mod reading;
 mod record;
@@ -18,6 +20,7 @@ mod skip;
 pub use capture::Capture;
 pub use fault::{CaptureFault, CaptureRefusal};
 pub use laws::captures_hold_their_lines;
+pub use over_threads::read_capture_over_threads;
 pub use reader::{CountedRead, CountingReader};
 pub use reading::read_capture;
 pub use record::Record;

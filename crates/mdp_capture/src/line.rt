@@ -1,6 +1,7 @@
 //! One line of a capture.
 
 ghost use Rattle.std.specs.Prelude.{◌≡◌, IfOk, IfSome, IsErr, MatchResult};
+ghost use Rattle.std.specs.Str.Lines.{strip_carriage_return};
 ghost use Rattle.hex.specs.Hex.{decode_of};
 ghost use Rattle.mdp_capture.specs.Line.{fields, outright_of_fields, calendar_of_fields, kind_of, instrument_of, listing, packet_of, closing_of, line_of};
 ghost use Rattle.mdp_capture.specs.Repeats.{IsSkippedFor, Spells};
@@ -185,5 +186,15 @@ fn closing_of<A: Allocator>(rest: Option<&[u8]>) -> Line<A>
     match rest {
         Some(_) => Line::Skipped(Skip::LineForm),
         None => Line::Closing,
+    }
+}
+
+/// Lends the line without a carriage return at its end.
+pub(crate) fn without_carriage_return(line: &[u8]) -> &[u8]
+    ensures { result.now ≡ strip_carriage_return line.now }
+{
+    match line {
+        [text @ .., b'\r'] => text,
+        _ => line,
     }
 }

@@ -10,10 +10,11 @@ ghost use Rattle.mdp_capture.specs.Draft.{capture_so_far, AreFitSoFar};
 ghost use Rattle.mdp_templates.specs.Instrument.{AreFit};
 ghost use Rattle.mdp_capture.specs.Reading.{capture_with, IsOneLine, IsSound};
 
+use crate::ahead::Ahead;
 use crate::capture::Capture;
 use crate::draft::Draft;
 use crate::fault::CaptureFault;
-use crate::line::line_of;
+use crate::line::{line_of, without_carriage_return};
 use crate::reader::CountedRead;
 use mdp_templates::Feed;
 use memchr::memchr;
@@ -39,11 +40,11 @@ pub fn read_capture<R: CountedRead, A: Allocator + Copy>(
     ensures sound { result ≢ Err CaptureFault.Input → R.failed reader.new ≡ R.failed reader.old }
 {
     let mut reading = Reading::new(alloc);
-    let mut piece = room_for_a_piece(alloc)?;
+    let mut piece = room_for(alloc, PIECE)?;
     loop {
         match reader.read(piece.as_mut_slice()) {
             Ok(0) => return reading.finish(alloc),
-            Ok(n) => reading.take_piece(alloc, &piece[..n])?,
+            Ok(n) => reading.take_piece(alloc, &mut Ahead::none(alloc), &piece[..n])?,
             Err(_) => return Err(CaptureFault::Input),
         }
     }
@@ -52,11 +53,11 @@ pub fn read_capture<R: CountedRead, A: Allocator + Copy>(
 /// How many bytes are read at once.
 const PIECE: usize = 65536;
 
-// Makes room for a piece, all zeros.
-fn room_for_a_piece<A: Allocator>(alloc: A) -> Result<Vec<u8, A>, AllocError>
-    ensures { IfOk result (λ piece. vec_len piece ≡ PIECE) }
+/// Makes room for a piece of so many bytes, all zeros.
+pub(crate) fn room_for<A: Allocator>(alloc: A, size: usize) -> Result<Vec<u8, A>, AllocError>
+    ensures { IfOk result (λ piece. vec_len piece ≡ size) }
 {
-    let piece = vec![in alloc; 0u8; PIECE]?;
+    let piece = vec![in alloc; 0u8; size]?;
     Ok(piece)
 }
 
@@ -79,8 +80,13 @@ impl<A: Allocator + Copy> Reading<A> {
         }
     }
 
-    /// Takes in the next piece of the text.
-    pub(crate) fn take_piece(&mut self, alloc: A, piece: &[u8]) -> Result<(), CaptureFault>
+    /// Takes in the next piece of the text, of which these datagrams were decoded ahead.
+    pub(crate) fn take_piece(
+        &mut self,
+        alloc: A,
+        ahead: &mut Ahead<'_, A>,
+        piece: &[u8],
+    ) -> Result<(), CaptureFault>
         requires { IsSound self.old }
         ensures capture { OnOk result ((text : List ℕ) → capture_with self.old (piece.now ++ text) ≡ capture_with self.new text) }
         ensures sound { OnOk result (IsSound self.new) }
@@ -93,7 +99,7 @@ impl<A: Allocator + Copy> Reading<A> {
         while let Some(end) = memchr(b'\n', rest) {
             let text = &rest[..end];
             rest = &rest[end + 1..];
-            feed = self.take_line(alloc, text, last, feed)?;
+            feed = self.take_line(alloc, ahead, text, last, feed)?;
             last = text;
         }
         self.pending.extend_from_slice(rest)?;
@@ -105,6 +111,7 @@ impl<A: Allocator + Copy> Reading<A> {
     fn take_line(
         &mut self,
         alloc: A,
+        ahead: &mut Ahead<'_, A>,
         text: &[u8],
         last: &[u8],
         feed: Option<Feed>,
@@ -125,7 +132,7 @@ impl<A: Allocator + Copy> Reading<A> {
         }
         let text = without_carriage_return(text);
         let last = without_carriage_return(last);
-        let feed = self.draft.add_text(alloc, text, last, feed)?;
+        let feed = self.draft.add_text(alloc, ahead, text, last, feed)?;
         Ok(feed)
     }
 
@@ -171,15 +178,5 @@ impl<A: Allocator + Copy> Reading<A> {
         let line = line_of(alloc, self.pending.as_slice())?;
         self.draft.add_line(line)?;
         Ok(())
-    }
-}
-
-// Lends the line without a carriage return at its end.
-fn without_carriage_return(line: &[u8]) -> &[u8]
-    ensures { result.now ≡ strip_carriage_return line.now }
-{
-    match line {
-        [text @ .., b'\r'] => text,
-        _ => line,
     }
 }

@@ -6,6 +6,7 @@ ghost use Rattle.mdp_capture.specs.Repeats.{HasBytesOf, Spells};
 ghost use Rattle.mdp_capture.specs.Draft.{capture_so_far, AreFitSoFar, IsIndexed};
 ghost use Rattle.mdp_capture.specs.Line.{fields, line_of, packet_of};
 
+use crate::ahead::Ahead;
 use crate::draft::Draft;
 use crate::fault::CaptureFault;
 use crate::line::{Line, bytes_of, digits_in, line_of};
@@ -19,6 +20,7 @@ impl<A: Allocator + Copy> Draft<A> {
     pub(crate) fn add_text(
         &mut self,
         alloc: A,
+        ahead: &mut Ahead<'_, A>,
         text: &[u8],
         last: &[u8],
         known: Option<Feed>,
@@ -35,7 +37,7 @@ impl<A: Allocator + Copy> Draft<A> {
     {
         match digits_in(text) {
             Some((feed, digits)) => {
-                let feed = self.add_digits(alloc, feed, digits, last, known)?;
+                let feed = self.add_digits(alloc, ahead, feed, digits, last, known)?;
                 Ok(feed)
             }
             None => {
@@ -50,6 +52,7 @@ impl<A: Allocator + Copy> Draft<A> {
     fn add_digits(
         &mut self,
         alloc: A,
+        ahead: &mut Ahead<'_, A>,
         feed: Feed,
         digits: &[u8],
         last: &[u8],
@@ -66,7 +69,7 @@ impl<A: Allocator + Copy> Draft<A> {
             (IsFaultOf (add_line self.old.line (packet_of feed (fields digits.now)) (capture_so_far self.old))) }
         ensures no_input { IfErr result (λ fault. fault ≢ CaptureFault.Input) }
     {
-        match self.shared_bytes(alloc, digits, last, known)? {
+        match self.shared_bytes(alloc, ahead, digits, last, known)? {
             Some(bytes) => {
                 self.add_datagram(feed, bytes)?;
                 Ok(Some(feed))
@@ -75,10 +78,11 @@ impl<A: Allocator + Copy> Draft<A> {
         }
     }
 
-    // Gives the bytes that digits spell, where they are a datagram's: those of the line before, or decoded.
+    // Gives the bytes that digits spell, where they are a datagram's: decoded ahead, those of the line before, or decoded.
     fn shared_bytes(
         &mut self,
         alloc: A,
+        ahead: &mut Ahead<'_, A>,
         digits: &[u8],
         last: &[u8],
         known: Option<Feed>,
@@ -89,6 +93,10 @@ impl<A: Allocator + Copy> Draft<A> {
         ensures capture { capture_so_far self.new ≡ capture_so_far self.old }
         ensures kinds { self.new.kinds ≡ self.old.kinds }
     {
+        let decoded = ahead.take(digits)?;
+        if decoded.is_some() {
+            return Ok(decoded);
+        }
         let repeat = self.known_bytes(digits, last, known)?;
         if repeat.is_some() {
             return Ok(repeat);
