@@ -20,12 +20,17 @@ cd "$scratch/here" || exit 2
 passed=0
 failed=0
 
+# Runs the command, without the line by which tshark warns the system's administrator.
+run_command() {
+    PATH=$scratch/bin:$PATH timeout 60 bash -c "$command" 2>&1 | sed '/^Running as user "root" and group "root"/d'
+}
+
 # Runs the command that was read last, if there is one, and compares what it prints with what the page shows.
 judge() {
     [ -n "$command" ] || return
     if [[ $command == *tshark* ]] && ! command -v tshark >/dev/null; then
         echo "not run: there is no tshark"
-    elif diff <(PATH=$scratch/bin:$PATH timeout 60 bash -c "$command" 2>&1) <(printf '%s' "$shown") >"$scratch/difference"; then
+    elif diff <(run_command) <(printf '%s' "$shown") >"$scratch/difference"; then
         passed=$((passed + 1))
     else
         failed=$((failed + 1))
