@@ -61,6 +61,7 @@ if cc -shared -fPIC -O1 -o "$library" "$here/refuse_allocation.c" 2>"$scratch/er
         refuse_each recovery_unequal_snapshots --window=4 "$words"
         refuse_each malformed_beside_good "$words"
         refuse_each two_legs_and_a_spread "$words"
+        refuse_each many_heartbeats "$words"
     done
 else
     echo "not run: no C compiler makes the library here"

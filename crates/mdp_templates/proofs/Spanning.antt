@@ -7,7 +7,7 @@ use Rattle.std.proofs.Math.Seq.{drop-append_seam, take-length}
 use Rattle.mdp_sbe.specs.Framing.{Parts, BeginsMessage, AreMessages}
 use Rattle.mdp_sbe.proofs.Framings.{AreMessages-push}
 use Rattle.mdp_templates.specs.declared.entry.Entry.{Entry}
-use Rattle.mdp_templates.specs.declared.packet.Span.{Span}
+use Rattle.mdp_templates.specs.declared.spans.Span.{Span}
 use Rattle.mdp_templates.specs.Packet.{MessageContent}
 use Rattle.mdp_templates.specs.Spans.{message_at, messages_at, AreWithin, Adds, AddsMessage}
 

@@ -1,5 +1,6 @@
 pub mod Answer
 pub mod Packet
+pub mod Held
 pub mod Spans
 pub mod Snapshot
 pub mod Entry

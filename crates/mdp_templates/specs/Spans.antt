@@ -1,7 +1,7 @@
 -- The messages of a packet whose entries all lie in one list.
 use Rattle.std.specs.Prelude.{◌≡◌, ◌+◌, ◌≤◌, ℕ, List, [], ◌∷◌, ◌++◌, length, map, take, drop, All}
 use Rattle.mdp_templates.specs.declared.entry.Entry.{Entry}
-use Rattle.mdp_templates.specs.declared.packet.Span.{Span}
+use Rattle.mdp_templates.specs.declared.spans.Span.{Span}
 use Rattle.mdp_templates.specs.Packet.{MessageContent, PacketContent}
 
 -- the message whose entries lie there in this list

@@ -14,16 +14,14 @@ ghost use Rattle.mdp_sbe.specs.Framing.{IsRefusedRoot};
 use crate::entry::Entry;
 use crate::fault::Fault;
 use crate::layout::read_layout;
-use crate::packet::{Packet, Span};
+use crate::packet::Packet;
+use crate::spans::{Span, Spans};
 use crate::template::Template;
 use mdp_sbe::{Header, Messages, Refusal};
 use std::alloc::Allocator;
 
 /// The length of a root block up to its match event indicator, which ends it, in bytes.
 const ROOT_LENGTH: u16 = 9;
-
-/// How many messages room is taken for at first: few packets have more.
-const USUAL_MESSAGES: usize = 3;
 
 /// How many entries room is taken for at first, of all messages: few packets have more, and a list of so many is small enough for the
 /// C library to take it back from another thread without a lock.
@@ -101,12 +99,12 @@ fn read_messages<A: Allocator + Copy>(
     ensures refused { IfErr result (OnRefusal (AreRefused IsIncremental IsRefusedIncremental rest.now)) }
 {
     let mut entries = Vec::with_capacity(alloc, USUAL_ENTRIES)?;
-    let mut spans = Vec::with_capacity(alloc, USUAL_MESSAGES)?;
+    let mut spans = Spans::new();
     let mut cursor = Messages::new(rest);
     while let Some(next) = cursor.next() {
         let message = next?;
         let span = read_message(&message, &mut entries)?;
-        spans.push(span)?;
+        spans.push(alloc, span)?;
     }
     Ok(Packet::of_spans(number, entries, spans))
 }

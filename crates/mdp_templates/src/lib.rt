@@ -14,6 +14,7 @@ mod quote;
 mod recovery;
 mod side;
 mod snapshot;
+mod spans;
 mod template;
 
 pub use entry::{Action, DIRECT_DEPTH, Entry, IMPLIED_DEPTH, Kind, Level};

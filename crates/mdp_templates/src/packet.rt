@@ -6,6 +6,7 @@ ghost use Rattle.mdp_templates.specs.Spans.{AreWithin, messages_at, packet_with}
 
 use crate::entry::Entry;
 use crate::fault::Memory;
+use crate::spans::{Span, Spans};
 use std::alloc::Allocator;
 use std::marker::Model;
 
@@ -45,20 +46,12 @@ impl<'a> Message<'a> {
     }
 }
 
-/// Where a message's entries lie in the list of its packet: from this place on, so many; and whether it ends its event.
-#[derive(Clone, Copy)]
-pub struct Span {
-    pub start: usize,
-    pub count: u8,
-    pub end: bool,
-}
-
 /// A packet of the incremental feed, seen as its number and its messages. The entries of all messages lie in one list.
 #[derive(Drop)]
 pub struct Packet<A: Allocator> {
     number: u32,
     entries: Vec<Entry, A>,
-    spans: Vec<Span, A>,
+    spans: Spans<A>,
 }
 
 impl<A: Allocator> Model for Packet<A> {
@@ -68,9 +61,9 @@ impl<A: Allocator> Model for Packet<A> {
 
     ghost Value = { PacketContent };
 
-    ghost view = { λ p. record { number = p.number; messages = messages_at p.entries.items p.spans.items } };
+    ghost view = { λ p. record { number = p.number; messages = messages_at p.entries.items p.spans } };
 
-    ghost invariant = { λ p. AreWithin (length p.entries.items) p.spans.items };
+    ghost invariant = { λ p. AreWithin (length p.entries.items) p.spans };
 }
 
 // Lends the entries of a message.
@@ -85,32 +78,15 @@ fn entries_at(entries: &[Entry], span: Span) -> &[Entry]
 
 impl<A: Allocator> Packet<A> {
     // Makes a packet of messages whose entries lie there.
-    pub(crate) fn of_spans(number: u32, entries: Vec<Entry, A>, spans: Vec<Span, A>) -> Packet<A>
-        requires { AreWithin (length entries.items) spans.items }
-        ensures { result ≡ record { number = number; messages = messages_at entries.items spans.items } }
+    pub(crate) fn of_spans(number: u32, entries: Vec<Entry, A>, spans: Spans<A>) -> Packet<A>
+        requires { AreWithin (length entries.items) spans }
+        ensures { result ≡ record { number = number; messages = messages_at entries.items spans } }
     {
         Packet {
             number,
             entries,
             spans,
         }
-    }
-
-    /// Adds a message of these entries behind the others.
-    ///
-    /// # Errors
-    ///
-    /// Memory ran out. Then the packet is as before.
-    pub fn push(&mut self, entries: &[Entry], end: bool) -> Result<(), Memory>
-        requires { length entries.now ≤ 255 }
-        ensures ok { OnOk result (self.new ≡ packet_with (record { entries = entries.now; end = end }) self.old) }
-        ensures err { OnErr result (self.new ≡ self.old) }
-    {
-        let start = self.entries.len();
-        let count = entries.len() as u8;
-        self.entries.extend_from_slice(entries)?;
-        self.spans.push(Span { start, count, end })?;
-        Ok(())
     }
 
     /// Tells the packet sequence number.
@@ -124,7 +100,7 @@ impl<A: Allocator> Packet<A> {
     pub fn len(&self) -> usize
         ensures { result ≡ length self.now.messages }
     {
-        self.spans.len()
+        self.spans.as_slice().len()
     }
 
     /// Lends the message at place `n`, from 0, in the order of the datagram.
@@ -132,7 +108,8 @@ impl<A: Allocator> Packet<A> {
         requires { n < length self.now.messages }
         ensures { slice_get self.now.messages n ≡ Some result }
     {
-        let span = self.spans[n];
+        let spans = self.spans.as_slice();
+        let span = spans[n];
         Message {
             entries: entries_at(&self.entries, span),
             end: span.end,
@@ -145,7 +122,25 @@ impl<A: Allocator + Copy> Packet<A> {
     pub fn new(alloc: A, number: u32) -> Packet<A>
         ensures { result ≡ record { number = number; messages = [] } }
     {
-        Packet::of_spans(number, Vec::new(alloc), Vec::new(alloc))
+        Packet::of_spans(number, Vec::new(alloc), Spans::new())
+    }
+
+    /// Adds a message of these entries behind the others.
+    ///
+    /// # Errors
+    ///
+    /// Memory ran out. Then the packet is as before.
+    pub fn push(&mut self, entries: &[Entry], end: bool) -> Result<(), Memory>
+        requires { length entries.now ≤ 255 }
+        ensures ok { OnOk result (self.new ≡ packet_with (record { entries = entries.now; end = end }) self.old) }
+        ensures err { OnErr result (self.new ≡ self.old) }
+    {
+        let alloc = *self.entries.allocator();
+        let start = self.entries.len();
+        let count = entries.len() as u8;
+        self.entries.extend_from_slice(entries)?;
+        self.spans.push(alloc, Span { start, count, end })?;
+        Ok(())
     }
 
     /// Makes an equal packet, or answers want of memory.
@@ -153,7 +148,7 @@ impl<A: Allocator + Copy> Packet<A> {
         ensures { IfOk result (λ p. p ≡ self.now) }
     {
         let entries = Vec::from_slice(alloc, self.entries.as_slice())?;
-        let spans = Vec::from_slice(alloc, self.spans.as_slice())?;
+        let spans = Spans::from_slice(alloc, self.spans.as_slice())?;
         Ok(Packet {
             number: self.number,
             entries,

@@ -11,15 +11,15 @@ pub returns-in_err-span-clause-refused : goal.returns-in_err-span-clause-refused
 returns-in_err-span-clause-refused g c =
     let p = err_from_is_err_and c.from_residual-in_err-span.result c.from_residual-in_err-span.ensures.1 in
     let begins = IfOk-at_ok (λ (m : lent.Message). BeginsMessage c.loop-next.cursor (parts m) c.next.new.self) c.in_ok-message.was c.in-Some.ensures.ok in
-    rw (p.1, p.2) (refused_message IsIncremental IsRefusedIncremental c.args.rest.now (messages_at c.loop-next.entries.items c.loop-next.spans.items) c.loop-next.cursor (parts c.in_ok-message.message) c.next.new.self c.in_err-span.field-0.0 c.loop-next.invariant.read begins c.in_err-span.ensures.refused)
+    rw (p.1, p.2) (refused_message IsIncremental IsRefusedIncremental c.args.rest.now (messages_at c.loop-next.entries.items c.loop-next.spans) c.loop-next.cursor (parts c.in_ok-message.message) c.next.new.self c.in_err-span.field-0.0 c.loop-next.invariant.read begins c.in_err-span.ensures.refused)
 
 pub loop-next-preserved : goal.loop-next-preserved
 loop-next-preserved g c =
     let old = c.loop-next.entries.items in
     let new = c.read_message.new.entries.items in
-    let spans = c.loop-next.spans.items in
+    let spans = c.loop-next.spans in
     let begins = IfOk-at_ok (λ (m : lent.Message). BeginsMessage c.loop-next.cursor (parts m) c.next.new.self) c.in_ok-message.was c.in-Some.ensures.ok in
-    rw c.in_ok-push.ensures.items (record {
+    rw c.in_ok-push.ensures.ok (record {
       within = within-read (IsIncremental (parts c.in_ok-message.message)) old new spans c.in_ok-span.span c.loop-next.invariant.within c.in_ok-span.ensures.ok;
       read = messages-read IsIncremental c.args.rest.now old new spans c.in_ok-span.span c.loop-next.cursor (parts c.in_ok-message.message) c.next.new.self c.loop-next.invariant.within c.loop-next.invariant.read begins c.in_ok-span.ensures.ok;
     })

@@ -7,8 +7,8 @@ use Rattle.mdp_templates.proofs.incremental.read_messages.Given as goal
 -- the messages read so far stand before what is left
 abbrev pub invariant-loop-next : goal.invariant-loop-next
 invariant-loop-next g l = record {
-  within : AreWithin (length l.entries.items) l.spans.items;
-  read : AreMessages IsIncremental l.rest (messages_at l.entries.items l.spans.items) l.cursor;
+  within : AreWithin (length l.entries.items) l.spans;
+  read : AreMessages IsIncremental l.rest (messages_at l.entries.items l.spans) l.cursor;
 }
 
 abbrev pub decreases-loop-next : goal.decreases-loop-next
