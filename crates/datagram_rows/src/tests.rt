@@ -1,6 +1,6 @@
 //! Readers and copies with each allocation refused in turn, and with none.
 
-use mdp_templates::{Fault, Packet, Snapshot, read_packet, read_snapshots};
+use mdp_templates::{Fault, Memory, Packet, Snapshot, read_packet, read_snapshots};
 use refusing::Refusing;
 use std::alloc::Global;
 use std::process::Abort;
@@ -54,7 +54,40 @@ fn a_packet_is_read_and_copied_unless_memory_is_refused(rt: HostRuntime) -> Resu
             }
         }
     }
-    assert!(rt; refused >= 4);
+    assert!(rt; refused >= 2);
+    Ok(())
+}
+
+// A copy of a packet of four messages without entries, the last of which ends the event; it takes memory to say where four lie.
+fn four_messages(heap: &Refusing<Global>) -> Result<Packet<&Refusing<Global>>, Memory> {
+    let mut packet = Packet::new(heap, 1);
+    packet.push(&[], false)?;
+    packet.push(&[], false)?;
+    packet.push(&[], false)?;
+    packet.push(&[], true)?;
+    packet.copy(heap)
+}
+
+#[test]
+fn four_messages_are_held_and_copied_unless_memory_is_refused(rt: HostRuntime) -> Result<(), Fail> {
+    let mut refused = 0u64;
+    for number in 1..100u64 {
+        let heap = Refusing::new(rt.alloc(), number);
+        match four_messages(&heap) {
+            Ok(copy) => {
+                assert!(rt; !heap.has_refused());
+                assert_eq!(rt; copy.len(), 4);
+                assert!(rt; !copy.message(2).is_end());
+                assert!(rt; copy.message(3).is_end());
+                break;
+            }
+            Err(Memory) => {
+                assert!(rt; heap.has_refused());
+                refused = number;
+            }
+        }
+    }
+    assert!(rt; refused >= 2);
     Ok(())
 }
 
