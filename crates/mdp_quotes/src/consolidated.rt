@@ -51,8 +51,8 @@ fn first(totals: &[Total]) -> Option<Total>
 impl Consolidated {
     ghost use Rattle.mdp_quotes.specs.Consolidation.{quotes_of, consolidation_of, IsConsolidationOf};
 
-    // Adds up the four sides of a good book.
-    fn of_sides(sides: &Sides) -> Consolidated
+    /// Adds up the four sides of a good book.
+    pub fn of_sides(sides: &Sides) -> Consolidated
         ensures { result ≡ quotes_of sides.now }
     {
         Consolidated {

@@ -1,6 +1,6 @@
 //! Totals by price, the best first.
 
-ghost use Rattle.std.specs.Prelude.{◌≡◌, ◌<◌, ◌≤◌, length, slice_get, slice_set, slice_index_or};
+ghost use Rattle.std.specs.Prelude.{◌≡◌, ◌<◌, ◌≤◌, ◌++◌, ◌∷◌, [], true, length, take, slice_get, slice_set, slice_index_or};
 ghost use Rattle.std.specs.List.{prefix_len};
 ghost use Rattle.mdp_books.specs.Side.{HaveSizes};
 ghost use Rattle.mdp_quotes.specs.Order.{is_ahead, AreInOrder};
@@ -50,16 +50,14 @@ fn is_before(total: &Total, way: Way, level: &Level) -> bool
     way.is_ahead(total.price, level.price)
 }
 
-// Tells how many totals have a better price than a level. The search begins at the worst, since the levels of a side
-// mostly come in order.
+// Tells how many totals have a better price than a level.
 fn place_of(totals: &[Total], way: Way, level: &Level) -> usize
-    requires { AreInOrder way totals.now }
     ensures place { result ≡ prefix_len (is_before way level.now) totals.now }
     ensures inside { result ≤ length totals.now }
 {
-    let mut at = totals.len();
-    while at > 0 && !is_before(&totals[at - 1], way, level) {
-        at -= 1;
+    let mut at = 0;
+    while at < totals.len() && is_before(&totals[at], way, level) {
+        at += 1;
     }
     at
 }
@@ -120,8 +118,33 @@ fn enter(totals: &mut ArrayVec<Total, MOST_LEVELS>, way: Way, level: &Level)
     }
 }
 
-/// Adds the size of each level at its price.
-pub fn enter_all(totals: &mut ArrayVec<Total, MOST_LEVELS>, way: Way, levels: &[Level])
+// Tells whether all totals have a better price than a level, which the last of them tells.
+#[inline]
+fn is_last(totals: &[Total], way: Way, level: &Level) -> bool
+    requires { AreInOrder way totals.now }
+    ensures { result ≡ true → with_level way level.now totals.now ≡ totals.now ++ total_of level.now ∷ [] }
+{
+    let count = totals.len();
+    count == 0 || is_before(&totals[count - 1], way, level)
+}
+
+// Puts levels behind the totals as long as each is the last, and tells how many. The levels of a side mostly come in order.
+fn append(totals: &mut ArrayVec<Total, MOST_LEVELS>, way: Way, levels: &[Level]) -> usize
+    requires sizes { HaveSizes levels.now }
+    requires room { HasRoom way (length levels.now) totals.old.items }
+    ensures inside { result ≤ length levels.now }
+    ensures totals { totals.new.items ≡ with_levels way (take result levels.now) totals.old.items }
+{
+    let mut count = 0;
+    while count < levels.len() && is_last(totals.as_slice(), way, &levels[count]) {
+        totals.push(total_of(&levels[count]));
+        count += 1;
+    }
+    count
+}
+
+// Adds the size of each level at its price, wherever that is.
+fn enter_each(totals: &mut ArrayVec<Total, MOST_LEVELS>, way: Way, levels: &[Level])
     requires sizes { HaveSizes levels.now }
     requires room { HasRoom way (length levels.now) totals.old.items }
     ensures { totals.new.items ≡ with_levels way levels.now totals.old.items }
@@ -129,4 +152,14 @@ pub fn enter_all(totals: &mut ArrayVec<Total, MOST_LEVELS>, way: Way, levels: &[
     for level in levels {
         enter(totals, way, level);
     }
+}
+
+/// Adds the size of each level at its price.
+pub fn enter_all(totals: &mut ArrayVec<Total, MOST_LEVELS>, way: Way, levels: &[Level])
+    requires sizes { HaveSizes levels.now }
+    requires room { HasRoom way (length levels.now) totals.old.items }
+    ensures { totals.new.items ≡ with_levels way levels.now totals.old.items }
+{
+    let count = append(totals, way, levels);
+    enter_each(totals, way, &levels[count..]);
 }
