@@ -1,10 +1,10 @@
 //! The lines of good books.
 
-ghost use Rattle.std.specs.Prelude.{◌≡◌, ◌+◌, ◌<◌, ◌≤◌, ◌++◌, length, codes, vec_len, vec_capacity, OnOk, OnErr};
+ghost use Rattle.std.specs.Prelude.{◌≡◌, ◌+◌, ◌<◌, ◌≤◌, ◌++◌, ◌∷◌, length, codes, vec_len, vec_capacity, OnOk, OnErr};
 ghost use Rattle.mdp_print.specs.Texts.{direct_line, implied_line, consolidated_line, totals_text};
 ghost use Rattle.mdp_print.specs.Pieces.{BeginsWith, head_text};
 
-use crate::pieces::{put, put_event, put_side, settle};
+use crate::pieces::{put_byte, put_event, put_letter, put_side, settle};
 use crate::totals::put_totals;
 use mdp_books::Sides;
 use mdp_quotes::Total;
@@ -27,25 +27,25 @@ fn put_sides<A: Allocator>(
     ensures full { OnErr result (vec_capacity out.old < vec_len out.old + length (head_text letter packet message name.now ++ codes " B" ++ bids.now ++ codes " O" ++ offers.now ++ codes "\n")) }
 {
     put_event(out, letter, packet, message, name)?;
-    put_side(out, b" B", bids)?;
-    put_side(out, b" O", offers)?;
-    put(out, b"\n")
+    put_side(out, b'B', bids)?;
+    put_side(out, b'O', offers)?;
+    put_byte(out, b'\n')
 }
 
 // Appends the letter of a side, with a space before it, and the texts of totals.
 fn put_total_side<A: Allocator>(
     out: &mut Vec<u8, A>,
-    word: &[u8],
+    letter: u8,
     totals: &[Total],
     direct: &PrintedLevels<DIRECT_DEPTH>,
 ) -> Result<(), Memory>
-    ensures ok { OnOk result (out.new.items ≡ out.old.items ++ (word.now ++ totals_text totals.now)) }
+    ensures ok { OnOk result (out.new.items ≡ out.old.items ++ (32 ∷ letter ∷ totals_text totals.now)) }
     ensures err { OnErr result (BeginsWith out.new.items out.old.items) }
-    ensures len { OnOk result (vec_len out.new ≡ vec_len out.old + length (word.now ++ totals_text totals.now)) }
+    ensures len { OnOk result (vec_len out.new ≡ vec_len out.old + length (32 ∷ letter ∷ totals_text totals.now)) }
     ensures room { vec_capacity out.old ≤ vec_capacity out.new }
-    ensures full { OnErr result (vec_capacity out.old < vec_len out.old + length (word.now ++ totals_text totals.now)) }
+    ensures full { OnErr result (vec_capacity out.old < vec_len out.old + length (32 ∷ letter ∷ totals_text totals.now)) }
 {
-    put(out, word)?;
+    put_letter(out, letter)?;
     put_totals(out, totals, direct)
 }
 
@@ -65,9 +65,9 @@ fn put_total_sides<A: Allocator>(
     ensures full { OnErr result (vec_capacity out.old < vec_len out.old + length (consolidated_line packet message name.now bids.now offers.now)) }
 {
     put_event(out, b'C', packet, message, name)?;
-    put_total_side(out, b" B", bids, sides.bids.printed())?;
-    put_total_side(out, b" O", offers, sides.offers.printed())?;
-    put(out, b"\n")
+    put_total_side(out, b'B', bids, sides.bids.printed())?;
+    put_total_side(out, b'O', offers, sides.offers.printed())?;
+    put_byte(out, b'\n')
 }
 
 /// Appends the `D` line of a book's direct sides by position, where message `message` of packet
