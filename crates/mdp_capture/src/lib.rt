@@ -9,6 +9,8 @@ mod fault;
 mod field;
 mod laws;
 mod line;
+mod over_threads;
+mod part;
 mod reader;
 mod reading;
 mod record;
