@@ -9,4 +9,3 @@ pub mod Draft
 pub mod Repeats
 pub mod Reading
 pub mod Lines
-pub mod Part

@@ -9,8 +9,6 @@ mod fault;
 mod field;
 mod laws;
 mod line;
-mod over_threads;
-mod part;
 mod reader;
 mod reading;
 mod record;
