@@ -7,8 +7,8 @@ ghost use Rattle.mdp_print.specs.Texts.{consolidated_line};
 ghost use Rattle.mdp_desks.specs.Lines.{book_lines};
 
 use mdp_books::{Book, Sides};
-use mdp_print::{put_consolidated, put_direct, put_fault, put_implied};
-use mdp_quotes::{Consolidated, Live, TopOfBook};
+use mdp_print::{put_consolidated, put_direct, put_fault, put_implied, put_merged};
+use mdp_quotes::{Consolidated, Live, TopOfBook, are_in_order, merged_top};
 use mdp_templates::Memory;
 use std::alloc::Allocator;
 
@@ -23,16 +23,12 @@ fn put_totals<A: Allocator>(
     ensures line { OnOk result (out.new.items ≡ out.old.items ++ consolidated_line packet message name.now (quotes_of sides.now).bids (quotes_of sides.now).offers) }
     ensures top { IfOk result (λ top. top ≡ top_of_quotes (quotes_of sides.now)) }
 {
+    if are_in_order(sides) {
+        put_merged(out, packet, message, name, sides)?;
+        return Ok(merged_top(sides));
+    }
     let quotes = Consolidated::of_sides(sides);
-    put_consolidated(
-        out,
-        packet,
-        message,
-        name,
-        quotes.bids(),
-        quotes.offers(),
-        sides,
-    )?;
+    put_consolidated(out, packet, message, name, quotes.bids(), quotes.offers())?;
     Ok(quotes.top())
 }
 

@@ -1,15 +1,16 @@
 //! The lines of good books.
 
 ghost use Rattle.std.specs.Prelude.{◌≡◌, ◌+◌, ◌<◌, ◌≤◌, ◌++◌, ◌∷◌, length, codes, vec_len, vec_capacity, OnOk, OnErr};
+ghost use Rattle.mdp_quotes.specs.Merged.{merged, merged_quotes};
 ghost use Rattle.mdp_print.specs.Texts.{direct_line, implied_line, consolidated_line, totals_text};
 ghost use Rattle.mdp_print.specs.Pieces.{BeginsWith, head_text};
 
+use crate::merged::put_merged_levels;
 use crate::pieces::{put_byte, put_event, put_letter, put_side, settle};
 use crate::totals::put_totals;
-use mdp_books::Sides;
-use mdp_quotes::Total;
-use mdp_templates::{DIRECT_DEPTH, Memory};
-use mdp_text::PrintedLevels;
+use mdp_books::{Side, Sides};
+use mdp_quotes::{Total, Way};
+use mdp_templates::{DIRECT_DEPTH, IMPLIED_DEPTH, Memory};
 use std::alloc::Allocator;
 
 // Appends the line of the texts of two sides under a letter.
@@ -37,7 +38,6 @@ fn put_total_side<A: Allocator>(
     out: &mut Vec<u8, A>,
     letter: u8,
     totals: &[Total],
-    direct: &PrintedLevels<DIRECT_DEPTH>,
 ) -> Result<(), Memory>
     ensures ok { OnOk result (out.new.items ≡ out.old.items ++ (32 ∷ letter ∷ totals_text totals.now)) }
     ensures err { OnErr result (BeginsWith out.new.items out.old.items) }
@@ -46,7 +46,7 @@ fn put_total_side<A: Allocator>(
     ensures full { OnErr result (vec_capacity out.old < vec_len out.old + length (32 ∷ letter ∷ totals_text totals.now)) }
 {
     put_letter(out, letter)?;
-    put_totals(out, totals, direct)
+    put_totals(out, totals)
 }
 
 // Appends the line of the totals of two sides.
@@ -58,15 +58,51 @@ fn put_total_sides<A: Allocator>(
     name: &[u8],
     bids: &[Total],
     offers: &[Total],
-    sides: &Sides,
 ) -> Result<(), Memory>
     ensures ok { OnOk result (out.new.items ≡ out.old.items ++ consolidated_line packet message name.now bids.now offers.now) }
     ensures err { OnErr result (BeginsWith out.new.items out.old.items) }
     ensures full { OnErr result (vec_capacity out.old < vec_len out.old + length (consolidated_line packet message name.now bids.now offers.now)) }
 {
     put_event(out, b'C', packet, message, name)?;
-    put_total_side(out, b'B', bids, sides.bids.printed())?;
-    put_total_side(out, b'O', offers, sides.offers.printed())?;
+    put_total_side(out, b'B', bids)?;
+    put_total_side(out, b'O', offers)?;
+    put_byte(out, b'\n')
+}
+
+// Appends the letter of a side, with a space before it, and the texts of the totals of a side that is in order.
+fn put_merged_side<A: Allocator>(
+    out: &mut Vec<u8, A>,
+    letter: u8,
+    way: Way,
+    direct: &Side<DIRECT_DEPTH>,
+    implied: &Side<IMPLIED_DEPTH>,
+) -> Result<(), Memory>
+    ensures ok { OnOk result (out.new.items ≡ out.old.items ++ (32 ∷ letter ∷ totals_text (merged way direct.now.levels implied.now.levels))) }
+    ensures err { OnErr result (BeginsWith out.new.items out.old.items) }
+    ensures len { OnOk result (vec_len out.new ≡ vec_len out.old + length (32 ∷ letter ∷ totals_text (merged way direct.now.levels implied.now.levels))) }
+    ensures room { vec_capacity out.old ≤ vec_capacity out.new }
+    ensures full { OnErr result (vec_capacity out.old < vec_len out.old + length (32 ∷ letter ∷ totals_text (merged way direct.now.levels implied.now.levels))) }
+{
+    put_letter(out, letter)?;
+    put_merged_levels(out, way, direct.printed(), implied.levels())
+}
+
+// Appends the line of the totals of two sides that are in order.
+#[tactic(auto, unfolding(crate::specs::Texts::consolidated_line))]
+fn put_merged_sides<A: Allocator>(
+    out: &mut Vec<u8, A>,
+    packet: u32,
+    message: u64,
+    name: &[u8],
+    sides: &Sides,
+) -> Result<(), Memory>
+    ensures ok { OnOk result (out.new.items ≡ out.old.items ++ consolidated_line packet message name.now (merged_quotes sides.now).bids (merged_quotes sides.now).offers) }
+    ensures err { OnErr result (BeginsWith out.new.items out.old.items) }
+    ensures full { OnErr result (vec_capacity out.old < vec_len out.old + length (consolidated_line packet message name.now (merged_quotes sides.now).bids (merged_quotes sides.now).offers)) }
+{
+    put_event(out, b'C', packet, message, name)?;
+    put_merged_side(out, b'B', Way::Falling, &sides.bids, &sides.implied_bids)?;
+    put_merged_side(out, b'O', Way::Rising, &sides.offers, &sides.implied_offers)?;
     put_byte(out, b'\n')
 }
 
@@ -113,9 +149,7 @@ pub fn put_implied<A: Allocator>(
 }
 
 /// Appends the `C` line of a book's consolidated sides, from the best price on, as [`put_direct`] does
-/// of its direct ones. `sides` is the book that was added up: the text of a total that is one of its direct levels
-/// is copied from there. The line is that of the totals whatever `sides` holds.
-#[tactic(auto, unfolding(crate::specs::Texts::consolidated_line))]
+/// of its direct ones.
 pub fn put_consolidated<A: Allocator>(
     out: &mut Vec<u8, A>,
     packet: u32,
@@ -123,13 +157,30 @@ pub fn put_consolidated<A: Allocator>(
     name: &[u8],
     bids: &[Total],
     offers: &[Total],
-    sides: &Sides,
 ) -> Result<(), Memory>
     ensures ok { OnOk result (out.new.items ≡ out.old.items ++ consolidated_line packet message name.now bids.now offers.now) }
     ensures err { OnErr result (out.new.items ≡ out.old.items) }
     ensures full { OnErr result (vec_capacity out.old < vec_len out.old + length (consolidated_line packet message name.now bids.now offers.now)) }
 {
     let start = out.len();
-    let outcome = put_total_sides(out, packet, message, name, bids, offers, sides);
+    let outcome = put_total_sides(out, packet, message, name, bids, offers);
+    settle(out, start, outcome)
+}
+
+/// Appends the `C` line of a book whose sides are in order, as [`put_consolidated`] does of totals that were added up. The text
+/// of direct levels is copied from their sides.
+pub fn put_merged<A: Allocator>(
+    out: &mut Vec<u8, A>,
+    packet: u32,
+    message: u64,
+    name: &[u8],
+    sides: &Sides,
+) -> Result<(), Memory>
+    ensures ok { OnOk result (out.new.items ≡ out.old.items ++ consolidated_line packet message name.now (merged_quotes sides.now).bids (merged_quotes sides.now).offers) }
+    ensures err { OnErr result (out.new.items ≡ out.old.items) }
+    ensures full { OnErr result (vec_capacity out.old < vec_len out.old + length (consolidated_line packet message name.now (merged_quotes sides.now).bids (merged_quotes sides.now).offers)) }
+{
+    let start = out.len();
+    let outcome = put_merged_sides(out, packet, message, name, sides);
     settle(out, start, outcome)
 }

@@ -7,6 +7,7 @@
 
 mod book_lines;
 mod counting;
+mod merged;
 mod pieces;
 mod status_lines;
 mod taken;
@@ -16,7 +17,7 @@ mod totals;
 mod verdict_lines;
 mod writing;
 
-pub use book_lines::{put_consolidated, put_direct, put_implied};
+pub use book_lines::{put_consolidated, put_direct, put_implied, put_merged};
 pub use counting::Counting;
 pub use mdp_text::{ShortText, TextFromEnd};
 pub use status_lines::{put_fault, put_jump, put_last, put_refusal};

@@ -4,7 +4,7 @@ ghost use Rattle.std.specs.Prelude.{◌≤◌, length};
 
 use crate::{
     CountedWrite, Counting, put_audit, put_consolidated, put_direct, put_fault, put_implied,
-    put_jump, put_last, put_refusal, write_all_counted,
+    put_jump, put_last, put_merged, put_refusal, write_all_counted,
 };
 use mdp_books::{Place, Side, Sides};
 use mdp_quotes::{Total, Verdict};
@@ -59,7 +59,7 @@ fn prints_direct_sides(rt: HostRuntime) -> Result<(), Fail> {
     let both = with_direct(&bids, &offers);
     assert!(rt; put_direct(&mut out, 7, 3, b"ESM6", &both).is_ok());
     let none = with_direct(&[], &[]);
-    assert!(rt; put_direct(&mut out, u32::MAX, u64::MAX, b"", &none).is_ok());
+    assert!(rt; put_direct(&mut out, u32::MAX, u64::MAX, b"").is_ok());
     let one = with_direct(&[], &offers[..1]);
     assert!(rt; put_direct(&mut out, 1, 1, b"NEAR", &one).is_ok());
     let lines =
@@ -85,9 +85,8 @@ fn prints_consolidated_sides(rt: HostRuntime) -> Result<(), Fail> {
     let mut out = Vec::new(rt.alloc());
     let bids = [total(10, 4_294_967_294), total(-10, i64::MAX)];
     let offers = [total(i64::MAX, i64::MIN)];
-    let none = with_direct(&[], &[]);
-    assert!(rt; put_consolidated(&mut out, 1, 2, b"N-F", &bids, &offers, &none).is_ok());
-    assert!(rt; put_consolidated(&mut out, 1, 2, b"N-F", &[], &[], &none).is_ok());
+    assert!(rt; put_consolidated(&mut out, 1, 2, b"N-F", &bids, &offers).is_ok());
+    assert!(rt; put_consolidated(&mut out, 1, 2, b"N-F", &[], &[]).is_ok());
     let lines =
         b"C 1.2 N-F B 10x4294967294 -10x9223372036854775807 O 9223372036854775807x-9223372036854775808\nC 1.2 N-F B O\n";
     assert_eq!(rt; out.as_slice(), &lines[..]);
@@ -95,25 +94,29 @@ fn prints_consolidated_sides(rt: HostRuntime) -> Result<(), Fail> {
 }
 
 #[test]
-fn copies_the_totals_that_are_levels(rt: HostRuntime) -> Result<(), Fail> {
+fn merges_sides_in_order(rt: HostRuntime) -> Result<(), Fail> {
     let mut out = Vec::new(rt.alloc());
-    // an implied bid before all, one at the price of 98, and one between two levels
-    let levels = [level(99, 1), level(98, 2), level(97, 3), level(95, 4)];
-    let bids = [
-        total(100, 7),
-        total(99, 1),
-        total(98, 12),
-        total(97, 3),
-        total(96, 8),
-        total(95, 4),
-    ];
-    // levels out of order, and one price twice
-    let crossed = [level(5, 1), level(3, 2), level(5, 6)];
-    let offers = [total(3, 2), total(5, 7)];
-    let sides = with_direct(&levels, &crossed);
-    assert!(rt; put_consolidated(&mut out, 1, 2, b"N", &bids, &offers, &sides).is_ok());
-    let line = b"C 1.2 N B 100x7 99x1 98x12 97x3 96x8 95x4 O 3x2 5x7\n";
-    assert_eq!(rt; out.as_slice(), &line[..]);
+    // implied bids before all others and at the price of 98; implied offers between two levels and behind all
+    let sides = Sides {
+        bids: Side::from_levels(10, &[level(99, 1), level(98, 2), level(97, 3)]),
+        offers: Side::from_levels(10, &[level(101, 4), level(103, i32::MAX)]),
+        implied_bids: Side::from_levels(2, &[level(100, 7), level(98, 10)]),
+        implied_offers: Side::from_levels(2, &[level(102, 8), level(104, 9)]),
+    };
+    assert!(rt; put_merged(&mut out, 1, 2, b"N", &sides).is_ok());
+    // one side empty, both levels of the other at one implied price each
+    let offers = [level(-5, i32::MAX), level(6, 0)];
+    let alike = Sides {
+        bids: Side::new(10),
+        offers: Side::from_levels(10, &offers),
+        implied_bids: Side::from_levels(2, &[level(9, 1), level(8, 2)]),
+        implied_offers: Side::from_levels(2, &offers),
+    };
+    assert!(rt; put_merged(&mut out, 1, 2, b"N", &alike).is_ok());
+    assert!(rt; put_merged(&mut out, 1, 2, b"N", &with_direct(&[], &[])).is_ok());
+    let lines =
+        b"C 1.2 N B 100x7 99x1 98x12 97x3 O 101x4 102x8 103x2147483647 104x9\nC 1.2 N B 9x1 8x2 O -5x4294967294 6x0\nC 1.2 N B O\n";
+    assert_eq!(rt; out.as_slice(), &lines[..]);
     Ok(())
 }
 
@@ -302,7 +305,7 @@ fn put_line<A: Allocator>(out: &mut Vec<u8, A>, kind: usize) -> Result<(), Memor
     match kind {
         0 => put_direct(out, u32::MAX, u64::MAX, b"NEAR", &direct),
         1 => put_implied(out, 1, 2, b"NEAR", &with_implied(&levels, &[])),
-        2 => put_consolidated(out, 1, 2, b"NEAR", &totals, &totals, &direct),
+        2 => put_consolidated(out, 1, 2, b"NEAR", &totals, &totals),
         3 => put_fault(out, 1, 2, b"A NAME OF 20 LETTERS", &place),
         4 => put_audit(
             out,

@@ -6,6 +6,7 @@ mod best;
 mod consolidated;
 mod laws;
 mod live;
+mod merged;
 #[cfg(test)]
 mod tests;
 mod top;
@@ -16,6 +17,7 @@ pub use best::Best;
 pub use consolidated::Consolidated;
 pub use laws::{consolidation_is_computed, one_consolidation};
 pub use live::Live;
+pub use merged::{Standing, are_in_order, merged_top, standing_of};
 pub use top::TopOfBook;
 pub use total::{Total, Way};
 pub use verdict::{Implied, Verdict, audit};

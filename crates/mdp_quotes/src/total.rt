@@ -72,8 +72,8 @@ fn has_price(totals: &[Total], at: usize, level: &Level) -> bool
     }
 }
 
-// Makes a level alone at its price.
-fn total_of(level: &Level) -> Total
+/// Makes a level alone at its price.
+pub(crate) fn total_of(level: &Level) -> Total
     ensures { result ≡ total_of level.now }
 {
     Total {
