@@ -1,5 +1,6 @@
 pub mod Marks
 pub mod Hearing
+pub mod Searching
 pub mod Passing
 pub mod Showing
 pub mod Moments

@@ -1,15 +1,15 @@
 -- A desk that isn't marked has no lines at an event end, and is as it was behind it.
-use Rattle.std.proofs.Common.{◌≡◌, ◌<◌, ◌≤◌, ℕ, zero, suc, ◌+◌, Bool, true, false, List, [], ◌∷◌, ◌++◌, length, map, take, drop, get_or, set, replicate, Option, Some, None, refl, sym, ap, subst, ◌∙◌, arith}
+use Rattle.std.proofs.Common.{◌≡◌, ◌<◌, ◌≤◌, ℕ, zero, suc, ◌+◌, Bool, true, false, List, [], ◌∷◌, ◌++◌, length, map, take, drop, get_or, set, replicate, Option, Some, None, refl, sym, ap, subst, ◌∙◌, arith, append-nil, append_assoc}
 use Rattle.std.specs.List.{flat_map}
 use Rattle.std.specs.Prelude.{nat_lt, All}
 use Rattle.std.proofs.Math.Seq.{map-set_same}
-use Rattle.std.proofs.lemmas.List.{map-set, get_or-map, length-map}
+use Rattle.std.proofs.lemmas.List.{map-set, get_or-map, length-map, at_drop_more, drop_all, take_all}
 use Rattle.mdp_templates.specs.Snapshot.{SnapshotContent}
 use Rattle.mdp_templates.specs.declared.instrument.Instrument.{Instrument}
 use Rattle.mdp_desks.specs.declared.desk.Desk.{Desk}
 use Rattle.mdp_desks.specs.Lines.{text_of}
 use Rattle.mdp_desks.specs.Desks.{desk_at_start, desk_settled, desk_standing, desk_jumped, rebased_desks}
-use Rattle.mdp_desks.specs.Beside.{listed_in, marks_of}
+use Rattle.mdp_desks.specs.Beside.{AreClear, listed_in, marks_of}
 use Rattle.mdp_templates.specs.Instrument.{HasDepth}
 
 -- ---- one desk
@@ -40,20 +40,40 @@ lines_from k j (d ∷ ds) (suc n) none =
     lines_from k j ds n (λ i less. none (suc i) (omega (arith, less)))
     ∙ ap (λ (t : List ℕ). t ++ lines_in k j ds) (sym (no_lines k j d (none 0 (omega arith))))
 
-pub no_lines_from : (k j : ℕ) (ds : List Desk) (n : ℕ) → ((i : ℕ) → n ≤ i → get_or (marks_of ds) i false ≡ false) → lines_in k j (drop n ds) ≡ []
-no_lines_from k j [] zero none = refl
-no_lines_from k j [] (suc n) none = refl
-no_lines_from k j (d ∷ ds) zero none =
-    ap (λ (t : List ℕ). t ++ lines_in k j ds) (no_lines k j d (none 0 (omega arith)))
-    ∙ no_lines_from k j ds zero (λ i from. none (suc i) (omega arith))
-no_lines_from k j (d ∷ ds) (suc n) none = no_lines_from k j ds n (λ i from. none (suc i) (omega (arith, from)))
+pub lines_between : (k j : ℕ) (ds : List Desk) (a b : ℕ) → a ≤ b → AreClear a b (marks_of ds) → lines_in k j (drop b ds) ≡ lines_in k j (drop a ds)
+lines_between k j ds zero b up clear = lines_from k j ds b (λ i less. clear i (omega arith) less)
+lines_between k j ds (suc a) zero up clear = absurd (omega (arith, up))
+lines_between k j [] (suc a) (suc b) up clear = refl
+lines_between k j (d ∷ ds) (suc a) (suc b) up clear = lines_between k j ds a b (omega (arith, up)) (λ i from less. clear (suc i) (omega (arith, from)) (omega (arith, less)))
+
+pub lines_next : (k j : ℕ) (ds : List Desk) (n : ℕ) (d : Desk) → n < length ds → lines_in k j (drop n ds) ≡ text_of k j (desk_standing k (get_or ds n d)) ++ lines_in k j (drop (n + 1) ds)
+lines_next k j ds n d less = at_drop_more (lines_in k j) ds n d less
+
+-- the desks that are passed over have no lines, and then those of the next come
+pub lines_more : (k j : ℕ) (ds : List Desk) (from n : ℕ) (d : Desk) (old new whole : List ℕ) → from ≤ n → n < length ds → AreClear from n (marks_of ds) → d ≡ get_or ds n d → new ≡ old ++ text_of k j (desk_standing k d)
+    → old ++ lines_in k j (drop from ds) ≡ whole → new ++ lines_in k j (drop (n + 1) ds) ≡ whole
+lines_more k j ds from n d old new whole up less clear at is before =
+    let text = text_of k j (desk_standing k d) in
+    let rest = lines_in k j (drop (n + 1) ds) in
+    let next : lines_in k j (drop n ds) ≡ text ++ rest = lines_next k j ds n d less ∙ ap (λ (x : Desk). text_of k j (desk_standing k x) ++ rest) (sym at) in
+    ap (λ (t : List ℕ). t ++ rest) is
+    ∙ append_assoc old text rest
+    ∙ ap (λ (t : List ℕ). old ++ t) (sym next ∙ lines_between k j ds from n up clear)
+    ∙ before
+
+-- none is left with lines
+pub lines_end : (k j : ℕ) (ds : List Desk) (from : ℕ) (text whole : List ℕ) → from ≤ length ds → AreClear from (length ds) (marks_of ds) → text ++ lines_in k j (drop from ds) ≡ whole → text ≡ whole
+lines_end k j ds from text whole up clear before =
+    let none : lines_in k j (drop from ds) ≡ [] = sym (lines_between k j ds from (length ds) up clear) ∙ ap (lines_in k j) (drop_all (length ds) ds (omega arith)) in
+    sym (append-nil text) ∙ ap (λ (t : List ℕ). text ++ t) (sym none) ∙ before
 
 -- ---- desks that are settled one after another
 
-abbrev pub settled_to : ℕ → ℕ → List Desk → List Desk
-settled_to k n ds = map (desk_settled k) (take n ds) ++ drop n ds
+-- the first desks as they are, and the others settled
+abbrev pub settled_behind : ℕ → ℕ → List Desk → List Desk
+settled_behind k n ds = take n ds ++ map (desk_settled k) (drop n ds)
 
-pub settled_from : (k : ℕ) (ds : List Desk) (n : ℕ) → ((i : ℕ) → i < n → get_or (marks_of ds) i false ≡ false) → ds ≡ settled_to k n ds
+settled_from : (k : ℕ) (ds : List Desk) (n : ℕ) → ((i : ℕ) → i < n → get_or (marks_of ds) i false ≡ false) → settled_behind k n ds ≡ map (desk_settled k) ds
 settled_from k ds zero none = refl
 settled_from k [] (suc n) none = refl
 settled_from k (d ∷ ds) (suc n) none =
@@ -61,14 +81,31 @@ settled_from k (d ∷ ds) (suc n) none =
     let others = settled_from k ds n (λ i less. none (suc i) (omega (arith, less))) in
     cc (first, others)
 
-pub all_settled_at : (k : ℕ) (ds : List Desk) (n : ℕ) → ((i : ℕ) → n ≤ i → get_or (marks_of ds) i false ≡ false) → settled_to k n ds ≡ map (desk_settled k) ds
-all_settled_at k [] zero none = refl
-all_settled_at k [] (suc n) none = refl
-all_settled_at k (d ∷ ds) zero none =
-    let first = sym (still k d (none 0 (omega arith))) in
-    let others = all_settled_at k ds zero (λ i from. none (suc i) (omega arith)) in
-    cc (first, others)
-all_settled_at k (d ∷ ds) (suc n) none = ap (λ (t : List Desk). desk_settled k d ∷ t) (all_settled_at k ds n (λ i from. none (suc i) (omega (arith, from))))
+pub settled_between : (k : ℕ) (ds : List Desk) (a b : ℕ) → a ≤ b → AreClear a b (marks_of ds) → settled_behind k b ds ≡ settled_behind k a ds
+settled_between k ds zero b up clear = settled_from k ds b (λ i less. clear i (omega arith) less)
+settled_between k ds (suc a) zero up clear = absurd (omega (arith, up))
+settled_between k [] (suc a) (suc b) up clear = refl
+settled_between k (d ∷ ds) (suc a) (suc b) up clear =
+    ap (λ (t : List Desk). d ∷ t) (settled_between k ds a b (omega (arith, up)) (λ i from less. clear (suc i) (omega (arith, from)) (omega (arith, less))))
+
+settled_next : (k : ℕ) (ds : List Desk) (n : ℕ) (here d : Desk) → n < length ds → here ≡ desk_settled k (get_or ds n d) → settled_behind k (suc n) (set ds n here) ≡ settled_behind k n ds
+settled_next k [] n here d less is = absurd (omega (arith, less))
+settled_next k (x ∷ ds) zero here d less is = ap (λ (t : Desk). t ∷ map (desk_settled k) ds) is
+settled_next k (x ∷ ds) (suc n) here d less is = ap (λ (t : List Desk). x ∷ t) (settled_next k ds n here d (omega (arith, less)) is)
+
+-- the desks that are passed over stay as they are, and the next is settled
+pub settled_more : (k : ℕ) (ds whole : List Desk) (from n : ℕ) (here d : Desk) → from ≤ n → n < length ds → AreClear from n (marks_of ds) → here ≡ desk_settled k (get_or ds n d)
+    → settled_behind k from ds ≡ whole → settled_behind k (n + 1) (set ds n here) ≡ whole
+settled_more k ds whole from n here d up less clear is before =
+    let one : suc n ≡ n + 1 = omega arith in
+    subst (λ (m : ℕ). settled_behind k m (set ds n here) ≡ whole) one (settled_next k ds n here d less is ∙ settled_between k ds from n up clear ∙ before)
+
+-- none is left to settle
+pub settled_end : (k : ℕ) (ds whole : List Desk) (from : ℕ) → from ≤ length ds → AreClear from (length ds) (marks_of ds) → settled_behind k from ds ≡ whole → ds ≡ whole
+settled_end k ds whole from up clear before =
+    let all : settled_behind k (length ds) ds ≡ ds =
+    ap (λ (t : List Desk). take (length ds) ds ++ map (desk_settled k) t) (drop_all (length ds) ds (omega arith)) ∙ append-nil (take (length ds) ds) ∙ take_all (length ds) ds (omega arith) in
+    sym all ∙ settled_between k ds from (length ds) up clear ∙ before
 
 -- ---- the start
 

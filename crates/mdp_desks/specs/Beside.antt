@@ -1,5 +1,5 @@
 -- What stands beside the desks: the ids of their securities, and their marks.
-use Rattle.std.specs.Prelude.{◌≡◌, ◌≢◌, ◌<◌, ◌≤◌, ℕ, ℤ, Bool, false, List, map, length, get_or, All}
+use Rattle.std.specs.Prelude.{◌≡◌, ◌≢◌, ◌<◌, ◌≤◌, ℕ, ℤ, Bool, true, false, ◌==◌, List, map, length, get_or, All}
 use Rattle.std.specs.List.{AllPairs}
 use Rattle.mdp_templates.specs.declared.instrument.Instrument.{Instrument}
 use Rattle.mdp_templates.specs.Instrument.{HasDepth}
@@ -13,6 +13,21 @@ listed_in desks = map (λ (d : Desk). d.instrument) desks
 -- the marks of the desks
 abbrev pub marks_of : List Desk → List Bool
 marks_of desks = map (λ (d : Desk). d.marked) desks
+
+-- the marks that bytes stand for: one is set where the byte is 1
+abbrev pub marks_in : List ℕ → List Bool
+marks_in bytes = map (λ (b : ℕ). b == 1) bytes
+
+-- no mark is set from `low` on and below `high`
+abbrev pub AreClear : ℕ → ℕ → List Bool → Type 0
+AreClear low high marks = (n : ℕ) → low ≤ n → n < high → get_or marks n false ≡ false
+
+-- of the marks from `low` on and below `high`, the first that is set stands at place `n`
+pub record IsFirstSet (low high n : ℕ) (marks : List Bool) : Type 0 where
+  pub behind : low ≤ n
+  pub inside : n < high
+  pub is_set : get_or marks n false ≡ true
+  pub before : AreClear low n marks
 
 -- every mark that is set stands from `low` on and below `high`
 pub record AreWithin (low high : ℕ) (marks : List Bool) : Type 0 where

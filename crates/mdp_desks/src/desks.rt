@@ -44,23 +44,6 @@ fn slot_named<A: Allocator + Copy>(slots: &Slots<A>, entry: &Entry) -> Option<us
     slots.slot_of(entry.security)
 }
 
-// Appends the lines of a desk, whose mark is this one; with none the desk isn't looked at.
-fn put_desk<A: Allocator>(
-    out: &mut Vec<u8, A>,
-    packet: u32,
-    message: u64,
-    desk: &Desk,
-    mark: bool,
-) -> Result<(), Memory>
-    requires { mark ≡ desk.now.marked }
-    ensures { OnOk result (out.new.items ≡ out.old.items ++ text_of packet message (desk_standing packet desk.now)) }
-{
-    if mark {
-        desk.put(out, packet, message)?;
-    }
-    Ok(())
-}
-
 // Appends the lines of the desks that are marked.
 fn put_marked<A: Allocator>(
     out: &mut Vec<u8, A>,
@@ -72,23 +55,12 @@ fn put_marked<A: Allocator>(
     requires { marked.now ≡ marks_of desks.now }
     ensures { OnOk result (out.new.items ≡ out.old.items ++ flat_map (text_of packet message) (map (desk_standing packet) desks.now)) }
 {
-    for n in marked.low()..marked.high() {
-        put_desk(out, packet, message, &desks[n], marked.is_set(n))?;
+    let mut from = 0;
+    while let Some(n) = marked.next_from(from) {
+        desks[n].put(out, packet, message)?;
+        from = n + 1;
     }
     Ok(())
-}
-
-// Forgets the mark of a desk where an event ended, and returns the mark that it has then.
-fn settle_desk(desk: &mut Desk, mark: bool, packet: u32) -> bool
-    requires { mark ≡ desk.old.marked }
-    ensures desk { desk.new ≡ desk_settled packet desk.old }
-    ensures mark { result ≡ desk.new.marked }
-{
-    if !mark {
-        return false;
-    }
-    desk.settle(packet);
-    desk.marked
 }
 
 // Forgets the marks where an event ended.
@@ -97,11 +69,12 @@ fn settle_all<A: Allocator>(desks: &mut [Desk], marked: &mut Marked<A>, packet: 
     ensures desks { desks.new ≡ map (desk_settled packet) desks.old }
     ensures marks { marked.new ≡ marks_of desks.new }
 {
-    for n in marked.low()..marked.high() {
-        let mark = settle_desk(&mut desks[n], marked.is_set(n), packet);
-        marked.put(n, mark);
+    let mut from = 0;
+    while let Some(n) = marked.next_from(from) {
+        desks[n].settle(packet);
+        marked.put(n, desks[n].marked);
+        from = n + 1;
     }
-    marked.narrow();
 }
 
 // Replaces each desk's book by the snapshot beside it, where there is one, and marks it.

@@ -1,41 +1,75 @@
 //! Which desks have lines due at the next event end, kept apart from the desks so that one scan is cheap.
 
-ghost use Rattle.std.specs.Prelude.{◌≡◌, ◌<◌, ◌≤◌, ℕ, IfOk, false, get_or, length, replicate, set};
+ghost use Rattle.std.specs.Prelude.{◌≡◌, ◌+◌, ◌<◌, ◌≤◌, IfOk, IfSome, IfNone, true, false, get_or, length, max, replicate, set};
+ghost use Rattle.mdp_desks.specs.Beside.{AreClear, IsFirstSet, marks_in};
 
 use mdp_templates::Memory;
+use memchr::memchr;
 use std::alloc::Allocator;
 use std::marker::Model;
 
-/// A mark for each desk, seen as their list. Those that are set stand from `low` on and below `high`.
+/// A mark for each of so many places, seen as their list. Those that are set stand from `low` on and below `high`.
 #[derive(Drop)]
 pub struct Marked<A: Allocator> {
-    marks: Vec<bool, A>,
+    // 1 where the mark is set, and 0 where it isn't
+    marks: Vec<u8, A>,
     low: usize,
     high: usize,
 }
 
 impl<A: Allocator> Model for Marked<A> {
     ghost use Rattle.std.specs.Prelude.{List, Bool};
-    ghost use Rattle.mdp_desks.specs.Beside.{AreWithin};
+    ghost use Rattle.mdp_desks.specs.Beside.{AreWithin, marks_in};
 
     ghost Value = { List Bool };
 
-    ghost view = { λ m. m.marks.items };
+    ghost view = { λ m. marks_in m.marks.items };
 
-    ghost invariant = { λ m. AreWithin m.low m.high m.marks.items };
+    ghost invariant = { λ m. AreWithin m.low m.high (marks_in m.marks.items) };
 }
 
-// Tells the place of the first mark that is set, from `low` on and below `high`; `high` where there is none.
-fn first_marked(marks: &[bool], low: usize, high: usize) -> usize
+// Finds the first mark that is set, from `low` on and below `high`.
+fn first_marked(marks: &[u8], low: usize, high: usize) -> Option<usize>
     requires { high ≤ length marks.now }
-    ensures { (n : ℕ) → low ≤ n → n < result → get_or marks.now n false ≡ false }
+    ensures some { IfSome result (λ n. IsFirstSet low high n (marks_in marks.now)) }
+    ensures none { IfNone result (AreClear low high (marks_in marks.now)) }
 {
-    for n in low..high {
-        if marks[n] {
-            return n;
-        }
+    if low >= high {
+        return None;
     }
-    high
+    if marks[low] == 1 {
+        return Some(low);
+    }
+    match memchr(1, &marks[low..high]) {
+        Some(n) => Some(low + n),
+        None => None,
+    }
+}
+
+// Tells a place below which no mark is set, where none is below `low` and all that are set stand below `high`.
+fn low_from(marks: &[u8], low: usize, high: usize) -> usize
+    requires { high ≤ length marks.now }
+    ensures short { result ≤ high }
+    ensures clear { AreClear low result (marks_in marks.now) }
+{
+    match first_marked(marks, low, high) {
+        Some(n) => n,
+        None => high,
+    }
+}
+
+// Widens the bounds of what is set, of which the lower one may be past the higher where none is, by a place.
+fn widened(low: usize, high: usize, slot: usize) -> (usize, usize)
+    requires { slot < 18446744073709551615 }
+    ensures low { result.0 ≤ slot }
+    ensures high { slot < result.1 }
+    ensures short { result.1 ≤ max high (slot + 1) }
+    ensures kept { low < high → (result.0 ≤ low) × (high ≤ result.1) }
+{
+    if low < high {
+        return (low.min(slot), high.max(slot + 1));
+    }
+    (slot, slot + 1)
 }
 
 impl<A: Allocator> Marked<A> {
@@ -44,7 +78,7 @@ impl<A: Allocator> Marked<A> {
         ensures { IfOk result (λ marked. marked ≡ replicate count false) }
     {
         Ok(Marked {
-            marks: vec![in alloc; false; count]?,
+            marks: vec![in alloc; 0; count]?,
             low: 0,
             high: 0,
         })
@@ -55,22 +89,37 @@ impl<A: Allocator> Marked<A> {
         requires { slot < length self.now }
         ensures { result ≡ get_or self.now slot false }
     {
-        self.marks[slot]
+        self.marks[slot] == 1
     }
 
-    /// Tells a place below which no mark is set.
-    pub fn low(&self) -> usize
-        ensures { (n : ℕ) → n < result → get_or self.now n false ≡ false }
+    /// Finds the first mark that is set, from a place on.
+    pub fn next_from(&self, from: usize) -> Option<usize>
+        ensures some { IfSome result (λ n. IsFirstSet from (length self.now) n self.now) }
+        ensures none { IfNone result (AreClear from (length self.now) self.now) }
     {
-        self.low
+        first_marked(&self.marks, from.max(self.low), self.high)
     }
 
-    /// Tells a place from which on no mark is set.
-    pub fn high(&self) -> usize
-        ensures short { result ≤ length self.now }
-        ensures behind { (n : ℕ) → result ≤ n → get_or self.now n false ≡ false }
+    // Sets the mark at a place.
+    fn set_at(&mut self, slot: usize)
+        requires { slot < length self.old }
+        ensures { self.new ≡ set self.old slot true }
     {
-        self.high
+        let (low, high) = widened(self.low, self.high, slot);
+        self.low = low;
+        self.high = high;
+        self.marks[slot] = 1;
+    }
+
+    // Takes away the mark at a place. Where it was the first, `low` goes on to the next.
+    fn clear_at(&mut self, slot: usize)
+        requires { slot < length self.old }
+        ensures { self.new ≡ set self.old slot false }
+    {
+        self.marks[slot] = 0;
+        if slot == self.low {
+            self.low = low_from(&self.marks, slot + 1, self.high);
+        }
     }
 
     /// Sets or takes away the mark at a place.
@@ -78,20 +127,10 @@ impl<A: Allocator> Marked<A> {
         requires { slot < length self.old }
         ensures { self.new ≡ set self.old slot mark }
     {
-        if self.low < self.high {
-            self.low = self.low.min(slot);
-            self.high = self.high.max(slot + 1);
+        if mark {
+            self.set_at(slot);
         } else {
-            self.low = slot;
-            self.high = slot + 1;
+            self.clear_at(slot);
         }
-        self.marks[slot] = mark;
-    }
-
-    /// Goes past the marks that are not set, so that `low` is near the first that is.
-    pub fn narrow(&mut self)
-        ensures { self.new ≡ self.old }
-    {
-        self.low = first_marked(&self.marks, self.low, self.high);
     }
 }

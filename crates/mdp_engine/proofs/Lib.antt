@@ -13,3 +13,4 @@ pub mod Collecting
 pub mod Ascending
 pub mod Batching
 pub mod Marking
+pub mod Noting

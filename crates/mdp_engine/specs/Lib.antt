@@ -2,6 +2,7 @@ pub mod Feed
 pub mod Owed
 pub mod Agreed
 pub mod Spreads
+pub mod Parts
 pub mod Honest
 pub mod Engine
 pub mod Steps

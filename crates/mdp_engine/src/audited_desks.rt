@@ -9,31 +9,35 @@ ghost use Rattle.mdp_desks.specs.Desks.{desk_at_start, desk_settled, desk_standi
 ghost use Rattle.mdp_desks.specs.Lines.{audit_text, lines_as};
 
 use crate::audits::put_audits;
+use crate::parts::{mark_spreads, parts_of};
 use crate::spreads::{Spread, spreads_of};
-use mdp_desks::Desks;
+use mdp_desks::{Desks, Marked};
 use mdp_print::put_jump;
 use mdp_templates::{Entry, Instrument, Memory, Message, Packet, Snapshot};
 use std::alloc::Allocator;
 use std::marker::Model;
 
-/// The desks of the listed securities and the places of the calendar spreads among them, seen as the list of desks.
+/// The desks of the listed securities and the places of the calendar spreads among them, seen as the list of desks. Between event
+/// ends no spread's mark in `due` is set.
 #[derive(Drop)]
 pub struct AuditedDesks<A: Allocator> {
     desks: Desks<A>,
     spreads: Vec<Spread, A>,
+    parts: Vec<Vec<usize, A>, A>,
+    due: Marked<A>,
 }
 
 impl<A: Allocator> Model for AuditedDesks<A> {
     ghost use Rattle.std.specs.Prelude.{List};
     ghost use Rattle.mdp_desks.specs.declared.desk.Desk.{Desk};
     ghost use Rattle.mdp_desks.specs.Beside.{listed_in};
-    ghost use Rattle.mdp_engine.specs.Spreads.{AreSpreadsOf};
+    ghost use Rattle.mdp_engine.specs.Parts.{AreAudited, lists_in};
 
     ghost Value = { List Desk };
 
     ghost view = { λ d. d.desks };
 
-    ghost invariant = { λ d. AreSpreadsOf (listed_in d.desks) d.spreads.items };
+    ghost invariant = { λ d. AreAudited (listed_in d.desks) d.spreads.items (lists_in d.parts.items) d.due };
 }
 
 impl<A: Allocator + Copy> AuditedDesks<A> {
@@ -44,7 +48,14 @@ impl<A: Allocator + Copy> AuditedDesks<A> {
     {
         let desks = Desks::new(alloc, instruments)?;
         let spreads = spreads_of(alloc, desks.slots(), instruments)?;
-        Ok(AuditedDesks { desks, spreads })
+        let parts = parts_of(alloc, instruments.len(), &spreads)?;
+        let due = Marked::none(alloc, spreads.len())?;
+        Ok(AuditedDesks {
+            desks,
+            spreads,
+            parts,
+            due,
+        })
     }
 
     // Takes the entries of a message.
@@ -56,9 +67,11 @@ impl<A: Allocator + Copy> AuditedDesks<A> {
     }
 
     // Appends the lines of the calendar spreads that an event end audits.
-    fn put_spreads(&self, out: &mut Vec<u8, A>, packet: u32, message: u64) -> Result<(), Memory>
-        ensures { OnOk result (out.new.items ≡ out.old.items ++ flat_map (audit_text packet message (map (desk_standing packet) self.now)) (map (desk_standing packet) self.now)) }
+    fn put_spreads(&mut self, out: &mut Vec<u8, A>, packet: u32, message: u64) -> Result<(), Memory>
+        ensures same { self.new ≡ self.old }
+        ensures text { OnOk result (out.new.items ≡ out.old.items ++ flat_map (audit_text packet message (map (desk_standing packet) self.old)) (map (desk_standing packet) self.old)) }
     {
+        mark_spreads(&mut self.due, self.desks.marked(), &self.parts);
         put_audits(
             out,
             packet,
@@ -66,13 +79,15 @@ impl<A: Allocator + Copy> AuditedDesks<A> {
             self.desks.as_slice(),
             self.desks.marked(),
             &self.spreads,
+            &mut self.due,
         )
     }
 
     // Appends the lines that an event end owes.
     #[tactic(auto, unfolding(mdp_desks::specs::Lines::lines_as))]
-    fn put(&self, out: &mut Vec<u8, A>, packet: u32, message: u64) -> Result<(), Memory>
-        ensures { OnOk result (out.new.items ≡ out.old.items ++ lines_as packet message (map (desk_standing packet) self.now)) }
+    fn put(&mut self, out: &mut Vec<u8, A>, packet: u32, message: u64) -> Result<(), Memory>
+        ensures same { self.new ≡ self.old }
+        ensures text { OnOk result (out.new.items ≡ out.old.items ++ lines_as packet message (map (desk_standing packet) self.old)) }
     {
         self.desks.put_books(out, packet, message)?;
         self.put_spreads(out, packet, message)

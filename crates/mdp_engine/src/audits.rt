@@ -7,6 +7,7 @@ ghost use Rattle.mdp_desks.specs.Desks.{desk_standing};
 ghost use Rattle.mdp_engine.specs.Spreads.{spread_line};
 ghost use Rattle.mdp_desks.specs.Lines.{verdicts_text, spread_text, audit_text};
 ghost use Rattle.mdp_desks.specs.Beside.{listed_in, marks_of};
+ghost use Rattle.mdp_engine.specs.Parts.{AreQuiet};
 ghost use Rattle.mdp_engine.specs.Spreads.{AreSpreadsOf, IsUnder};
 
 use crate::spreads::Spread;
@@ -113,7 +114,8 @@ fn put_audit_at<A: Allocator>(
     )
 }
 
-/// Appends the lines that an event end owes of the calendar spreads among these securities.
+/// Appends the lines that an event end owes of the calendar spreads among these securities. Only spreads that are marked in `due`
+/// are looked at, and their marks go.
 pub(crate) fn put_audits<A: Allocator>(
     out: &mut Vec<u8, A>,
     packet: u32,
@@ -121,13 +123,20 @@ pub(crate) fn put_audits<A: Allocator>(
     desks: &[Desk],
     marked: &Marked<A>,
     spreads: &[Spread],
+    due: &mut Marked<A>,
 ) -> Result<(), Memory>
     requires marks { marked.now ≡ marks_of desks.now }
     requires spreads { AreSpreadsOf (listed_in desks.now) spreads.now }
-    ensures { OnOk result (out.new.items ≡ out.old.items ++ flat_map (audit_text packet message (map (desk_standing packet) desks.now)) (map (desk_standing packet) desks.now)) }
+    requires many { length due.old ≡ length spreads.now }
+    requires quiet { AreQuiet marked.now spreads.now due.old }
+    ensures long { length due.new ≡ length due.old }
+    ensures text { OnOk result (out.new.items ≡ out.old.items ++ flat_map (audit_text packet message (map (desk_standing packet) desks.now)) (map (desk_standing packet) desks.now)) }
 {
-    for spread in spreads {
-        put_audit_at(out, packet, message, desks, marked, spread)?;
+    let mut from = 0;
+    while let Some(n) = due.next_from(from) {
+        due.put(n, false);
+        put_audit_at(out, packet, message, desks, marked, &spreads[n])?;
+        from = n + 1;
     }
     Ok(())
 }

@@ -6,6 +6,7 @@ mod audits;
 mod engine;
 mod event;
 mod laws;
+mod parts;
 mod spreads;
 #[cfg(test)]
 mod tests;

@@ -1,10 +1,10 @@
 -- What desks tell at an event end: the marked alone.
 use Rattle.std.proofs.Common.{◌≡◌, ℕ, zero, suc, ◌+◌, ◌<◌, ◌≤◌, append-nil, append_assoc, Bool, true, false, cond, List, [], ◌∷◌, ◌++◌, length, drop, map, get_or, refl, sym, ap, ◌∙◌, arith}
 use Rattle.std.specs.Prelude.{nat_lt}
-use Rattle.std.proofs.lemmas.List.{length-map}
+use Rattle.std.proofs.lemmas.List.{length-map, drop_all}
 use Rattle.mdp_templates.specs.declared.entry.Entry.{Entry}
 use Rattle.mdp_desks.specs.declared.desk.Desk.{Desk}
-use Rattle.mdp_desks.specs.Beside.{marks_of}
+use Rattle.mdp_desks.specs.Beside.{AreClear, marks_of}
 use Rattle.mdp_desks.specs.Desks.{desks_through, desk_standing, desk_seen}
 use Rattle.mdp_desks.specs.Reports.{Told, Report, tells, told_there, told_by}
 use Rattle.mdp_desks.proofs.Hearing.{sent_with, through, all_through, all_standing}
@@ -48,7 +48,7 @@ no_slots : (k j : ℕ) (slots : List ℕ) → told_by k j slots [] ≡ []
 no_slots k j [] = refl
 no_slots k j (slot ∷ slots) = refl
 
-pub told_below : (k j : ℕ) (slots : List ℕ) (ds : List Desk) (n : ℕ) → length slots ≡ length ds → ((i : ℕ) → i < n → get_or (marks_of ds) i false ≡ false) → told_of k j (drop n slots) (drop n ds) ≡ told_of k j slots ds
+told_below : (k j : ℕ) (slots : List ℕ) (ds : List Desk) (n : ℕ) → length slots ≡ length ds → ((i : ℕ) → i < n → get_or (marks_of ds) i false ≡ false) → told_of k j (drop n slots) (drop n ds) ≡ told_of k j slots ds
 told_below k j slots ds zero many none = refl
 told_below k j [] [] (suc n) many none = refl
 told_below k j [] (d ∷ ds) (suc n) many none = absurd (omega (arith, many))
@@ -57,15 +57,21 @@ told_below k j (slot ∷ slots) (d ∷ ds) (suc n) many none =
     told_below k j slots ds n (omega (arith, many)) (λ i less. none (suc i) (omega (arith, less)))
     ∙ ap (λ (t : List Told). t ++ told_of k j slots ds) (sym (none_there k j slot d (none 0 (omega arith))))
 
-pub told_none : (k j : ℕ) (slots : List ℕ) (ds : List Desk) (n : ℕ) → length slots ≡ length ds → ((i : ℕ) → n ≤ i → get_or (marks_of ds) i false ≡ false) → told_of k j (drop n slots) (drop n ds) ≡ []
-told_none k j [] [] zero many none = refl
-told_none k j [] [] (suc n) many none = refl
-told_none k j [] (d ∷ ds) n many none = absurd (omega (arith, many))
-told_none k j (slot ∷ slots) [] n many none = absurd (omega (arith, many))
-told_none k j (slot ∷ slots) (d ∷ ds) zero many none =
-    ap (λ (t : List Told). t ++ told_of k j slots ds) (none_there k j slot d (none 0 (omega arith)))
-    ∙ told_none k j slots ds zero (omega (arith, many)) (λ i from. none (suc i) (omega arith))
-told_none k j (slot ∷ slots) (d ∷ ds) (suc n) many none = told_none k j slots ds n (omega (arith, many)) (λ i from. none (suc i) (omega (arith, from)))
+pub told_between : (k j : ℕ) (slots : List ℕ) (ds : List Desk) (a b : ℕ) → length slots ≡ length ds → a ≤ b → AreClear a b (marks_of ds) → told_of k j (drop b slots) (drop b ds) ≡ told_of k j (drop a slots) (drop a ds)
+told_between k j slots ds zero b many up clear = told_below k j slots ds b many (λ i less. clear i (omega arith) less)
+told_between k j slots ds (suc a) zero many up clear = absurd (omega (arith, up))
+told_between k j [] [] (suc a) (suc b) many up clear = refl
+told_between k j [] (d ∷ ds) (suc a) (suc b) many up clear = absurd (omega (arith, many))
+told_between k j (slot ∷ slots) [] (suc a) (suc b) many up clear = absurd (omega (arith, many))
+told_between k j (slot ∷ slots) (d ∷ ds) (suc a) (suc b) many up clear =
+    told_between k j slots ds a b (omega (arith, many)) (omega (arith, up)) (λ i from less. clear (suc i) (omega (arith, from)) (omega (arith, less)))
+
+-- none is left to tell of
+pub told_end : (k j : ℕ) (slots : List ℕ) (ds : List Desk) (from : ℕ) → length slots ≡ length ds → from ≤ length ds → AreClear from (length ds) (marks_of ds) → told_of k j (drop from slots) (drop from ds) ≡ []
+told_end k j slots ds from many up clear =
+    sym (told_between k j slots ds from (length ds) many up clear)
+    ∙ ap (λ (l : List ℕ). told_of k j l (drop (length ds) ds)) (drop_all (length ds) slots (omega (arith, many)))
+    ∙ ap (told_of k j []) (drop_all (length ds) ds (omega arith))
 
 next_there : (k j : ℕ) (slots : List ℕ) (ds : List Desk) (n x slot : ℕ) (d e : Desk) → n < length slots → n < length ds → slot ≡ get_or slots n x → d ≡ get_or ds n e
     → told_of k j (drop n slots) (drop n ds) ≡ told_there k j slot (desk_standing k d) ++ told_of k j (drop (suc n) slots) (drop (suc n) ds)

@@ -29,24 +29,6 @@ fn tell_due<A: Allocator + Copy>(
     Ok(())
 }
 
-// Tells of a security, whose mark is this one; with none the desk isn't looked at.
-fn tell_desk<A: Allocator + Copy>(
-    out: &mut Reports<A>,
-    packet: u32,
-    message: u64,
-    slot: u16,
-    desk: &Desk,
-    mark: bool,
-) -> Result<(), Memory>
-    requires { mark ≡ desk.now.marked }
-    ensures { OnOk result (out.new ≡ reports_with_all (told_there packet message slot (desk_standing packet desk.now)) out.old) }
-{
-    if mark {
-        tell_due(out, packet, message, slot, desk)?;
-    }
-    Ok(())
-}
-
 // Tells of the securities whose desks are marked.
 fn tell_marked<A: Allocator + Copy>(
     out: &mut Reports<A>,
@@ -60,8 +42,10 @@ fn tell_marked<A: Allocator + Copy>(
     requires many { length slots.now ≡ length desks.now }
     ensures { OnOk result (out.new ≡ reports_with_all (told_by packet message slots.now (map (desk_standing packet) desks.now)) out.old) }
 {
-    for n in marked.low()..marked.high() {
-        tell_desk(out, packet, message, slots[n], &desks[n], marked.is_set(n))?;
+    let mut from = 0;
+    while let Some(n) = marked.next_from(from) {
+        tell_due(out, packet, message, slots[n], &desks[n])?;
+        from = n + 1;
     }
     Ok(())
 }

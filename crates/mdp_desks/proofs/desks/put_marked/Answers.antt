@@ -1,14 +1,27 @@
-use Rattle.std.proofs.Common.{◌≡◌, ◌++◌, ◌<◌, ◌≤◌, ℕ, Bool, false, List, get_or, sym, ap, subst, ◌∙◌, arith, append-nil}
-use Rattle.mdp_desks.proofs.Passing.{lines_from, no_lines_from}
+use Rattle.std.proofs.Common.{◌≡◌, ◌<◌, ◌≤◌, length, ap, ◌∙◌, refl, arith, subst}
+use Rattle.std.specs.Prelude.{List, Bool}
+use Rattle.std.proofs.lemmas.List.{length-map}
+use Rattle.mdp_desks.specs.Beside.{AreClear, IsFirstSet}
+use Rattle.mdp_desks.proofs.Passing.{lines_more, lines_end}
 use Rattle.mdp_desks.proofs.desks.put_marked.Goals as goal
 
-pub loop-n-init : goal.loop-n-init
-loop-n-init g c =
-    let below = subst (λ (ms : List Bool). (i : ℕ) → i < c.low-n.result → get_or ms i false ≡ false) c.requires c.low-n.ensures in
-    ap (λ (t : List ℕ). c.args.out.now.items ++ t) (lines_from c.args.packet c.args.message c.args.desks.now c.low-n.result below)
+pub loop-n-preserved : goal.loop-n-preserved
+loop-n-preserved g c =
+    let ds = c.args.desks.now in
+    let n = c.in-Some.n in
+    let long : length c.args.marked.now ≡ length ds = ap length c.requires ∙ simp length-map refl in
+    let first = c.in-Some.ensures.some in
+    let less : n < length ds = omega (arith, first.inside, long) in
+    let clear = subst (λ (ms : List Bool). AreClear c.loop-n.from n ms) c.requires first.before in
+    record {
+      inside = omega (arith, less);
+      text = lines_more c.args.packet c.args.message ds c.loop-n.from n _ c.loop-n.out.items c.put.new.out.items _ first.behind less clear c.index-desks-n.is c.in_ok-put.ensures c.loop-n.invariant.text;
+    }
 
 pub returns : goal.returns
 returns g c =
-    let behind = subst (λ (ms : List Bool). (i : ℕ) → c.high-n-end.result ≤ i → get_or ms i false ≡ false) c.requires c.high-n-end.ensures.behind in
-    let none = no_lines_from c.args.packet c.args.message c.args.desks.now c.loop-n.n (λ i from. behind i (omega (arith, from, c.loop-n-test.false))) in
-    sym (append-nil c.loop-n.out.items) ∙ ap (λ (t : List ℕ). c.loop-n.out.items ++ t) (sym none) ∙ c.loop-n.invariant
+    let ds = c.args.desks.now in
+    let long : length c.args.marked.now ≡ length ds = ap length c.requires ∙ simp length-map refl in
+    let none = c.in_default.ensures.none in
+    let clear = subst (λ (ms : List Bool). AreClear c.loop-n.from (length ds) ms) c.requires (λ i from under. none i from (omega (arith, under, long))) in
+    lines_end c.args.packet c.args.message ds c.loop-n.from c.loop-n.out.items _ c.loop-n.invariant.inside clear c.loop-n.invariant.text

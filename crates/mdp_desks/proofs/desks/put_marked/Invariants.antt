@@ -1,4 +1,4 @@
-use Rattle.std.proofs.Common.{◌≡◌, ◌++◌, drop, map}
+use Rattle.std.proofs.Common.{◌≡◌, ◌≤◌, ◌-◌, ◌++◌, drop, map, length}
 use Rattle.std.specs.List.{flat_map}
 use Rattle.mdp_desks.specs.Lines.{text_of}
 use Rattle.mdp_desks.specs.Desks.{desk_standing}
@@ -6,4 +6,11 @@ use Rattle.mdp_desks.proofs.desks.put_marked.Given as goal
 
 -- the text with the lines that are left is the whole
 abbrev pub invariant-loop-n : goal.invariant-loop-n
-invariant-loop-n g l = l.out.items ++ flat_map (text_of l.packet l.message) (map (desk_standing l.packet) (drop l.n l.desks)) ≡ l.initial.out.items ++ flat_map (text_of l.packet l.message) (map (desk_standing l.packet) l.desks)
+invariant-loop-n g l = record {
+  inside : l.from ≤ length l.desks;
+  text : l.out.items ++ flat_map (text_of l.packet l.message) (map (desk_standing l.packet) (drop l.from l.desks)) ≡ l.initial.out.items ++ flat_map (text_of l.packet l.message) (map (desk_standing l.packet) l.desks);
+}
+
+-- each turn goes behind one mark
+abbrev pub decreases-loop-n : goal.decreases-loop-n
+decreases-loop-n g l = length l.desks - l.from

@@ -1,20 +1,45 @@
-use Rattle.std.proofs.Common.{◌++◌, List, ℕ, sym, ap, ◌∙◌, append-nil, arith}
+use Rattle.std.proofs.Common.{◌≡◌, ◌≢◌, ◌<◌, ◌≤◌, ◌+◌, ◌++◌, ℕ, List, false, length, get_or, sym, ap, ◌∙◌, arith}
 use Rattle.std.specs.List.{flat_map}
-use Rattle.std.proofs.lemmas.List.{drop_all}
+use Rattle.std.proofs.lemmas.List.{length-set, get_or-set_other}
 use Rattle.mdp_engine.specs.Spreads.{spread_line}
-use Rattle.mdp_engine.specs.declared.spreads.Spread.{Spread}
 use Rattle.mdp_engine.proofs.Auditing.{audits_are, under_there}
+use Rattle.mdp_engine.proofs.Noting.{audit_more, audit_end}
 use Rattle.mdp_engine.proofs.audits.put_audits.Goals as goal
 
 pub put_audit_at-requires-clause-under : goal.put_audit_at-requires-clause-under
-put_audit_at-requires-clause-under g c = under_there c.args.desks.now c.args.spreads.now c.loop-spread.spread-index _ c.requires.spreads.spreads_are c.loop-spread-test.true
+put_audit_at-requires-clause-under g c =
+    let long = c.loop-n.invariant.long in
+    let less : c.in-Some.n < length c.args.spreads.now = omega (arith, c.in-Some.ensures.some.inside, long, c.requires.many) in
+    under_there c.args.desks.now c.args.spreads.now c.in-Some.n _ c.requires.spreads.spreads_are less
 
-pub returns : goal.returns
-returns g c =
-    let line = spread_line c.args.packet c.args.message c.args.desks.now in
-    let none = drop_all c.loop-spread.spread-index c.args.spreads.now (omega (arith, c.loop-spread-test.false)) in
-    let whole = audits_are c.args.packet c.args.message c.args.desks.now c.args.spreads.now c.requires.spreads.differ c.requires.spreads.spreads_are in
-    sym (append-nil c.loop-spread.out.items)
-    ∙ ap (λ (spreads : List Spread). c.loop-spread.out.items ++ flat_map line spreads) (sym none)
-    ∙ c.loop-spread.invariant
+pub loop-n-preserved : goal.loop-n-preserved
+loop-n-preserved g c =
+    let n = c.in-Some.n in
+    let due = c.loop-n.due in
+    let now = c.put.new.self in
+    let first = c.in-Some.ensures.some in
+    let was = c.loop-n.invariant in
+    let long = was.long in
+    let put = ap length c.put.ensures ∙ length-set due n false in
+    let less : n < length c.args.spreads.now = omega (arith, first.inside, long, c.requires.many) in
+    record {
+      inside = omega (arith, less);
+      long = put ∙ long;
+      marks = λ k from.
+          let other : k ≢ n = λ same. omega (arith, same, from) in
+          ap (λ ms. get_or ms k false) c.put.ensures ∙ get_or-set_other due n k false false other ∙ was.marks k (omega (arith, from, first.behind));
+      text = audit_more c.args.packet c.args.message c.args.desks.now c.args.spreads.now c.args.marked.now c.args.due.now due c.loop-n.from n _ c.loop-n.out.items c.put_audit_at.new.out.items _ c.requires.marks c.requires.quiet was.marks first.behind less first.before c.in_ok-put_audit_at.ensures was.text;
+    }
+
+pub returns-clause-text : goal.returns-clause-text
+returns-clause-text g c =
+    let ds = c.args.desks.now in
+    let spreads = c.args.spreads.now in
+    let line = spread_line c.args.packet c.args.message ds in
+    let was = c.loop-n.invariant in
+    let long = was.long in
+    let none = c.in_default.ensures.none in
+    let whole = audits_are c.args.packet c.args.message ds spreads c.requires.spreads.differ c.requires.spreads.spreads_are in
+    audit_end c.args.packet c.args.message ds spreads c.args.marked.now c.args.due.now c.loop-n.due c.loop-n.from c.loop-n.out.items (c.args.out.now.items ++ flat_map line spreads) c.requires.marks c.requires.quiet was.marks was.inside
+    (λ i from under. none i from (omega (arith, under, long, c.requires.many))) was.text
     ∙ ap (λ (t : List ℕ). c.args.out.now.items ++ t) (sym whole)

@@ -1,10 +1,17 @@
-use Rattle.std.proofs.Common.{◌≡◌, ◌++◌, drop}
+use Rattle.std.proofs.Common.{◌≡◌, ◌≤◌, ◌-◌, ◌++◌, ℕ, false, drop, length, get_or}
 use Rattle.std.specs.List.{flat_map}
 use Rattle.mdp_engine.specs.Spreads.{spread_line}
 use Rattle.mdp_engine.proofs.audits.put_audits.Given as goal
 
--- the text with the lines of the spreads that are left is the whole
-abbrev pub invariant-loop-spread : goal.invariant-loop-spread
-invariant-loop-spread g l =
-    l.out.items ++ flat_map (spread_line l.packet l.message l.desks) (drop l.spread-index l.spreads)
-    ≡ l.initial.out.items ++ flat_map (spread_line l.packet l.message l.desks) l.spreads
+-- the text with the lines of the spreads that are left is the whole, and their marks are as they were
+abbrev pub invariant-loop-n : goal.invariant-loop-n
+invariant-loop-n g l = record {
+  inside : l.from ≤ length l.spreads;
+  long : length l.due ≡ length l.initial.due;
+  marks : (k : ℕ) → l.from ≤ k → get_or l.due k false ≡ get_or l.initial.due k false;
+  text : l.out.items ++ flat_map (spread_line l.packet l.message l.desks) (drop l.from l.spreads) ≡ l.initial.out.items ++ flat_map (spread_line l.packet l.message l.desks) l.spreads;
+}
+
+-- each turn goes behind one mark
+abbrev pub decreases-loop-n : goal.decreases-loop-n
+decreases-loop-n g l = length l.spreads - l.from

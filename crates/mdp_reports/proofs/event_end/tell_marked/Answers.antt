@@ -1,25 +1,40 @@
-use Rattle.std.proofs.Common.{◌≡◌, ◌<◌, ◌≤◌, ℕ, Bool, false, List, length, get_or, sym, ap, subst, ◌∙◌, refl, arith}
+use Rattle.std.proofs.Common.{◌≡◌, ◌<◌, ◌≤◌, ℕ, Bool, List, length, sym, ap, subst, ◌∙◌, refl, arith}
 use Rattle.std.proofs.lemmas.List.{length-map}
+use Rattle.mdp_desks.specs.Beside.{AreClear}
 use Rattle.mdp_desks.specs.Reports.{Told}
+use Rattle.mdp_desks.proofs.Passing.{mark_at}
 use Rattle.mdp_reports.specs.Reporting.{reports_with_all}
-use Rattle.mdp_reports.proofs.Telling.{told_below, told_none, tell_more}
+use Rattle.mdp_reports.proofs.Telling.{told_between, told_end, tell_more}
 use Rattle.mdp_reports.proofs.event_end.tell_marked.Goals as goal
 
-pub loop-n-init : goal.loop-n-init
-loop-n-init g c =
-    let below = subst (λ (ms : List Bool). (i : ℕ) → i < c.low-n.result → get_or ms i false ≡ false) c.requires.marks c.low-n.ensures in
-    ap (λ (t : List Told). reports_with_all t c.args.out.now) (told_below c.args.packet c.args.message c.args.slots.now c.args.desks.now c.low-n.result c.requires.many below)
+pub tell_due-requires : goal.tell_due-requires
+tell_due-requires g c =
+    let long : length c.args.marked.now ≡ length c.args.desks.now = ap length c.requires.marks ∙ simp length-map refl in
+    let first = c.in-Some.ensures.some in
+    let less : c.in-Some.n < length c.args.desks.now = omega (arith, long, first.inside) in
+    sym (mark_at c.args.desks.now c.args.marked.now c.in-Some.n _ c.requires.marks less c.index-desks-n.is) ∙ first.is_set
 
 pub loop-n-preserved : goal.loop-n-preserved
 loop-n-preserved g c =
-    let long : length c.args.marked.now ≡ length c.args.desks.now = ap length c.requires.marks ∙ simp length-map refl in
-    let less : c.loop-n.n < length c.args.desks.now = omega (arith, long, c.high-n-end.ensures.short, c.loop-n-test.true) in
+    let ds = c.args.desks.now in
+    let n = c.in-Some.n in
     let many = c.requires.many in
-    tell_more c.args.packet c.args.message c.args.slots.now c.args.desks.now c.loop-n.n 0 _ _ _ c.loop-n.out c.tell_desk.new.out (omega (arith, less, many)) less refl c.index-desks-n.is c.in_ok-tell_desk.ensures
-    ∙ c.loop-n.invariant
+    let long : length c.args.marked.now ≡ length ds = ap length c.requires.marks ∙ simp length-map refl in
+    let first = c.in-Some.ensures.some in
+    let less : n < length ds = omega (arith, long, first.inside) in
+    let clear = subst (λ (ms : List Bool). AreClear c.loop-n.from n ms) c.requires.marks first.before in
+    record {
+      inside = omega (arith, less);
+      told =
+          tell_more c.args.packet c.args.message c.args.slots.now ds n 0 _ _ _ c.loop-n.out c.tell_due.new.out (omega (arith, less, many)) less refl c.index-desks-n.is c.in_ok-tell_due.ensures
+          ∙ ap (λ (t : List Told). reports_with_all t c.loop-n.out) (told_between c.args.packet c.args.message c.args.slots.now ds c.loop-n.from n many first.behind clear)
+          ∙ c.loop-n.invariant.told;
+    }
 
 pub returns : goal.returns
 returns g c =
-    let behind = subst (λ (ms : List Bool). (i : ℕ) → c.high-n-end.result ≤ i → get_or ms i false ≡ false) c.requires.marks c.high-n-end.ensures.behind in
-    let none = told_none c.args.packet c.args.message c.args.slots.now c.args.desks.now c.loop-n.n c.requires.many (λ i from. behind i (omega (arith, from, c.loop-n-test.false))) in
-    ap (λ (t : List Told). reports_with_all t c.loop-n.out) (sym none) ∙ c.loop-n.invariant
+    let ds = c.args.desks.now in
+    let long : length c.args.marked.now ≡ length ds = ap length c.requires.marks ∙ simp length-map refl in
+    let none = c.in_default.ensures.none in
+    let clear = subst (λ (ms : List Bool). AreClear c.loop-n.from (length ds) ms) c.requires.marks (λ i from under. none i from (omega (arith, under, long))) in
+    ap (λ (t : List Told). reports_with_all t c.loop-n.out) (sym (told_end c.args.packet c.args.message c.args.slots.now ds c.loop-n.from c.requires.many c.loop-n.invariant.inside clear)) ∙ c.loop-n.invariant.told

@@ -10,13 +10,13 @@ use Rattle.mdp_engine.proofs.audited_desks.AuditedDesks.take.Goals as goal
 pub returns-in_ok-put-clause-desks : goal.returns-in_ok-put-clause-desks
 returns-in_ok-put-clause-desks g c =
     c.settle.ensures
-    ∙ ap (map (desk_settled c.args.packet)) (c.hear.ensures ∙ ap (λ (es : List Entry). desks_through c.args.packet c.args.message 1 es c.args.self.now) c.entries.ensures.items)
+    ∙ ap (map (desk_settled c.args.packet)) (c.in_ok-put.ensures.same ∙ c.hear.ensures ∙ ap (λ (es : List Entry). desks_through c.args.packet c.args.message 1 es c.args.self.now) c.entries.ensures.items)
     ∙ ended_desks c.args.packet c.args.message c.args.taken.now.entries c.args.self.now c.args.taken.now.end (sym c.is_end.ensures ∙ c.if-is_end.true)
 
 pub returns-in_ok-put-clause-text : goal.returns-in_ok-put-clause-text
 returns-in_ok-put-clause-text g c =
     let k = c.args.packet in
-    c.in_ok-put.ensures
+    c.in_ok-put.ensures.text
     ∙ ap (λ (ds : List Desk). c.args.out.now.items ++ lines_as k c.args.message (map (desk_standing k) ds)) (c.hear.ensures ∙ ap (λ (es : List Entry). desks_through k c.args.message 1 es c.args.self.now) c.entries.ensures.items)
     ∙ ap (λ (t : List ℕ). c.args.out.now.items ++ t) (ended_text k c.args.message c.args.taken.now.entries c.args.self.now c.args.taken.now.end (sym c.is_end.ensures ∙ c.if-is_end.true))
 
