@@ -6,6 +6,7 @@ pub mod Accepted
 pub mod Pieces
 pub mod Depths
 pub mod Newest
+pub mod Parts
 pub mod Fit
 pub mod Following
 pub mod Bringing

@@ -43,7 +43,7 @@ at_line_feed n front text capture free = ap (λ ls. needs_instrument (add_lines 
 pub line_added : (n : ℕ) (front text : List ℕ) (old new : CaptureContent) → IsFreeOf 10 front → add_line n (line_of (strip_carriage_return front)) old ≡ Ok new → capture_from n (front ++ 10 ∷ text) old ≡ capture_from (next_line n) text new
 line_added n front text old new free is = at_line_feed n front text old free ∙ ap (λ r. needs_instrument (and_then r (add_lines (next_line n) (lines text)))) is
 
-fault_stays : (r : Result CaptureContent RefusedLine) (next : CaptureContent → Result CaptureContent RefusedLine) (fault : CaptureFault) → IsFaultOf r fault → IsFaultOf (needs_instrument (and_then r next)) fault
+pub fault_stays : (r : Result CaptureContent RefusedLine) (next : CaptureContent → Result CaptureContent RefusedLine) (fault : CaptureFault) → IsFaultOf r fault → IsFaultOf (needs_instrument (and_then r next)) fault
 fault_stays r next (faults.Refused line refusal) is = ap (λ x. needs_instrument (and_then x next)) is
 fault_stays r next faults.Memory is = tt
 fault_stays r next faults.Input is = tt

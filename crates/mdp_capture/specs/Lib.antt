@@ -9,3 +9,4 @@ pub mod Draft
 pub mod Repeats
 pub mod Reading
 pub mod Lines
+pub mod Part

@@ -16,6 +16,7 @@ abbrev pub content_of : {A : Type 0} → Line A → LineContent
 content_of parsed.Blank = Blank
 content_of (parsed.Listing instrument) = Listing instrument
 content_of (parsed.Packet feed bytes) = Packet feed bytes.items
+content_of (parsed.Shared feed bytes) = Packet feed bytes
 content_of parsed.Closing = Closing
 content_of (parsed.Skipped skip) = Skipped skip
 

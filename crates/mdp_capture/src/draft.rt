@@ -1,11 +1,12 @@
 //! A capture under construction.
 
-ghost use Rattle.std.specs.Prelude.{◌≡◌, ◌≢◌, ◌++◌, ◌∷◌, [], OnOk, IfOk, IfErr, IfSome};
+ghost use Rattle.std.specs.Prelude.{◌≡◌, ◌≢◌, ◌++◌, ◌∷◌, [], List, OnOk, IfOk, IfErr, IfSome};
 ghost use Rattle.std.specs.Ordering.{int_eq};
 ghost use Rattle.indexmap.specs.IndexMap.{get};
 ghost use Rattle.std.specs.List.{list_any};
 ghost use Rattle.std.specs.Str.{bytes_eq};
-ghost use Rattle.mdp_capture.specs.Line.{Packet, Skipped};
+ghost use Rattle.mdp_capture.specs.Line.{LineContent, Packet, Skipped};
+ghost use Rattle.mdp_capture.specs.Part.{ListDepths, capture_after, contents_of};
 ghost use Rattle.mdp_capture.specs.Capture.{add_line, add_record, add_instrument, refusal_of, has_record, is_listed, has_legs, are_legs, is_outright, kind_with_id, entry_of, next_line, no_capture, needs_instrument, IsFaultOf};
 ghost use Rattle.mdp_capture.specs.Parsed.{ListsDepth, content_of};
 ghost use Rattle.mdp_capture.specs.Repeats.{newest_of, newest_on};
@@ -78,6 +79,22 @@ impl<A: Allocator + Copy> Draft<A> {
         Ok(())
     }
 
+    /// Takes in the next lines.
+    pub(crate) fn add_lines(&mut self, lines: Vec<Line<A>, A>) -> Result<(), CaptureFault>
+        requires indexed { IsIndexed self.old }
+        requires depths { ListDepths lines.items }
+        ensures capture { OnOk result ((rest : List LineContent) → capture_after self.old (contents_of lines.items ++ rest) ≡ capture_after self.new rest) }
+        ensures indexed { OnOk result (IsIndexed self.new) }
+        ensures fit { OnOk result (AreFitSoFar self.old.instruments.items → AreFitSoFar self.new.instruments.items) }
+        ensures refused { IfErr result (λ fault. (rest : List LineContent) → IsFaultOf (capture_after self.old (contents_of lines.items ++ rest)) fault) }
+        ensures no_input { IfErr result (λ fault. fault ≢ CaptureFault.Input) }
+    {
+        for line in lines {
+            self.add_line(line)?;
+        }
+        Ok(())
+    }
+
     // Takes in what a line says, and does not count it.
     fn add(&mut self, line: Line<A>) -> Result<(), CaptureFault>
         requires { IsIndexed self.old }
@@ -91,6 +108,7 @@ impl<A: Allocator + Copy> Draft<A> {
             Line::Blank => Ok(()),
             Line::Listing(instrument) => self.add_instrument(instrument),
             Line::Packet(feed, bytes) => self.add_record(feed, Record::datagram(self.line, bytes)),
+            Line::Shared(feed, bytes) => self.add_record(feed, Record::shared(self.line, bytes)),
             Line::Closing => self.add_record(Feed::S, Record::close(self.line)),
             Line::Skipped(skip) => self.skip_line(skip),
         }

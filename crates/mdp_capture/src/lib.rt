@@ -1,5 +1,5 @@
 //! The capture text: the instruments of a channel and what its three feeds brought, read line by line from
-//! any reader that counts its failures.
+//! any reader that counts its failures, on one thread or over threads.
 #![tactic(auto)]
 
 mod blocks;
@@ -9,6 +9,8 @@ mod fault;
 mod field;
 mod laws;
 mod line;
+mod over_threads;
+mod part;
 mod reader;
 mod reading;
 mod record;
@@ -18,6 +20,7 @@ mod skip;
 pub use capture::Capture;
 pub use fault::{CaptureFault, CaptureRefusal};
 pub use laws::captures_hold_their_lines;
+pub use over_threads::read_capture_over_threads;
 pub use reader::{CountedRead, CountingReader};
 pub use reading::read_capture;
 pub use record::Record;

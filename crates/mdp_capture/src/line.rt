@@ -1,13 +1,15 @@
 //! One line of a capture.
 
-ghost use Rattle.std.specs.Prelude.{◌≡◌, IfOk, IfSome, IsErr, MatchResult};
+ghost use Rattle.std.specs.Prelude.{◌≡◌, Some, IfOk, IfSome, IsErr, MatchResult};
+ghost use Rattle.std.specs.Str.Lines.{strip_carriage_return};
 ghost use Rattle.hex.specs.Hex.{decode_of};
 ghost use Rattle.mdp_capture.specs.Line.{fields, outright_of_fields, calendar_of_fields, kind_of, instrument_of, listing, packet_of, closing_of, line_of};
-ghost use Rattle.mdp_capture.specs.Repeats.{IsSkippedFor, Spells};
+ghost use Rattle.mdp_capture.specs.Repeats.{IsSkippedFor, Spells, bytes_in};
 ghost use Rattle.mdp_capture.specs.Parsed.{ListsDepth, content_of, fields_left};
 
 use crate::field::{depth_of, id_of, is_letter, name_of, next_field};
 use crate::skip::Skip;
+use bytes::Bytes;
 use hex::FromHexError;
 use mdp_templates::{DIRECT_DEPTH, Feed, Instrument, InstrumentKind};
 use memchr::memchr;
@@ -22,6 +24,8 @@ pub(crate) enum Line<A: Allocator> {
     Listing(Instrument),
     /// A datagram's bytes, at most 2,048.
     Packet(Feed, Vec<u8, A>),
+    /// A datagram's bytes, at most 2,048, in a block that lines share.
+    Shared(Feed, Bytes<A>),
     /// The close of the channel.
     Closing,
     /// Nothing that could be read.
@@ -29,6 +33,25 @@ pub(crate) enum Line<A: Allocator> {
 }
 
 const LONGEST_DATAGRAM: usize = 2048;
+
+impl<A: Allocator> Line<A> {
+    /// Gives the bytes of the datagram once more, where lines may share them.
+    pub(crate) fn share(&self) -> Result<Option<Bytes<A>>, AllocError>
+        ensures { IfOk result (λ found. IfSome found (λ bytes. bytes_in (content_of self.now) ≡ Some bytes)) }
+    {
+        match self {
+            Line::Shared(_, bytes) => {
+                let bytes = bytes.clone()?;
+                Ok(Some(bytes))
+            }
+            Line::Blank => Ok(None),
+            Line::Listing(_) => Ok(None),
+            Line::Packet(_, _) => Ok(None),
+            Line::Closing => Ok(None),
+            Line::Skipped(_) => Ok(None),
+        }
+    }
+}
 
 /// Gives what a line says, without its line feed and the carriage return before it.
 pub(crate) fn line_of<A: Allocator>(alloc: A, text: &[u8]) -> Result<Line<A>, AllocError>
@@ -185,5 +208,15 @@ fn closing_of<A: Allocator>(rest: Option<&[u8]>) -> Line<A>
     match rest {
         Some(_) => Line::Skipped(Skip::LineForm),
         None => Line::Closing,
+    }
+}
+
+/// Lends the line without a carriage return at its end.
+pub(crate) fn without_carriage_return(line: &[u8]) -> &[u8]
+    ensures { result.now ≡ strip_carriage_return line.now }
+{
+    match line {
+        [text @ .., b'\r'] => text,
+        _ => line,
     }
 }

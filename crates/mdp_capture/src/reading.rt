@@ -7,13 +7,15 @@ ghost use Rattle.mdp_capture.specs.Capture.{IsFaultOf, capture_of, needs_instrum
 ghost use Rattle.mdp_capture.specs.Line.{line_of};
 ghost use Rattle.mdp_capture.specs.Repeats.{HasBytesOf};
 ghost use Rattle.mdp_capture.specs.Draft.{capture_so_far, AreFitSoFar};
+ghost use Rattle.mdp_capture.specs.Part.{ListDepths, Says};
 ghost use Rattle.mdp_templates.specs.Instrument.{AreFit};
 ghost use Rattle.mdp_capture.specs.Reading.{capture_with, IsOneLine, IsSound};
 
 use crate::capture::Capture;
 use crate::draft::Draft;
 use crate::fault::CaptureFault;
-use crate::line::line_of;
+use crate::line::{line_of, without_carriage_return};
+use crate::part::Part;
 use crate::reader::CountedRead;
 use mdp_templates::Feed;
 use memchr::memchr;
@@ -39,7 +41,7 @@ pub fn read_capture<R: CountedRead, A: Allocator + Copy>(
     ensures sound { result ≢ Err CaptureFault.Input → R.failed reader.new ≡ R.failed reader.old }
 {
     let mut reading = Reading::new(alloc);
-    let mut piece = room_for_a_piece(alloc)?;
+    let mut piece = room_for(alloc, PIECE)?;
     loop {
         match reader.read(piece.as_mut_slice()) {
             Ok(0) => return reading.finish(alloc),
@@ -52,11 +54,11 @@ pub fn read_capture<R: CountedRead, A: Allocator + Copy>(
 /// How many bytes are read at once.
 const PIECE: usize = 65536;
 
-// Makes room for a piece, all zeros.
-fn room_for_a_piece<A: Allocator>(alloc: A) -> Result<Vec<u8, A>, AllocError>
-    ensures { IfOk result (λ piece. vec_len piece ≡ PIECE) }
+/// Makes room for a piece of so many bytes, all zeros.
+pub(crate) fn room_for<A: Allocator>(alloc: A, size: usize) -> Result<Vec<u8, A>, AllocError>
+    ensures { IfOk result (λ piece. vec_len piece ≡ size) }
 {
-    let piece = vec![in alloc; 0u8; PIECE]?;
+    let piece = vec![in alloc; 0u8; size]?;
     Ok(piece)
 }
 
@@ -98,6 +100,30 @@ impl<A: Allocator + Copy> Reading<A> {
         }
         self.pending.extend_from_slice(rest)?;
         Ok(())
+    }
+
+    /// Takes in the next part of the text, which was read by itself. It counts as it is where a line begins with it.
+    pub(crate) fn take_part(
+        &mut self,
+        alloc: A,
+        text: &[u8],
+        part: Part<'_, A>,
+    ) -> Result<(), CaptureFault>
+        requires sound { IsSound self.old }
+        requires says { Says text.now part.lines.items part.rest.now }
+        requires depths { ListDepths part.lines.items }
+        ensures capture { OnOk result ((more : List ℕ) → capture_with self.old (text.now ++ more) ≡ capture_with self.new more) }
+        ensures sound { OnOk result (IsSound self.new) }
+        ensures refused { IfErr result (λ fault. (more : List ℕ) → IsFaultOf (capture_with self.old (text.now ++ more)) fault) }
+        ensures no_input { IfErr result (λ fault. fault ≢ CaptureFault.Input) }
+    {
+        let has_begun = !self.pending.is_empty();
+        if has_begun {
+            return self.take_piece(alloc, text);
+        }
+        let Part { lines, rest } = part;
+        self.draft.add_lines(lines)?;
+        self.take_piece(alloc, rest)
     }
 
     // Takes in what a line feed ends. With nothing pending it is a whole line, which is read where it lies, and the answer is
@@ -171,15 +197,5 @@ impl<A: Allocator + Copy> Reading<A> {
         let line = line_of(alloc, self.pending.as_slice())?;
         self.draft.add_line(line)?;
         Ok(())
-    }
-}
-
-// Lends the line without a carriage return at its end.
-fn without_carriage_return(line: &[u8]) -> &[u8]
-    ensures { result.now ≡ strip_carriage_return line.now }
-{
-    match line {
-        [text @ .., b'\r'] => text,
-        _ => line,
     }
 }

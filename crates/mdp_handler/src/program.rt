@@ -15,7 +15,7 @@ use crate::faults::{tell, tell_input, tell_memory, tell_output, tell_refused, te
 use crate::settings::{Settings, read_settings};
 use clap::Error;
 use clap::error::ErrorKind;
-use mdp_capture::{Capture, CaptureFault, CountedRead, read_capture};
+use mdp_capture::{Capture, CaptureFault, CountedRead, read_capture, read_capture_over_threads};
 use mdp_crew::Open;
 use mdp_pipeline::{RunFault, Summary, run, run_in_order};
 use mdp_print::{CountedWrite, write_all_counted};
@@ -152,7 +152,12 @@ where
     ensures reads { result ≢ 1 → I.failed input.new ≡ I.failed input.old }
     ensures writes { result ≢ 1 → O.failed output.new ≡ O.failed output.old }
 {
-    match read_capture(alloc, input) {
+    let read = if settings.in_order {
+        read_capture(alloc, input)
+    } else {
+        read_capture_over_threads(rt, alloc, input)
+    };
+    match read {
         Ok(capture) => run_capture(rt, alloc, &capture, settings, output, faults),
         Err(CaptureFault::Refused { line, refusal }) => {
             tell_refused(faults, line, refusal);
