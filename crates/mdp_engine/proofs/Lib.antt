@@ -14,3 +14,4 @@ pub mod Ascending
 pub mod Batching
 pub mod Marking
 pub mod Noting
+mod Repeating

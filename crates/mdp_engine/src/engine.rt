@@ -1,11 +1,11 @@
 //! The engine: what comes on a channel in, the lines that its moves owe out.
 
-ghost use Rattle.std.specs.Prelude.{◌≡◌, ◌++◌, [], ◌∷◌, List, ℕ, true, false, map, IfOk, IfErr, IsErr, OnOk};
+ghost use Rattle.std.specs.Prelude.{◌≡◌, ◌++◌, [], ◌∷◌, List, ℕ, true, false, nat_lt, map, IfOk, IfErr, IsErr, OnOk};
 ghost use Rattle.std.specs.FinMap as map;
 ghost use Rattle.mdp_templates.specs.Packet.{PacketContent};
 ghost use Rattle.mdp_templates.specs.Instrument.{AreFit};
 ghost use Rattle.mdp_templates.specs.declared.instrument.Instrument.{Instrument};
-ghost use Rattle.mdp_arbiter.specs.Accepted.{Event as Accepted};
+ghost use Rattle.mdp_arbiter.specs.Accepted.{Event as Accepted, came};
 ghost use Rattle.mdp_arbiter.specs.Machine.{State, is_lost, state_at, trace};
 ghost use Rattle.mdp_arbiter.specs.Channel.{ids_of, channel_of};
 ghost use Rattle.mdp_arbiter.specs.Arbiter.{is_lost_now, state};
@@ -97,6 +97,17 @@ impl<A: Allocator + Copy, W: Window<Packet<A>> + Drop> Engine<A, W> {
             → result ≡ is_lost self.now.arbiter.channel es (state_at self.now.arbiter.channel es) }
     {
         self.arbiter.lost()
+    }
+
+    /// Tells whether a packet of this number would change nothing, whatever it says: its number has passed or was given up.
+    pub fn is_past(&self, number: u32) -> bool
+        ensures now { result ≡ nat_lt number self.now.arbiter.next }
+        ensures stands { result ≡ true → (listed : List Instrument) (es : List Accepted) (drained : List ℕ) (packet : PacketContent)
+            → packet.number ≡ number → Stands listed es drained self.now → Stands listed (es ++ came packet ∷ []) drained self.now }
+        ensures under { result ≡ true → (listed : List Instrument) (feed : List PacketContent) (es : List Accepted) (drained : List ℕ) (packet : PacketContent)
+            → packet.number ≡ number → StandsUnder listed feed es drained self.now → StandsUnder listed feed (es ++ came packet ∷ []) drained self.now }
+    {
+        u64::from(number) < self.next()
     }
 
     /// Takes in an event and makes all moves that are then possible; the lines that they owe are held.

@@ -7,3 +7,4 @@ pub mod HandingOver
 pub mod Ending
 pub mod OnBoards
 pub mod Joining
+mod Copying

@@ -9,3 +9,4 @@ pub mod Faults
 pub mod Counted
 pub mod Readers
 pub mod Taken
+pub mod Copies

@@ -127,7 +127,11 @@ fn finish<W: CountedWrite, A: Allocator + Copy>(
     ensures told { IfErr result (λ fault. (start : List ℕ) → HasCounted start (W.taken writer.old) written → HasCounted start (W.taken writer.new) (written_before fault)) }
     ensures failed { FailsBy result (W.failed writer.old) (W.failed writer.new) }
 {
-    let Run { engine, refusals } = run;
+    let Run {
+        engine,
+        refusals,
+        last: _,
+    } = run;
     let next = engine.next();
     let lost = engine.lost();
     hand_on(writer, engine.lines(), &mut written)?;

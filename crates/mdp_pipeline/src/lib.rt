@@ -4,6 +4,7 @@
 
 mod decoding;
 mod in_order;
+mod last_packet;
 mod merge;
 mod pace;
 mod progress;

@@ -1,14 +1,18 @@
 //! A run over the records of a channel's feeds, so far.
 
-ghost use Rattle.std.specs.Prelude.{◌≡◌, ◌≤◌, [], ◌∷◌, ℕ, IfOk, OnOk, map};
+ghost use Rattle.std.specs.Prelude.{◌≡◌, ◌≤◌, [], ◌∷◌, ℕ, true, IfOk, OnOk, map};
 ghost use Rattle.mdp_templates.specs.Instrument.{AreFit};
 ghost use Rattle.mdp_arbiter.specs.Accepted.{recovered};
 ghost use Rattle.mdp_engine.specs.Steps.{event_of};
 ghost use Rattle.mdp_pipeline.specs.Decoding.{said_of};
-ghost use Rattle.mdp_pipeline.specs.Reading.{kind_of};
+ghost use Rattle.mdp_templates.specs.declared.feed.Feed.{Feed};
+ghost use Rattle.mdp_templates.specs.Refused.FeedKind.{incremental};
+ghost use Rattle.mdp_capture.specs.Record.{Datagram};
+ghost use Rattle.mdp_pipeline.specs.Reading.{Says, kind_of};
 ghost use Rattle.mdp_pipeline.specs.Running.{GoesOn, HasRun, TakesAs, TakesSaid};
 
 use crate::decoding::{Decoded, read_record};
+use crate::last_packet::LastPacket;
 use crate::refusals::Refusals;
 use mdp_arbiter::Start;
 use mdp_capture::Record;
@@ -18,11 +22,12 @@ use mdp_window::RingWindow;
 use std::alloc::Allocator;
 
 /// The engine of a run, which holds what is printed at event ends and jumps as far as it was not handed on, and the lines of
-/// refused datagrams.
+/// refused datagrams. The newest packet's datagram is kept beside them, whose second copy changes nothing once the packet has passed.
 #[derive(Drop)]
 pub struct Run<A: Allocator + Copy> {
     pub engine: Engine<A, RingWindow<Packet<A>, A>>,
     pub refusals: Refusals<A>,
+    pub last: LastPacket<A>,
 }
 
 impl<A: Allocator + Copy> Run<A> {
@@ -42,6 +47,7 @@ impl<A: Allocator + Copy> Run<A> {
         Ok(Run {
             engine: Engine::new(alloc, instruments, window, start)?,
             refusals: Refusals::new(alloc),
+            last: LastPacket::new(alloc),
         })
     }
 
@@ -85,11 +91,50 @@ impl<A: Allocator + Copy> Run<A> {
         Ok(())
     }
 
+    // Tells whether a datagram of feed A or B is the second copy of a packet that has passed.
+    fn is_copy(&self, bytes: &[u8]) -> bool
+        ensures { result ≡ true → (feed : Feed) (line : ℕ) → TakesAs incremental feed line (Datagram bytes.now) self.now self.now }
+    {
+        match self.last.number_of(bytes) {
+            Some(number) => self.engine.is_past(number),
+            None => false,
+        }
+    }
+
+    // Tells whether a record changes nothing, since it is the second copy of a packet that has passed.
+    fn is_repeat(&self, feed: Feed, record: &Record<A>) -> bool
+        ensures { result ≡ true → TakesAs (kind_of feed) feed «record».now.line «record».now.received self.now self.now }
+    {
+        match (feed, record.bytes()) {
+            (Feed::A, Some(bytes)) => self.is_copy(bytes),
+            (Feed::B, Some(bytes)) => self.is_copy(bytes),
+            (Feed::A, None) => false,
+            (Feed::B, None) => false,
+            (Feed::S, _) => false,
+        }
+    }
+
+    // Keeps the datagram of a record that was read as a packet.
+    fn keep(&mut self, feed: Feed, record: &Record<A>, decoded: &Decoded<A>) -> Result<(), Memory>
+        requires { Says (kind_of feed) «record».now.received (said_of decoded.now) }
+        ensures engine { self.new.engine ≡ self.old.engine }
+        ensures refusals { self.new.refusals ≡ self.old.refusals }
+    {
+        match (record.bytes(), decoded) {
+            (Some(bytes), Decoded::Packet(packet)) => self.last.keep(bytes, packet.number()),
+            _ => Ok(()),
+        }
+    }
+
     /// Takes a record of a feed.
     pub fn take(&mut self, alloc: A, feed: Feed, record: &Record<A>) -> Result<(), Memory>
         ensures { OnOk result (TakesAs (kind_of feed) feed «record».now.line «record».now.received self.old self.new) }
     {
+        if self.is_repeat(feed, record) {
+            return Ok(());
+        }
         let decoded = read_record(alloc, feed, record)?;
+        self.keep(feed, record, &decoded)?;
         self.take_in(alloc, feed, record.line(), decoded)
     }
 }
