@@ -83,10 +83,12 @@ impl<A: Allocator + Copy> Draft<A> {
     pub(crate) fn add_lines(&mut self, lines: Vec<Line<A>, A>) -> Result<(), CaptureFault>
         requires indexed { IsIndexed self.old }
         requires depths { ListDepths lines.items }
-        ensures capture { OnOk result ((rest : List LineContent) → capture_after self.old (contents_of lines.items ++ rest) ≡ capture_after self.new rest) }
+        ensures capture { OnOk result ((rest : List LineContent) →
+            capture_after self.old (contents_of lines.items ++ rest) ≡ capture_after self.new rest) }
         ensures indexed { OnOk result (IsIndexed self.new) }
         ensures fit { OnOk result (AreFitSoFar self.old.instruments.items → AreFitSoFar self.new.instruments.items) }
-        ensures refused { IfErr result (λ fault. (rest : List LineContent) → IsFaultOf (capture_after self.old (contents_of lines.items ++ rest)) fault) }
+        ensures refused { IfErr result (λ fault. (rest : List LineContent) →
+            IsFaultOf (capture_after self.old (contents_of lines.items ++ rest)) fault) }
         ensures no_input { IfErr result (λ fault. fault ≢ CaptureFault.Input) }
     {
         for line in lines {

@@ -141,14 +141,28 @@ fn is_refused(
     Ok(heap.has_refused())
 }
 
+// Refuses one allocation after the other, until none is refused, and tells how many were.
+fn count_refused(
+    rt: &(impl Abort + Threads + Sync),
+    alloc: Global,
+    part: usize,
+) -> Result<u64, Fail> {
+    let mut refused = 0u64;
+    for number in 1..1000u64 {
+        let heap = Refusing::new(alloc, number);
+        if !is_refused(rt, &heap, part)? {
+            break;
+        }
+        refused = number;
+    }
+    Ok(refused)
+}
+
 #[test]
 fn each_allocation_refused_over_threads(rt: HostRuntime) -> Result<(), Fail> {
-    for part in [0usize, 30] {
-        let mut number = 1u64;
-        while number < 1000 && is_refused(&rt, &Refusing::new(rt.alloc(), number), part)? {
-            number += 1;
-        }
-        assert!(rt; number > 10 && number < 1000);
-    }
+    let refused = count_refused(&rt, rt.alloc(), 0)?;
+    assert!(rt; refused > 10 && refused < 999);
+    let refused = count_refused(&rt, rt.alloc(), 30)?;
+    assert!(rt; refused > 10 && refused < 999);
     Ok(())
 }
