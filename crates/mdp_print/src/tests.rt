@@ -59,7 +59,7 @@ fn prints_direct_sides(rt: HostRuntime) -> Result<(), Fail> {
     let both = with_direct(&bids, &offers);
     assert!(rt; put_direct(&mut out, 7, 3, b"ESM6", &both).is_ok());
     let none = with_direct(&[], &[]);
-    assert!(rt; put_direct(&mut out, u32::MAX, u64::MAX, b"").is_ok());
+    assert!(rt; put_direct(&mut out, u32::MAX, u64::MAX, b"", &none).is_ok());
     let one = with_direct(&[], &offers[..1]);
     assert!(rt; put_direct(&mut out, 1, 1, b"NEAR", &one).is_ok());
     let lines =

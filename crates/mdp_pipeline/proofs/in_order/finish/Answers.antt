@@ -31,3 +31,8 @@ returns-clause-counts g c = map_ok c.write_end.result _ _ (λ summary counts sta
 
 pub returns-clause-told : goal.returns-clause-told
 returns-clause-told g c = map_err c.write_end.result _ _ (λ fault counts start so_far. counts start (c.in_ok-hand_on.ensures.counts start so_far)) c.write_end.ensures.told
+
+pub returns-in_err-hand_on-clause-told : goal.returns-in_err-hand_on-clause-told
+returns-in_err-hand_on-clause-told g c =
+    let fault = err_from_is_err_and c.from_residual.result c.from_residual.ensures.1 in
+    rw (fault.1, fault.2) c.in_err-hand_on.ensures.told
