@@ -4,11 +4,8 @@ use Rattle.std.specs.Prelude.{◌||◌, ◌&&◌, not, nat_le, fold}
 use Rattle.std.proofs.lemmas.Bool.{cases_Bool}
 use Rattle.std.proofs.lemmas.Bool.Decides.{nat_tests}
 use Rattle.std.proofs.lemmas.List.Sums.{fold-append}
-use Rattle.mdp_templates.specs.Packet.{PacketContent}
 use Rattle.mdp_books.specs.Feed.{Sent, sent_by, since_end, touches, has_end, behind}
 use Rattle.mdp_desks.specs.Due.{is_due}
-use Rattle.mdp_engine.specs.Feed.{IsFeed}
-use Rattle.mdp_engine.specs.Owed.{Footing}
 use Rattle.mdp_engine.specs.Marks.{LawOfMarks}
 use Rattle.mdp_engine.proofs.Fronts.{sent_by-split, behind-front}
 

@@ -1,14 +1,12 @@
 -- Lists of the spreads that each security is part of, noted one after another, and why the others are quiet.
-use Rattle.std.proofs.Common.{◌≡◌, ◌≢◌, ◌<◌, ◌≤◌, ◌⊎◌, ℕ, zero, suc, ◌+◌, ◌++◌, Bool, true, false, List, [], ◌∷◌, length, map, take, drop, get_or, set, replicate, Option, Some, None, refl, sym, ap, subst, ◌∙◌, arith, inl, inr, append-nil, append_assoc}
-use Rattle.std.specs.Prelude.{◌||◌, All, Vec, nat_lt, slice_get}
+use Rattle.std.proofs.Common.{◌≡◌, ◌<◌, ◌≤◌, ℕ, zero, suc, ◌+◌, ◌++◌, Bool, true, false, List, [], ◌∷◌, length, take, drop, get_or, set, replicate, Option, Some, None, refl, sym, ap, subst, ◌∙◌, arith, inl, inr, append-nil, append_assoc}
+use Rattle.std.specs.Prelude.{All, Vec, nat_lt, slice_get}
 use Rattle.std.specs.List.{Contains, flat_map}
 use Rattle.std.proofs.lemmas.Bool.{cases_lt, cases_eq, cases_Bool}
 use Rattle.std.proofs.lemmas.List.{get_or-map, get_or_default, length-map, length-replicate, length-set, map-set, get_or-set_same, get_or-set_other, at_drop_more, drop_all, take_at}
 use Rattle.std.proofs.lemmas.List.Elements.{Contains-push, Contains-push_cases, Contains-append_left}
-use Rattle.mdp_templates.specs.declared.instrument.Instrument.{Instrument}
 use Rattle.mdp_desks.specs.declared.desk.Desk.{Desk}
-use Rattle.mdp_desks.specs.Beside.{AreClear, IsFirstSet, listed_in, marks_of}
-use Rattle.mdp_desks.specs.Desks.{desk_standing}
+use Rattle.mdp_desks.specs.Beside.{AreClear, IsFirstSet, marks_of}
 use Rattle.mdp_desks.specs.Lines.{Seen, spread_text}
 use Rattle.mdp_engine.specs.declared.spreads.Spread.{Spread}
 use Rattle.mdp_engine.specs.Parts.{AreDue, AreParts, AreQuiet, IsNoted, IsPart, IsQuiet, lists_in, with_part, with_parts}
@@ -203,10 +201,17 @@ quiet_line k j ds spread quiet =
     no_text k j (seen_there k (slice_get ds spread.slot)) (seen_there k (slice_get ds spread.leg1)) (seen_there k (slice_get ds spread.leg2))
     (unprinted k ds spread.slot quiet.slot) (unprinted k ds spread.leg1 quiet.leg1) (unprinted k ds spread.leg2 quiet.leg2)
 
--- ---- the lines of the spreads from one place on
+-- a spread of which no part is marked has no line
+abbrev pub IsSilent : List Bool → (Spread → List ℕ) → Type 0
+IsSilent marks line = (spread : Spread) → IsQuiet marks spread → line spread ≡ []
 
-abbrev pub lines_left : ℕ → ℕ → List Desk → List Spread → ℕ → List ℕ
-lines_left k j ds spreads n = flat_map (spread_line k j ds) (drop n spreads)
+pub desks_silent : (k j : ℕ) (ds : List Desk) (marks : List Bool) → marks ≡ marks_of ds → IsSilent marks (spread_line k j ds)
+desks_silent k j ds marks are spread quiet = quiet_line k j ds spread (subst (λ (ms : List Bool). IsQuiet ms spread) are quiet)
+
+-- ---- the lines of the spreads from one place on, where quiet spreads have none
+
+abbrev pub lines_left : (Spread → List ℕ) → List Spread → ℕ → List ℕ
+lines_left line spreads n = flat_map line (drop n spreads)
 
 silent_to : {X : Type 0} (f : X → List ℕ) (xs : List X) (a b : ℕ) → a ≤ b → b ≤ length xs → ((i : ℕ) (d : X) → a ≤ i → i < b → f (get_or xs i d) ≡ []) → flat_map f (drop b xs) ≡ flat_map f (drop a xs)
 silent_to f [] zero zero up short none = refl
@@ -220,28 +225,28 @@ silent_to f (x ∷ xs) (suc a) zero up short none = absurd (omega (arith, up))
 silent_to f (x ∷ xs) (suc a) (suc b) up short none = silent_to f xs a b (omega (arith, up)) (omega (arith, short)) (λ i d from less. none (suc i) d (omega (arith, from)) (omega (arith, less)))
 
 -- of the spreads whose marks none is set, none has a line
-passed_over : (k j : ℕ) (ds : List Desk) (spreads : List Spread) (marks due now : List Bool) (from n : ℕ) → marks ≡ marks_of ds → AreQuiet marks spreads due → ((i : ℕ) → from ≤ i → get_or now i false ≡ get_or due i false) → from ≤ n → n ≤ length spreads → AreClear from n now
-    → lines_left k j ds spreads n ≡ lines_left k j ds spreads from
-passed_over k j ds spreads marks due now from n are quiet same up short clear =
-    silent_to (spread_line k j ds) spreads from n up short (λ i d above under.
-    quiet_line k j ds (get_or spreads i d) (subst (λ (ms : List Bool). IsQuiet ms (get_or spreads i d)) are (quiet i d (omega (arith, under, short)) (sym (same i above) ∙ clear i above under))))
+passed_over : (line : Spread → List ℕ) (spreads : List Spread) (marks due now : List Bool) (from n : ℕ) → IsSilent marks line → AreQuiet marks spreads due → ((i : ℕ) → from ≤ i → get_or now i false ≡ get_or due i false)
+    → from ≤ n → n ≤ length spreads → AreClear from n now → lines_left line spreads n ≡ lines_left line spreads from
+passed_over line spreads marks due now from n silent quiet same up short clear =
+    silent_to line spreads from n up short (λ i d above under.
+    silent (get_or spreads i d) (quiet i d (omega (arith, under, short)) (sym (same i above) ∙ clear i above under)))
 
-pub audit_more : (k j : ℕ) (ds : List Desk) (spreads : List Spread) (marks due now : List Bool) (from n : ℕ) (d : Spread) (old new whole : List ℕ) → marks ≡ marks_of ds → AreQuiet marks spreads due → ((i : ℕ) → from ≤ i → get_or now i false ≡ get_or due i false)
-    → from ≤ n → n < length spreads → AreClear from n now → new ≡ old ++ spread_line k j ds (get_or spreads n d) → old ++ lines_left k j ds spreads from ≡ whole → new ++ lines_left k j ds spreads (n + 1) ≡ whole
-audit_more k j ds spreads marks due now from n d old new whole are quiet same up less clear is before =
-    let line = spread_line k j ds (get_or spreads n d) in
-    let rest = lines_left k j ds spreads (n + 1) in
-    let next : lines_left k j ds spreads n ≡ line ++ rest = at_drop_more (flat_map (spread_line k j ds)) spreads n d less in
+pub line_more : (line : Spread → List ℕ) (spreads : List Spread) (marks due now : List Bool) (from n : ℕ) (d : Spread) (old new whole : List ℕ) → IsSilent marks line → AreQuiet marks spreads due → ((i : ℕ) → from ≤ i → get_or now i false ≡ get_or due i false)
+    → from ≤ n → n < length spreads → AreClear from n now → new ≡ old ++ line (get_or spreads n d) → old ++ lines_left line spreads from ≡ whole → new ++ lines_left line spreads (n + 1) ≡ whole
+line_more line spreads marks due now from n d old new whole silent quiet same up less clear is before =
+    let here = line (get_or spreads n d) in
+    let rest = lines_left line spreads (n + 1) in
+    let next : lines_left line spreads n ≡ here ++ rest = at_drop_more (flat_map line) spreads n d less in
     ap (λ (t : List ℕ). t ++ rest) is
-    ∙ append_assoc old line rest
-    ∙ ap (λ (t : List ℕ). old ++ t) (sym next ∙ passed_over k j ds spreads marks due now from n are quiet same up (omega (arith, less)) clear)
+    ∙ append_assoc old here rest
+    ∙ ap (λ (t : List ℕ). old ++ t) (sym next ∙ passed_over line spreads marks due now from n silent quiet same up (omega (arith, less)) clear)
     ∙ before
 
-pub audit_end : (k j : ℕ) (ds : List Desk) (spreads : List Spread) (marks due now : List Bool) (from : ℕ) (text whole : List ℕ) → marks ≡ marks_of ds → AreQuiet marks spreads due → ((i : ℕ) → from ≤ i → get_or now i false ≡ get_or due i false)
-    → from ≤ length spreads → AreClear from (length spreads) now → text ++ lines_left k j ds spreads from ≡ whole → text ≡ whole
-audit_end k j ds spreads marks due now from text whole are quiet same up clear before =
-    let past = passed_over k j ds spreads marks due now from (length spreads) are quiet same up (omega arith) clear in
-    let none : lines_left k j ds spreads from ≡ [] = sym past ∙ ap (flat_map (spread_line k j ds)) (drop_all (length spreads) spreads (omega arith)) in
+pub line_end : (line : Spread → List ℕ) (spreads : List Spread) (marks due now : List Bool) (from : ℕ) (text whole : List ℕ) → IsSilent marks line → AreQuiet marks spreads due → ((i : ℕ) → from ≤ i → get_or now i false ≡ get_or due i false)
+    → from ≤ length spreads → AreClear from (length spreads) now → text ++ lines_left line spreads from ≡ whole → text ≡ whole
+line_end line spreads marks due now from text whole silent quiet same up clear before =
+    let past = passed_over line spreads marks due now from (length spreads) silent quiet same up (omega arith) clear in
+    let none : lines_left line spreads from ≡ [] = sym past ∙ ap (flat_map line) (drop_all (length spreads) spreads (omega arith)) in
     sym (append-nil text) ∙ ap (λ (t : List ℕ). text ++ t) (sym none) ∙ before
 
 -- ---- the lists as a list of vectors

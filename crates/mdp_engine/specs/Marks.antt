@@ -1,5 +1,5 @@
 -- Why a security hears only what stands behind its base: the messages in front of it make no difference to when it is printed.
-use Rattle.std.specs.Prelude.{◌≡◌, ℕ, List, Bool, false, not, ◌&&◌, ◌||◌, take}
+use Rattle.std.specs.Prelude.{◌≡◌, ℕ, List, false, not, ◌&&◌, ◌||◌, take}
 use Rattle.mdp_templates.specs.Packet.{PacketContent}
 use Rattle.mdp_books.specs.Feed.{sent_by, since_end, touches, has_end, behind}
 use Rattle.mdp_desks.specs.Due.{is_due}

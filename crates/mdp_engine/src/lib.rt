@@ -19,4 +19,5 @@ pub use laws::{
     law_of_first_rounds, law_of_runs, law_of_workers, marks_are_the_feeds, shows_what_is_owed,
     stands_alike,
 };
+pub use parts::{mark_spreads, parts_of};
 pub use spreads::{Spread, spreads_of};

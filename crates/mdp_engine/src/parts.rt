@@ -48,7 +48,7 @@ fn no_parts<A: Allocator + Copy>(alloc: A, count: usize) -> Result<Vec<Vec<usize
 /// # Errors
 ///
 /// Memory ran out.
-pub(crate) fn parts_of<A: Allocator + Copy>(
+pub fn parts_of<A: Allocator + Copy>(
     alloc: A,
     count: usize,
     spreads: &[Spread],
@@ -75,12 +75,8 @@ fn mark_each<A: Allocator>(due: &mut Marked<A>, places: &[usize])
     }
 }
 
-/// Marks each spread of which a part is marked.
-pub(crate) fn mark_spreads<A: Allocator>(
-    due: &mut Marked<A>,
-    marked: &Marked<A>,
-    parts: &[Vec<usize, A>],
-)
+/// Marks each spread of which a part is marked, by what `parts_of` lists. Marks that are set stay.
+pub fn mark_spreads<A: Allocator>(due: &mut Marked<A>, marked: &Marked<A>, parts: &[Vec<usize, A>])
     requires many { length parts.now ≡ length marked.now }
     requires within { (slot n : ℕ) → IsPart (lists_in parts.now) slot n → n < length due.old }
     ensures long { length due.new ≡ length due.old }

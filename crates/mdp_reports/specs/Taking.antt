@@ -7,11 +7,10 @@ use Rattle.mdp_templates.specs.contracts.instrument.Instrument as instrument
 use Rattle.mdp_quotes.specs.declared.best.Best.{Best}
 use Rattle.mdp_quotes.specs.contracts.best.Best as best
 use Rattle.mdp_print.specs.Texts.{jump_line}
-use Rattle.mdp_arbiter.specs.Channel.{ids_of}
 use Rattle.mdp_desks.specs.Lines.{verdicts_text}
 use Rattle.mdp_desks.specs.Reports.{Told, Report}
 use Rattle.mdp_engine.specs.declared.spreads.Spread.{Spread}
-use Rattle.mdp_engine.specs.Spreads.{spreads_from}
+use Rattle.mdp_engine.specs.Parts.{AreAudited}
 use Rattle.mdp_engine.specs.Rounds.{kept_after, told_text, kept_after_round, name_of, best_kept, rounds_behind}
 use Rattle.mdp_reports.specs.declared.row.Heading.{Heading}
 use Rattle.mdp_reports.specs.declared.row.Heading.TheVariants.{Event, Jump}
@@ -27,9 +26,12 @@ view_code =
     code_by (List Instrument × List (Option Best)) (coded× (coded_list instrument.the_row.coded) (coded_list (coded_option best.the_row.coded)))
     (λ v. (v.listed, v.kept)) (λ t. record { listed = t.0; kept = t.1 }) (λ _. refl)
 
--- what stands beside the kept values: the calendar spreads, and a mark for each security
-pub record AreBesideKept (listed : List Instrument) (spreads : List Spread) (marks : List Bool) : Type 0 where
-  pub spreads_are : spreads ≡ spreads_from 0 (ids_of listed) listed
+-- a kept value and a mark for each security, and beside them the calendar spreads with their parts, and a mark for each of these
+pub record AreBesideKept
+    (listed : List Instrument) (spreads : List Spread) (parts : List (List ℕ)) (due : List Bool) (kept : List (Option Best)) (marks : List Bool)
+    : Type 0 where
+  pub audited : AreAudited listed spreads parts due
+  pub kept_long : length kept ≡ length listed
   pub long : length marks ≡ length listed
 
 -- ---- an event end

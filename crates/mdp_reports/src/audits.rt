@@ -4,9 +4,11 @@ ghost use Rattle.std.specs.Prelude.{◌≡◌, ◌++◌, ◌||◌, length, slice
 ghost use Rattle.std.specs.List.{flat_map, AllByRecursion};
 ghost use Rattle.mdp_desks.specs.Lines.{verdicts_text};
 ghost use Rattle.mdp_engine.specs.Rounds.{best_kept, name_of};
+ghost use Rattle.mdp_engine.specs.Parts.{AreQuiet};
 ghost use Rattle.mdp_engine.specs.Spreads.{IsUnder};
 ghost use Rattle.mdp_reports.specs.Taking.{marked_line};
 
+use mdp_desks::Marked;
 use mdp_engine::Spread;
 use mdp_print::put_audit;
 use mdp_quotes::{Best, audit};
@@ -69,12 +71,16 @@ fn put_marked<A: Allocator>(
     listed: &[Instrument],
     spread: &Spread,
     kept: &[Option<Best>],
-    marks: &[bool],
+    marks: &Marked<A>,
 ) -> Result<(), Memory>
     requires { IsUnder (length marks.now) spread.now }
     ensures { OnOk result (out.new.items ≡ out.old.items ++ marked_line packet message listed.now marks.now kept.now spread.now) }
 {
-    if !is_one_set(marks[spread.slot], marks[spread.leg1], marks[spread.leg2]) {
+    if !is_one_set(
+        marks.is_set(spread.slot),
+        marks.is_set(spread.leg1),
+        marks.is_set(spread.leg2),
+    ) {
         return Ok(());
     }
     put_verdicts(
@@ -88,7 +94,8 @@ fn put_marked<A: Allocator>(
     )
 }
 
-/// Appends the lines of the spreads of which one of the three is marked.
+/// Appends the lines of the spreads of which one of the three is marked. Only spreads that are marked in `due` are looked at, and
+/// their marks go.
 pub(crate) fn put_audits<A: Allocator>(
     out: &mut Vec<u8, A>,
     packet: u32,
@@ -96,13 +103,20 @@ pub(crate) fn put_audits<A: Allocator>(
     listed: &[Instrument],
     spreads: &[Spread],
     kept: &[Option<Best>],
-    marks: &[bool],
+    marks: &Marked<A>,
+    due: &mut Marked<A>,
 ) -> Result<(), Memory>
-    requires { AllByRecursion (IsUnder (length marks.now)) spreads.now }
-    ensures { OnOk result (out.new.items ≡ out.old.items ++ flat_map (marked_line packet message listed.now marks.now kept.now) spreads.now) }
+    requires under { AllByRecursion (IsUnder (length marks.now)) spreads.now }
+    requires many { length due.old ≡ length spreads.now }
+    requires quiet { AreQuiet marks.now spreads.now due.old }
+    ensures long { length due.new ≡ length due.old }
+    ensures text { OnOk result (out.new.items ≡ out.old.items ++ flat_map (marked_line packet message listed.now marks.now kept.now) spreads.now) }
 {
-    for spread in spreads {
-        put_marked(out, packet, message, listed, spread, kept, marks)?;
+    let mut from = 0;
+    while let Some(n) = due.next_from(from) {
+        due.put(n, false);
+        put_marked(out, packet, message, listed, &spreads[n], kept, marks)?;
+        from = n + 1;
     }
     Ok(())
 }

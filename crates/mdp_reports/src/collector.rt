@@ -1,10 +1,9 @@
 //! The collector: what it makes of the answers of all workers.
 
 ghost use Rattle.std.specs.Prelude.{◌≡◌, ◌≢◌, ◌++◌, ◌∷◌, [], AllPairs, length, map, IfOk, OnOk};
-ghost use Rattle.mdp_arbiter.specs.Channel.{ids_of};
 ghost use Rattle.mdp_books.specs.Book.{empty_book};
 ghost use Rattle.mdp_engine.specs.Rounds.{all_by_slot, kept_after, kept_at_start, rounds_in, text_from, told_text};
-ghost use Rattle.mdp_engine.specs.Spreads.{spreads_from};
+ghost use Rattle.mdp_engine.specs.Parts.{AreAudited, lists_in};
 ghost use Rattle.mdp_quotes.specs.Best.{best_of};
 ghost use Rattle.mdp_reports.specs.BoardSteps.{step_telling, steps_in};
 ghost use Rattle.mdp_reports.specs.Contents.{heading_at, told_at};
@@ -20,7 +19,8 @@ use crate::rest::Rest;
 use crate::row::Heading;
 use mdp_arbiter::Slots;
 use mdp_books::Book;
-use mdp_engine::{Spread, spreads_of};
+use mdp_desks::Marked;
+use mdp_engine::{Spread, mark_spreads, parts_of, spreads_of};
 use mdp_print::put_jump;
 use mdp_quotes::Best;
 use mdp_templates::{DIRECT_DEPTH, Instrument, Memory};
@@ -33,11 +33,14 @@ use std::marker::Model;
 pub struct Collector<'a, A: Allocator> {
     listed: &'a [Instrument],
     spreads: Vec<Spread, A>,
+    parts: Vec<Vec<usize, A>, A>,
+    due: Marked<A>,
     kept: Vec<Option<Best>, A>,
-    marks: Vec<bool, A>,
+    marks: Marked<A>,
 }
 
 impl<'a, A: Allocator> Model for Collector<'a, A> {
+    ghost use Rattle.mdp_engine.specs.Parts.{lists_in};
     ghost use Rattle.mdp_reports.specs.Taking.{AreBesideKept, View, view_code};
 
     ghost Value = { View };
@@ -46,7 +49,7 @@ impl<'a, A: Allocator> Model for Collector<'a, A> {
 
     ghost view = { λ c. record { listed = c.listed.now; kept = c.kept.items } };
 
-    ghost invariant = { λ c. AreBesideKept c.listed.now c.spreads.items c.marks.items };
+    ghost invariant = { λ c. AreBesideKept c.listed.now c.spreads.items (lists_in c.parts.items) c.due c.kept.items c.marks };
 }
 
 // Gives the best levels of each security before any packet.
@@ -73,22 +76,27 @@ fn put_event<A: Allocator + Copy>(
     message: u64,
     listed: &[Instrument],
     spreads: &[Spread],
+    parts: &[Vec<usize, A>],
+    due: &mut Marked<A>,
     kept: &mut [Option<Best>],
-    marks: &mut [bool],
+    marks: &mut Marked<A>,
     left: &mut [Rest],
 ) -> Result<(), Memory>
-    requires spreads { spreads.now ≡ spreads_from 0 (ids_of listed.now) listed.now }
+    requires audited { AreAudited listed.now spreads.now (lists_in parts.now) due.old }
+    requires kept_beside { length kept.old ≡ length listed.now }
     requires long { length marks.old ≡ length listed.now }
     ensures text { OnOk result (out.new.items ≡ out.old.items ++ told_text packet message listed.now (all_by_slot left.old) (kept_after (all_by_slot left.old) kept.old)) }
     ensures steps { OnOk result (steps.new ≡ steps.old ++ step_telling packet message (all_by_slot left.old) ∷ []) }
     ensures kept { OnOk result (kept.new ≡ kept_after (all_by_slot left.old) kept.old) }
     ensures kept_long { length kept.new ≡ length kept.old }
+    ensures due_long { length due.new ≡ length due.old }
     ensures marks_long { length marks.new ≡ length marks.old }
 {
-    clear(marks);
+    clear(marks, listed.len());
     steps.begin()?;
     put_all_told(packet, message, left, out, steps, kept, marks)?;
-    put_audits(out, packet, message, listed, spreads, kept, marks)?;
+    mark_spreads(due, marks, parts);
+    put_audits(out, packet, message, listed, spreads, kept, marks, due)?;
     Ok(())
 }
 
@@ -154,11 +162,15 @@ impl<'a, A: Allocator + Copy> Collector<'a, A> {
     {
         let slots = Slots::of(alloc, listed)?;
         let spreads = spreads_of(alloc, &slots, listed)?;
+        let parts = parts_of(alloc, listed.len(), &spreads)?;
+        let due = Marked::none(alloc, spreads.len())?;
         let kept = kept_for(alloc, listed)?;
-        let marks = vec![in alloc; false; listed.len()]?;
+        let marks = Marked::none(alloc, listed.len())?;
         Ok(Collector {
             listed,
             spreads,
+            parts,
+            due,
             kept,
             marks,
         })
@@ -184,6 +196,8 @@ impl<'a, A: Allocator + Copy> Collector<'a, A> {
                 message,
                 self.listed,
                 &self.spreads,
+                &self.parts,
+                &mut self.due,
                 &mut self.kept,
                 &mut self.marks,
                 left,

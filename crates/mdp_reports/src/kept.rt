@@ -9,28 +9,27 @@ ghost use Rattle.mdp_reports.specs.Taking.{lines_told, marks_after};
 use crate::board_steps::BoardSteps;
 use crate::merge::take_next;
 use crate::rest::Rest;
+use mdp_desks::Marked;
 use mdp_lanes::Row;
 use mdp_quotes::{Best, TopOfBook};
 use mdp_templates::Memory;
 use std::alloc::Allocator;
 
-// Keeps the best levels of a slot. A slot past the end changes nothing.
-fn keep(kept: &mut [Option<Best>], slot: u16, best: Option<Best>)
-    ensures { kept.new ≡ set kept.old slot best }
+// Keeps the best levels of a slot, and marks it. A slot past the end changes nothing.
+fn keep<A: Allocator>(
+    kept: &mut [Option<Best>],
+    marks: &mut Marked<A>,
+    slot: u16,
+    best: Option<Best>,
+)
+    requires { length kept.old ≡ length marks.old }
+    ensures kept { kept.new ≡ set kept.old slot best }
+    ensures marks { marks.new ≡ set marks.old slot true }
 {
     let slot = usize::from(slot);
     if slot < kept.len() {
         kept[slot] = best;
-    }
-}
-
-// Marks a slot. A slot past the end changes nothing.
-fn mark(marks: &mut [bool], slot: u16)
-    ensures { marks.new ≡ set marks.old slot true }
-{
-    let slot = usize::from(slot);
-    if slot < marks.len() {
-        marks[slot] = true;
+        marks.put(slot, true);
     }
 }
 
@@ -57,8 +56,9 @@ pub(crate) fn put_all_told<A: Allocator + Copy>(
     out: &mut Vec<u8, A>,
     steps: &mut BoardSteps<A>,
     kept: &mut [Option<Best>],
-    marks: &mut [bool],
+    marks: &mut Marked<A>,
 ) -> Result<(), Memory>
+    requires { length kept.old ≡ length marks.old }
     ensures text { OnOk result (out.new.items ≡ out.old.items ++ lines_told (all_by_slot left.old)) }
     ensures steps { OnOk result (steps.new ≡ steps_with_told packet message (all_by_slot left.old) steps.old) }
     ensures kept { OnOk result (kept.new ≡ kept_after (all_by_slot left.old) kept.old) }
@@ -69,8 +69,7 @@ pub(crate) fn put_all_told<A: Allocator + Copy>(
     while let Some(line) = take_next(left) {
         out.extend_from_slice(line.lines)?;
         steps.put(line.slot, row_with(packet, message, line.top))?;
-        keep(kept, line.slot, line.best);
-        mark(marks, line.slot);
+        keep(kept, marks, line.slot, line.best);
     }
     Ok(())
 }
@@ -84,11 +83,14 @@ pub(crate) fn forget(kept: &mut [Option<Best>])
     }
 }
 
-/// Takes all marks away.
-pub(crate) fn clear(marks: &mut [bool])
+/// Takes all marks away, of which there are so many.
+pub(crate) fn clear<A: Allocator>(marks: &mut Marked<A>, count: usize)
+    requires { length marks.old ≡ count }
     ensures { marks.new ≡ map (λ _. false) marks.old }
 {
-    for n in 0..marks.len() {
-        marks[n] = false;
+    let mut from = 0;
+    while let Some(n) = marks.next_from(from) {
+        marks.put(n, false);
+        from = n + 1;
     }
 }

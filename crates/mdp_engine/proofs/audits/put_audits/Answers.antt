@@ -1,9 +1,9 @@
-use Rattle.std.proofs.Common.{◌≡◌, ◌≢◌, ◌<◌, ◌≤◌, ◌+◌, ◌++◌, ℕ, List, false, length, get_or, sym, ap, ◌∙◌, arith}
+use Rattle.std.proofs.Common.{◌≢◌, ◌<◌, ◌++◌, ℕ, List, false, length, get_or, sym, ap, ◌∙◌, arith}
 use Rattle.std.specs.List.{flat_map}
 use Rattle.std.proofs.lemmas.List.{length-set, get_or-set_other}
 use Rattle.mdp_engine.specs.Spreads.{spread_line}
 use Rattle.mdp_engine.proofs.Auditing.{audits_are, under_there}
-use Rattle.mdp_engine.proofs.Noting.{audit_more, audit_end}
+use Rattle.mdp_engine.proofs.Noting.{desks_silent, line_more, line_end}
 use Rattle.mdp_engine.proofs.audits.put_audits.Goals as goal
 
 pub put_audit_at-requires-clause-under : goal.put_audit_at-requires-clause-under
@@ -28,7 +28,7 @@ loop-n-preserved g c =
       marks = λ k from.
           let other : k ≢ n = λ same. omega (arith, same, from) in
           ap (λ ms. get_or ms k false) c.put.ensures ∙ get_or-set_other due n k false false other ∙ was.marks k (omega (arith, from, first.behind));
-      text = audit_more c.args.packet c.args.message c.args.desks.now c.args.spreads.now c.args.marked.now c.args.due.now due c.loop-n.from n _ c.loop-n.out.items c.put_audit_at.new.out.items _ c.requires.marks c.requires.quiet was.marks first.behind less first.before c.in_ok-put_audit_at.ensures was.text;
+      text = line_more (spread_line c.args.packet c.args.message c.args.desks.now) c.args.spreads.now c.args.marked.now c.args.due.now due c.loop-n.from n _ c.loop-n.out.items c.put_audit_at.new.out.items _ (desks_silent c.args.packet c.args.message c.args.desks.now c.args.marked.now c.requires.marks) c.requires.quiet was.marks first.behind less first.before c.in_ok-put_audit_at.ensures was.text;
     }
 
 pub returns-clause-text : goal.returns-clause-text
@@ -40,6 +40,6 @@ returns-clause-text g c =
     let long = was.long in
     let none = c.in_default.ensures.none in
     let whole = audits_are c.args.packet c.args.message ds spreads c.requires.spreads.differ c.requires.spreads.spreads_are in
-    audit_end c.args.packet c.args.message ds spreads c.args.marked.now c.args.due.now c.loop-n.due c.loop-n.from c.loop-n.out.items (c.args.out.now.items ++ flat_map line spreads) c.requires.marks c.requires.quiet was.marks was.inside
+    line_end line spreads c.args.marked.now c.args.due.now c.loop-n.due c.loop-n.from c.loop-n.out.items (c.args.out.now.items ++ flat_map line spreads) (desks_silent c.args.packet c.args.message ds c.args.marked.now c.requires.marks) c.requires.quiet was.marks was.inside
     (λ i from under. none i from (omega (arith, under, long, c.requires.many))) was.text
     ∙ ap (λ (t : List ℕ). c.args.out.now.items ++ t) (sym whole)

@@ -1,7 +1,7 @@
 use Rattle.std.proofs.Common.{◌≡◌, ◌<◌, ◌∙◌, ℕ, List, [], true, false, length, get_or, ap, sym, subst, arith}
 use Rattle.std.specs.Prelude.{All}
 use Rattle.std.specs.List.{Contains}
-use Rattle.mdp_engine.specs.Parts.{IsPart, lists_in}
+use Rattle.mdp_engine.specs.Parts.{lists_in}
 use Rattle.mdp_engine.proofs.Noting.{all_of, due_more, list_there}
 use Rattle.mdp_engine.proofs.parts.mark_spreads.Goals as goal
 

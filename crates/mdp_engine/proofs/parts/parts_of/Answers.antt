@@ -1,6 +1,6 @@
 use Rattle.std.proofs.Common.{◌≡◌, ◌<◌, length, subst, arith}
 use Rattle.mdp_engine.specs.Parts.{AreParts, lists_in}
-use Rattle.mdp_engine.proofs.Noting.{noted_more, no_parts_are}
+use Rattle.mdp_engine.proofs.Noting.{noted_more}
 use Rattle.mdp_engine.proofs.parts.parts_of.Goals as goal
 
 pub loop-n-preserved : goal.loop-n-preserved

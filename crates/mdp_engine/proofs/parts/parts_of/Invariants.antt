@@ -1,4 +1,3 @@
-use Rattle.std.proofs.Common.{length}
 use Rattle.mdp_engine.specs.Parts.{AreParts, lists_in}
 use Rattle.mdp_engine.proofs.parts.parts_of.Given as goal
 

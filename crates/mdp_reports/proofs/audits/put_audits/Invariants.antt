@@ -1,10 +1,18 @@
-use Rattle.std.proofs.Common.{◌≡◌, ◌++◌, drop}
+use Rattle.std.proofs.Common.{◌≡◌, ◌≤◌, ◌-◌, ◌++◌, ℕ, false, drop, length, get_or}
 use Rattle.std.specs.List.{flat_map}
 use Rattle.mdp_reports.specs.Taking.{marked_line}
 use Rattle.mdp_reports.proofs.audits.put_audits.Given as goal
 
--- the text with the lines of the spreads that are left is the whole
-abbrev pub invariant-loop-spread : goal.invariant-loop-spread
-invariant-loop-spread g l =
-    l.out.items ++ flat_map (marked_line l.packet l.message l.listed l.marks l.kept) (drop l.spread-index l.spreads)
-    ≡ l.initial.out.items ++ flat_map (marked_line l.packet l.message l.listed l.marks l.kept) l.spreads
+-- the text with the lines of the spreads that are left is the whole, and their marks are as they were
+abbrev pub invariant-loop-n : goal.invariant-loop-n
+invariant-loop-n g l = record {
+  inside : l.from ≤ length l.spreads;
+  long : length l.due ≡ length l.initial.due;
+  due : (k : ℕ) → l.from ≤ k → get_or l.due k false ≡ get_or l.initial.due k false;
+  text : l.out.items ++ flat_map (marked_line l.packet l.message l.listed l.marks l.kept) (drop l.from l.spreads)
+      ≡ l.initial.out.items ++ flat_map (marked_line l.packet l.message l.listed l.marks l.kept) l.spreads;
+}
+
+-- each turn goes behind one mark
+abbrev pub decreases-loop-n : goal.decreases-loop-n
+decreases-loop-n g l = length l.spreads - l.from

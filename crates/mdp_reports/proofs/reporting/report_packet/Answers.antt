@@ -1,4 +1,4 @@
-use Rattle.std.proofs.Common.{◌≡◌, ◌+◌, ◌++◌, ◌∷◌, ℕ, List, drop, append_assoc, ap, sym, ◌∙◌}
+use Rattle.std.proofs.Common.{◌≡◌, ◌+◌, ◌++◌, ◌∷◌, List, drop, append_assoc, ap, sym, ◌∙◌}
 use Rattle.mdp_templates.specs.Packet.{MessageContent}
 use Rattle.mdp_templates.proofs.Spanning.{left_from}
 use Rattle.mdp_books.specs.Feed.{sent_as, sent_from}

@@ -1,4 +1,4 @@
-use Rattle.std.proofs.Common.{◌≡◌, ◌<◌, length, map, ap, sym, subst, refl, ◌∙◌, arith}
+use Rattle.std.proofs.Common.{◌≡◌, length, map, ap, sym, subst, refl, ◌∙◌, arith}
 use Rattle.mdp_templates.specs.declared.instrument.Instrument.{Instrument}
 use Rattle.std.specs.Prelude.{List, ℕ, All, get_or}
 use Rattle.std.proofs.lemmas.List.{length-map, length-replicate}

@@ -1,4 +1,4 @@
-use Rattle.std.proofs.Common.{◌≡◌, ◌<◌, ◌∙◌, sym, subst, arith}
+use Rattle.std.proofs.Common.{◌∙◌, sym, subst, arith}
 use Rattle.mdp_engine.specs.Parts.{AreDue, AreQuiet, IsPart, lists_in}
 use Rattle.mdp_engine.proofs.Noting.{quiet_of}
 use Rattle.mdp_engine.proofs.audited_desks.AuditedDesks.put_spreads.Goals as goal

@@ -1,6 +1,5 @@
-use Rattle.std.proofs.Common.{◌≡◌, ◌<◌, ◌∙◌, ap, true, arith}
+use Rattle.std.proofs.Common.{◌<◌, arith}
 use Rattle.std.proofs.lemmas.Bool.Decides.{nat_tests}
-use Rattle.mdp_templates.specs.Packet.{PacketContent}
 use Rattle.mdp_engine.proofs.Repeating.{old_stands, old_stands_under}
 use Rattle.mdp_engine.proofs.engine.Engine.is_past.Goals as goal
 
