@@ -10,3 +10,4 @@ pub mod Sending
 pub mod Sharing
 pub mod Fronts
 pub mod Together
+pub mod Ending

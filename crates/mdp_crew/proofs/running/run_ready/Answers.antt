@@ -10,6 +10,8 @@ use Rattle.mdp_crew.specs.Batches.{events_taken}
 use Rattle.mdp_crew.specs.Crew.{IsCrew, IsHired, IsSettled}
 use Rattle.mdp_crew.specs.Orders.{and_sent, orders_of}
 use Rattle.mdp_crew.specs.Running.{HasPublished, HasShown}
+use Rattle.mdp_crew.specs.Stops.{FailsByStop}
+use Rattle.mdp_crew.proofs.Ending.{fails_alike}
 use Rattle.mdp_crew.proofs.Settling.{ended_long, ended_took, hired_still, written_back}
 use Rattle.mdp_desks.proofs.Hearing.{ids_differ}
 use Rattle.mdp_crew.proofs.Together.{met, met_on_board}
@@ -78,3 +80,8 @@ returns-clause-publishes g c =
     let settled : AllZip IsSettled outcome.senders.items new = subst (λ (l : List (Post g.row.A.Denot)). AllZip IsSettled outcome.senders.items l) back c.let_all_go.ensures in
     subst (λ (o : Result Standing Stop). HasPublished listed c.args.window c.args.start (events_taken outcome.receiver.taken) c.args.board.now c.collect-collected.new.board o) (sym c.outcome.ensures)
     (met_on_board listed c.args.workers c.args.window c.args.start ready.senders.items old new ready.collector start went c.args.board.now c.collect-collected.new.board c.args.receiver outcome c.collect-collected.result c.requires.some crew sent c.collect-collected.ensures.ends settled)
+
+pub returns-clause-failed : goal.returns-clause-failed
+returns-clause-failed g c =
+    subst (λ (o : Result Standing Stop). FailsByStop o (g.W.CountedWrite.failed c.args.writer.now) (g.W.CountedWrite.failed c.collect-collected.new.writer)) (sym c.outcome.ensures)
+    (fails_alike c.collect-collected.result _ _ _ c.collect-collected.ensures.failed)
