@@ -1,3 +1,4 @@
 mod Decimals
+mod Ends
 mod Pieces
 mod Printed

@@ -1,9 +1,16 @@
 -- A piece of a text that gives way to another, by two copies within one buffer.
 use Rattle.std.proofs.Common.{◌≡◌, ◌≤◌, ◌+◌, ◌-◌, ℕ, List, ◌++◌, take, drop, length, refl, sym, ap, ◌∙◌, arith, length-take-le}
-use Rattle.std.specs.List.{splice}
-use Rattle.std.proofs.Math.Seq.{paste, take-append-add, drop-append_seam}
-use Rattle.std.proofs.lemmas.List.{take-take, take-append-le, drop-take, length-drop}
+use Rattle.std.specs.List.{splice, copy_within}
+use Rattle.std.proofs.Math.Seq.{paste, take-append-add, drop-append_seam, take-add}
+use Rattle.std.proofs.lemmas.List.{take-take, take-append-le, drop-take, length-drop, take-append-drop}
 use Rattle.std.proofs.lemmas.List.Edits.{paste_all, take-paste, length-paste}
+
+-- what is copied to where it stands changes nothing
+pub moved_nowhere : (xs : List ℕ) (from end to : ℕ) → to ≡ from → xs ≡ copy_within xs from end to
+moved_nowhere xs from end to there =
+    let kept = end - from in
+    let front = ap (λ ys. ys ++ drop (from + kept) xs) (sym (take-add from kept xs)) in
+    sym (ap (copy_within xs from end) there ∙ front ∙ take-append-drop (from + kept) xs)
 
 -- Of a buffer whose first `end` bytes are a text: those behind `to` were moved to where the piece will end, and then the piece was
 -- written from `from` on. So the text has the piece in the place of what stood there.

@@ -1,7 +1,7 @@
 //! Levels and their printed text.
 
-ghost use Rattle.std.specs.Prelude.{◌≡◌, ◌≤◌, ◌<◌, ◌-◌, [], length, take, drop, insert, remove, slice_set};
-ghost use Rattle.std.specs.List.{sum};
+ghost use Rattle.std.specs.Prelude.{◌≡◌, ◌≤◌, ◌<◌, ◌+◌, ◌-◌, [], ◌++◌, length, map, take, drop, insert, remove, slice_set};
+ghost use Rattle.std.specs.List.{All};
 ghost use Rattle.mdp_text.specs.Levels.{levels_text};
 
 use crate::short_text::TextFromEnd;
@@ -13,12 +13,12 @@ use std::marker::Model;
 /// The text of one level: a space, a price of at most 20 bytes, `x`, and a size of at most 11.
 type LevelText = TextFromEnd<44>;
 
-/// At most `CAPACITY` levels, the best first, and beside them the text that they are printed as. A level that comes, changes
-/// or goes moves the text behind it and puts together no other level's. It takes no memory.
+/// At most `CAPACITY` levels, the best first, and beside them the text that they are printed as, and where each one's ends in it.
+/// A level that comes, changes or goes moves the text behind it and puts together no other level's. It takes no memory.
 #[derive(Drop)]
 pub struct PrintedLevels<const CAPACITY: usize> {
     levels: ArrayVec<Level, CAPACITY>,
-    lengths: ArrayVec<u8, CAPACITY>,
+    ends: ArrayVec<u16, CAPACITY>,
     text: Text<440>,
 }
 
@@ -31,21 +31,29 @@ impl<const CAPACITY: usize> Model for PrintedLevels<CAPACITY> {
 
     ghost view = { λ p. p.levels.items };
 
-    ghost invariant = { λ p. ArePrinted CAPACITY p.levels.items p.lengths.items p.text };
+    ghost invariant = { λ p. ArePrinted CAPACITY p.levels.items p.ends.items p.text };
 }
 
-// Gives where the text of the level at a place begins: behind those of the levels before it.
+// Moves the ends from a place on: by `less` down, and by `more` up.
 #[inline]
-fn start_of(lengths: &[u8], at: usize) -> usize
-    requires inside { at ≤ length lengths.now }
-    requires small { at ≤ 10 }
-    ensures { result ≡ sum (take at lengths.now) }
+fn move_ends<const CAPACITY: usize>(
+    ends: &mut ArrayVec<u16, CAPACITY>,
+    from: usize,
+    less: u16,
+    more: u16,
+)
+    requires inside { from ≤ length ends.old.items }
+    requires enough { All (λ end. less ≤ end) (drop from ends.old.items) }
+    requires room { All (λ end. end + more < 65536) (drop from ends.old.items) }
+    ensures { ends.new.items ≡ take from ends.old.items ++ map (λ end. end - less + more) (drop from ends.old.items) }
 {
-    let mut start = 0;
-    for n in 0..at {
-        start += lengths[n] as usize;
+    if less == more {
+        return;
     }
-    start
+    let all = ends.as_mut_slice();
+    for n in from..all.len() {
+        all[n] = all[n] - less + more;
+    }
 }
 
 // Puts an item in the place of another.
@@ -65,9 +73,22 @@ impl<const CAPACITY: usize> PrintedLevels<CAPACITY> {
     {
         PrintedLevels {
             levels: ArrayVec::new(),
-            lengths: ArrayVec::new(),
+            ends: ArrayVec::new(),
             text: Text::new(),
         }
+    }
+
+    // Gives where the text of the level at a place begins: where that of the level before it ends.
+    #[inline]
+    fn start_of(&self, at: usize) -> usize
+        requires { at ≤ length self.now }
+        ensures value { result ≡ length (levels_text (take at self.now)) }
+        ensures small { result ≤ 440 }
+    {
+        if at == 0 {
+            return 0;
+        }
+        usize::from(self.ends[at - 1])
     }
 
     /// Lends the levels, the best first.
@@ -103,9 +124,8 @@ impl<const CAPACITY: usize> PrintedLevels<CAPACITY> {
         requires inside { to ≤ length self.now }
         ensures { result.now ≡ levels_text (take (to - from) (drop from self.now)) }
     {
-        let lengths = self.lengths.as_slice();
-        let start = start_of(lengths, from);
-        let end = start_of(lengths, to);
+        let start = self.start_of(from);
+        let end = self.start_of(to);
         self.text.part(start, end)
     }
 
@@ -117,9 +137,11 @@ impl<const CAPACITY: usize> PrintedLevels<CAPACITY> {
     {
         let mut text = LevelText::new();
         text.put_quote(level.price, i64::from(level.size));
-        let start = start_of(self.lengths.as_slice(), at);
+        let size = text.as_slice().len() as u16;
+        let start = self.start_of(at);
         self.text.splice(start, start, text.as_slice());
-        self.lengths.insert(at, text.as_slice().len() as u8);
+        self.ends.insert(at, start as u16);
+        move_ends(&mut self.ends, at, 0, size);
         self.levels.insert(at, level);
     }
 
@@ -130,10 +152,11 @@ impl<const CAPACITY: usize> PrintedLevels<CAPACITY> {
     {
         let mut text = LevelText::new();
         text.put_quote(level.price, i64::from(level.size));
-        let start = start_of(self.lengths.as_slice(), at);
-        let end = start_of(self.lengths.as_slice(), at + 1);
+        let size = text.as_slice().len() as u16;
+        let start = self.start_of(at);
+        let end = self.start_of(at + 1);
         self.text.splice(start, end, text.as_slice());
-        put_at(&mut self.lengths, at, text.as_slice().len() as u8);
+        move_ends(&mut self.ends, at, (end - start) as u16, size);
         put_at(&mut self.levels, at, level);
     }
 
@@ -142,10 +165,11 @@ impl<const CAPACITY: usize> PrintedLevels<CAPACITY> {
         requires { at < length self.old }
         ensures { self.new ≡ remove self.old at }
     {
-        let start = start_of(self.lengths.as_slice(), at);
-        let end = start_of(self.lengths.as_slice(), at + 1);
+        let start = self.start_of(at);
+        let end = self.start_of(at + 1);
         self.text.splice(start, end, b"");
-        self.lengths.remove(at);
+        self.ends.remove(at);
+        move_ends(&mut self.ends, at, (end - start) as u16, 0);
         self.levels.remove(at);
     }
 
@@ -155,10 +179,10 @@ impl<const CAPACITY: usize> PrintedLevels<CAPACITY> {
     {
         let all = self.levels.len();
         if count < all {
-            let start = start_of(self.lengths.as_slice(), count);
-            let end = start_of(self.lengths.as_slice(), all);
+            let start = self.start_of(count);
+            let end = self.start_of(all);
             self.text.splice(start, end, b"");
-            self.lengths.truncate(count);
+            self.ends.truncate(count);
             self.levels.truncate(count);
         }
     }

@@ -1,7 +1,7 @@
 //! A text that is edited in place.
 
 ghost use Rattle.std.specs.Prelude.{◌≡◌, ◌≤◌, ◌+◌, ◌-◌, [], length, take, drop};
-ghost use Rattle.std.specs.List.{splice};
+ghost use Rattle.std.specs.List.{splice, copy_within};
 
 use std::marker::Model;
 
@@ -65,8 +65,22 @@ impl<const MOST: usize> Text<MOST> {
         let behind = from + piece.len();
         let kept = self.end - to;
         let all = &mut self.bytes[..];
-        all.copy_within(to..self.end, behind);
+        move_part(all, to, self.end, behind);
         all[from..behind].copy_from_slice(piece);
         self.end = behind + kept;
+    }
+}
+
+// Moves the bytes from `from` on and below `end` to `to` on, where they do not stand there already.
+#[inline]
+#[tactic(auto, using(crate::proofs::Pieces::moved_nowhere))]
+fn move_part(all: &mut [u8], from: usize, end: usize, to: usize)
+    requires order { from ≤ end }
+    requires inside { end ≤ length all.old }
+    requires room { to + (end - from) ≤ length all.old }
+    ensures { all.new ≡ copy_within all.old from end to }
+{
+    if to != from {
+        all.copy_within(from..end, to);
     }
 }
