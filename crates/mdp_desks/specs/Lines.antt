@@ -6,13 +6,14 @@ use Rattle.mdp_templates.specs.declared.instrument.Instrument.{Instrument}
 use Rattle.mdp_templates.specs.declared.instrument.InstrumentKind.{InstrumentKind}
 use Rattle.mdp_templates.specs.declared.instrument.InstrumentKind.TheVariants.{Outright, Calendar}
 use Rattle.mdp_books.specs.declared.book.Book.{Book}
+use Rattle.mdp_books.specs.declared.book.Sides.{Sides}
 use Rattle.mdp_books.specs.declared.book.Book.TheVariants.{Good, Fault}
 use Rattle.mdp_books.specs.Feed.{Sent}
 use Rattle.mdp_quotes.specs.declared.best.Best.{Best}
 use Rattle.mdp_quotes.specs.Best.{best_of}
 use Rattle.mdp_quotes.specs.Consolidation.{quotes_of}
 use Rattle.mdp_quotes.specs.Verdict.{bid_verdict, offer_verdict}
-use Rattle.mdp_print.specs.Texts.{direct_line, implied_line, consolidated_line, fault_line, audit_line}
+use Rattle.mdp_print.specs.Texts.{head_text, direct_line, implied_line, consolidated_line, fault_line, audit_line}
 
 -- what an event end shows of a security: its book, and whether it is printed
 pub record Seen : Type 0 where
@@ -20,12 +21,16 @@ pub record Seen : Type 0 where
   pub printed : Bool
   pub book : Book
 
--- the lines of a book where an event ends: direct, implied and consolidated, or the place of its fault
+-- the lines of a good book behind their letters: direct, implied and consolidated
+abbrev pub sides_lines : List ℕ → Sides → List ℕ
+sides_lines head sides =
+    direct_line head sides.bids.levels sides.offers.levels
+    ++ (implied_line head sides.implied_bids.levels sides.implied_offers.levels
+    ++ consolidated_line head (quotes_of sides).bids (quotes_of sides).offers)
+
+-- the lines of a book where an event ends: those of its sides, or the place of its fault
 abbrev pub book_lines : ℕ → ℕ → List ℕ → Book → List ℕ
-book_lines packet message name (Good sides) =
-    direct_line packet message name sides.bids.levels sides.offers.levels
-    ++ (implied_line packet message name sides.implied_bids.levels sides.implied_offers.levels
-    ++ consolidated_line packet message name (quotes_of sides).bids (quotes_of sides).offers)
+book_lines packet message name (Good sides) = sides_lines (head_text packet message name) sides
 book_lines packet message name (Fault place) = fault_line packet message name place
 
 abbrev pub text_of : ℕ → ℕ → Option Seen → List ℕ

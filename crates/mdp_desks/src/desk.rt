@@ -87,8 +87,7 @@ impl Desk {
         ensures { OnOk result (out.new.items ≡ out.old.items ++ text_of packet message (desk_standing packet self.now)) }
     {
         if packet > self.base && self.marked {
-            let name = self.instrument.name.as_str().as_bytes();
-            put_book(out, packet, message, name, &self.book)?;
+            put_book(out, packet, message, &self.instrument.name, &self.book)?;
         }
         Ok(())
     }
@@ -115,7 +114,7 @@ impl Desk {
             return Ok(None);
         }
         let mut lines = Vec::new(alloc);
-        let name = self.instrument.name.as_str().as_bytes();
+        let name = &self.instrument.name;
         let top = put_book(&mut lines, packet, message, name, &self.book)?;
         let best = Best::of(self.book.book());
         Ok(Some(ToldSecurity::new(slot, lines, best, top)))

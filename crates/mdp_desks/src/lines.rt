@@ -7,28 +7,26 @@ ghost use Rattle.mdp_print.specs.Texts.{consolidated_line};
 ghost use Rattle.mdp_desks.specs.Lines.{book_lines};
 
 use mdp_books::{Book, Sides};
-use mdp_print::{put_consolidated, put_direct, put_fault, put_implied, put_merged};
+use mdp_print::{Head, put_consolidated, put_direct, put_fault, put_implied, put_merged};
 use mdp_quotes::{Consolidated, Live, TopOfBook, are_in_order, merged_top};
-use mdp_templates::Memory;
+use mdp_templates::{Memory, Name};
 use std::alloc::Allocator;
 
 // Appends the `C` line of a good book's sides, and hands back the top of what it shows.
 fn put_totals<A: Allocator>(
     out: &mut Vec<u8, A>,
-    packet: u32,
-    message: u64,
-    name: &[u8],
+    head: &Head,
     sides: &Sides,
 ) -> Result<TopOfBook, Memory>
-    ensures line { OnOk result (out.new.items ≡ out.old.items ++ consolidated_line packet message name.now (quotes_of sides.now).bids (quotes_of sides.now).offers) }
+    ensures line { OnOk result (out.new.items ≡ out.old.items ++ consolidated_line head.now (quotes_of sides.now).bids (quotes_of sides.now).offers) }
     ensures top { IfOk result (λ top. top ≡ top_of_quotes (quotes_of sides.now)) }
 {
     if are_in_order(sides) {
-        put_merged(out, packet, message, name, sides)?;
+        put_merged(out, head, sides)?;
         return Ok(merged_top(sides));
     }
     let quotes = Consolidated::of_sides(sides);
-    put_consolidated(out, packet, message, name, quotes.bids(), quotes.offers())?;
+    put_consolidated(out, head, quotes.bids(), quotes.offers())?;
     Ok(quotes.top())
 }
 
@@ -39,7 +37,7 @@ pub fn put_book<A: Allocator>(
     out: &mut Vec<u8, A>,
     packet: u32,
     message: u64,
-    name: &[u8],
+    name: &Name,
     live: &Live,
 ) -> Result<Option<TopOfBook>, Memory>
     ensures ok { OnOk result (out.new.items ≡ out.old.items ++ book_lines packet message name.now live.now) }
@@ -47,9 +45,10 @@ pub fn put_book<A: Allocator>(
 {
     match live.book() {
         Book::Good(sides) => {
-            put_direct(out, packet, message, name, sides)?;
-            put_implied(out, packet, message, name, sides)?;
-            let top = put_totals(out, packet, message, name, sides)?;
+            let head = Head::new(packet, message, name);
+            put_direct(out, &head, sides)?;
+            put_implied(out, &head, sides)?;
+            let top = put_totals(out, &head, sides)?;
             Ok(Some(top))
         }
         Book::Fault(place) => {

@@ -15,7 +15,7 @@ use mdp_books::Book;
 use mdp_desks::{Desk, Marked};
 use mdp_print::put_audit;
 use mdp_quotes::{Best, audit};
-use mdp_templates::Memory;
+use mdp_templates::{Memory, Name};
 use std::alloc::Allocator;
 
 // Appends the verdicts of a spread's book against its legs', unless one of the three is a fault.
@@ -23,7 +23,7 @@ fn put_verdicts<A: Allocator>(
     out: &mut Vec<u8, A>,
     packet: u32,
     message: u64,
-    name: &[u8],
+    name: &Name,
     spread: &Book,
     leg1: &Book,
     leg2: &Book,
@@ -74,12 +74,11 @@ fn put_spread<A: Allocator>(
     if !are_current(packet, spread, leg1, leg2) {
         return Ok(());
     }
-    let name = spread.instrument.name.as_str().as_bytes();
     put_verdicts(
         out,
         packet,
         message,
-        name,
+        &spread.instrument.name,
         spread.book.book(),
         leg1.book.book(),
         leg2.book.book(),

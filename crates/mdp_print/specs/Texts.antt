@@ -16,24 +16,29 @@ use Rattle.mdp_templates.specs.Feed.{feed_letter}
 abbrev pub totals_text : List Total → List ℕ
 totals_text totals = flat_map (λ total. quote_text total.price total.size) totals
 
--- where an event ends, and whose book it is: PACKET.MESSAGE NAME
+-- where an event ends, and whose line it is: PACKET.MESSAGE NAME
 abbrev pub event_text : ℕ → ℕ → List ℕ → List ℕ
 event_text packet message name = decimal packet ++ codes "." ++ decimal message ++ codes " " ++ name
 
+-- what the lines of a book have behind their letter: where the event ends, whose book it is, and the letter of bids
+abbrev pub head_text : ℕ → ℕ → List ℕ → List ℕ
+head_text packet message name = codes " " ++ event_text packet message name ++ codes " B"
+
+-- the line of two sides under a letter: LETTER PACKET.MESSAGE NAME B BIDS O OFFERS
+abbrev pub sides_line : List ℕ → List ℕ → List ℕ → List ℕ → List ℕ
+sides_line letter head bids offers = letter ++ head ++ bids ++ codes " O" ++ offers ++ codes "\n"
+
 -- D PACKET.MESSAGE NAME B LEVELS O LEVELS
-unfoldable pub direct_line : ℕ → ℕ → List ℕ → List Level → List Level → List ℕ
-direct_line packet message name bids offers =
-    codes "D " ++ event_text packet message name ++ codes " B" ++ levels_text bids ++ codes " O" ++ levels_text offers ++ codes "\n"
+unfoldable pub direct_line : List ℕ → List Level → List Level → List ℕ
+direct_line head bids offers = sides_line (codes "D") head (levels_text bids) (levels_text offers)
 
 -- I PACKET.MESSAGE NAME B LEVELS O LEVELS
-unfoldable pub implied_line : ℕ → ℕ → List ℕ → List Level → List Level → List ℕ
-implied_line packet message name bids offers =
-    codes "I " ++ event_text packet message name ++ codes " B" ++ levels_text bids ++ codes " O" ++ levels_text offers ++ codes "\n"
+unfoldable pub implied_line : List ℕ → List Level → List Level → List ℕ
+implied_line head bids offers = sides_line (codes "I") head (levels_text bids) (levels_text offers)
 
 -- C PACKET.MESSAGE NAME B LEVELS O LEVELS
-unfoldable pub consolidated_line : ℕ → ℕ → List ℕ → List Total → List Total → List ℕ
-consolidated_line packet message name bids offers =
-    codes "C " ++ event_text packet message name ++ codes " B" ++ totals_text bids ++ codes " O" ++ totals_text offers ++ codes "\n"
+unfoldable pub consolidated_line : List ℕ → List Total → List Total → List ℕ
+consolidated_line head bids offers = sides_line (codes "C") head (totals_text bids) (totals_text offers)
 
 -- the place of an entry: PACKET.MESSAGE.ENTRY
 abbrev pub place_text : Place → List ℕ

@@ -7,6 +7,7 @@
 
 mod book_lines;
 mod counting;
+mod head;
 mod merged;
 mod pieces;
 mod status_lines;
@@ -19,6 +20,7 @@ mod writing;
 
 pub use book_lines::{put_consolidated, put_direct, put_implied, put_merged};
 pub use counting::Counting;
+pub use head::Head;
 pub use mdp_text::{ShortText, TextFromEnd};
 pub use status_lines::{put_fault, put_jump, put_last, put_refusal};
 pub use verdict_lines::put_audit;

@@ -1,27 +1,71 @@
-//! The totals of a side whose prices are in order, appended from the text of its direct levels.
+//! The totals of a side whose prices are in order, appended from the text of its levels.
 
-ghost use Rattle.std.specs.Prelude.{◌≡◌, ◌+◌, ◌<◌, ◌≤◌, ◌++◌, drop, length, vec_len, vec_capacity, IfOk, OnOk, OnErr};
+ghost use Rattle.std.specs.Prelude.{◌≡◌, ◌+◌, ◌-◌, ◌<◌, ◌≤◌, ◌++◌, take, drop, length, vec_len, vec_capacity, IfOk, OnOk, OnErr};
+ghost use Rattle.mdp_text.specs.Levels.{quote_text, levels_text};
+ghost use Rattle.mdp_quotes.specs.Entering.{total_of};
 ghost use Rattle.mdp_quotes.specs.Merged.{merged, passed_by, totals_to};
 ghost use Rattle.mdp_print.specs.Texts.{totals_text};
 ghost use Rattle.mdp_print.specs.Pieces.{BeginsWith};
 
 use crate::pieces::put;
 use crate::totals::put_total;
-use mdp_quotes::{Way, standing_of};
-use mdp_templates::{DIRECT_DEPTH, Level, Memory};
+use mdp_quotes::{Standing, Way, standing_of};
+use mdp_templates::{DIRECT_DEPTH, IMPLIED_DEPTH, Level, Memory};
 use mdp_text::PrintedLevels;
 use std::alloc::Allocator;
 
-// Appends the texts of the totals up to an implied level, behind the direct levels that were passed, and tells how many of
-// these are passed then.
+// Appends the text of the levels from `from` on and below `to`, counted from 0.
+fn put_levels<A: Allocator>(
+    out: &mut Vec<u8, A>,
+    printed: &PrintedLevels<DIRECT_DEPTH>,
+    from: usize,
+    to: usize,
+) -> Result<(), Memory>
+    requires order { from ≤ to }
+    requires inside { to ≤ length printed.now }
+    ensures ok { OnOk result (out.new.items ≡ out.old.items ++ levels_text (take (to - from) (drop from printed.now))) }
+    ensures err { OnErr result (out.new.items ≡ out.old.items) }
+    ensures len { OnOk result (vec_len out.new ≡ vec_len out.old + length (levels_text (take (to - from) (drop from printed.now)))) }
+    ensures room { vec_capacity out.old ≤ vec_capacity out.new }
+    ensures full { OnErr result (vec_capacity out.old < vec_len out.old + length (levels_text (take (to - from) (drop from printed.now)))) }
+{
+    if from < to {
+        return put(out, printed.text_of(from, to));
+    }
+    Ok(())
+}
+
+// Appends the text of an implied level that stands so among direct ones: its own, unless one of them stands at its price.
+fn put_standing<A: Allocator>(
+    out: &mut Vec<u8, A>,
+    standing: &Standing,
+    text: &[u8],
+) -> Result<(), Memory>
+    requires alone { standing.now.passed ≡ standing.now.ahead → text.now ≡ quote_text standing.now.total.price standing.now.total.size }
+    ensures ok { OnOk result (out.new.items ≡ out.old.items ++ quote_text standing.now.total.price standing.now.total.size) }
+    ensures err { OnErr result (out.new.items ≡ out.old.items) }
+    ensures len { OnOk result (vec_len out.new ≡ vec_len out.old + length (quote_text standing.now.total.price standing.now.total.size)) }
+    ensures room { vec_capacity out.old ≤ vec_capacity out.new }
+    ensures full { OnErr result (vec_capacity out.old < vec_len out.old + length (quote_text standing.now.total.price standing.now.total.size)) }
+{
+    if standing.passed == standing.ahead {
+        return put(out, text);
+    }
+    put_total(out, &standing.total)
+}
+
+// Appends the texts of the totals up to an implied level, of which this is the text, behind the direct levels that were passed, and
+// tells how many of these are passed then.
 fn put_up_to<A: Allocator>(
     out: &mut Vec<u8, A>,
     way: Way,
     direct: &PrintedLevels<DIRECT_DEPTH>,
     passed: usize,
     level: &Level,
+    text: &[u8],
 ) -> Result<usize, Memory>
-    requires { passed ≤ length direct.now }
+    requires passed { passed ≤ length direct.now }
+    requires text { text.now ≡ quote_text level.now.price level.now.size }
     ensures passed { IfOk result (λ n. n ≡ passed + passed_by way level.now (drop passed direct.now)) }
     ensures inside { IfOk result (λ n. n ≤ length direct.now) }
     ensures ok { OnOk result (out.new.items ≡ out.old.items ++ totals_text (totals_to way level.now (drop passed direct.now))) }
@@ -31,18 +75,17 @@ fn put_up_to<A: Allocator>(
     ensures full { OnErr result (vec_capacity out.old < vec_len out.old + length (totals_text (totals_to way level.now (drop passed direct.now)))) }
 {
     let standing = standing_of(way, &direct.levels()[passed..], level);
-    put(out, direct.text_of(passed, passed + standing.ahead))?;
-    put_total(out, &standing.total)?;
+    put_levels(out, direct, passed, passed + standing.ahead)?;
+    put_standing(out, &standing, text)?;
     Ok(passed + standing.passed)
 }
 
-/// Appends the texts of the totals of a side that is in order: of the direct levels from their text, and each implied one at its
-/// price.
+/// Appends the texts of the totals of a side that is in order: each implied level at its price among the direct ones.
 pub(crate) fn put_merged_levels<A: Allocator>(
     out: &mut Vec<u8, A>,
     way: Way,
     direct: &PrintedLevels<DIRECT_DEPTH>,
-    implied: &[Level],
+    implied: &PrintedLevels<IMPLIED_DEPTH>,
 ) -> Result<(), Memory>
     ensures ok { OnOk result (out.new.items ≡ out.old.items ++ totals_text (merged way direct.now implied.now)) }
     ensures err { OnErr result (BeginsWith out.new.items out.old.items) }
@@ -50,10 +93,12 @@ pub(crate) fn put_merged_levels<A: Allocator>(
     ensures room { vec_capacity out.old ≤ vec_capacity out.new }
     ensures full { OnErr result (vec_capacity out.old < vec_len out.old + length (totals_text (merged way direct.now implied.now))) }
 {
+    let levels = implied.levels();
     let mut passed = 0;
-    for level in implied {
-        passed = put_up_to(out, way, direct, passed, level)?;
+    for n in 0..levels.len() {
+        let text = implied.text_of(n, n + 1);
+        passed = put_up_to(out, way, direct, passed, &levels[n], text)?;
     }
-    put(out, direct.text_of(passed, direct.len()))?;
+    put_levels(out, direct, passed, direct.len())?;
     Ok(())
 }

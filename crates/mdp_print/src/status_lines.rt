@@ -1,21 +1,24 @@
 //! The lines of faulty books, jumps and refused datagrams, and the last line.
 
-ghost use Rattle.std.specs.Prelude.{◌≡◌, ◌+◌, ◌<◌, ◌++◌, length, codes, vec_len, vec_capacity, OnOk, OnErr};
+ghost use Rattle.std.specs.Prelude.{◌≡◌, ◌+◌, ◌<◌, ◌≤◌, ◌++◌, length, codes, vec_len, vec_capacity, OnOk, OnErr};
 ghost use Rattle.mdp_print.specs.Texts.{place_text, fault_line, jump_line, refusal_line, last_line};
-ghost use Rattle.mdp_print.specs.Pieces.{BeginsWith};
 
-use crate::pieces::{put, put_event, settle};
+use crate::pieces::{put, put_event};
 use mdp_books::Place;
 use mdp_sbe::Refusal;
-use mdp_templates::{Feed, Memory};
-use mdp_text::ShortText;
+use mdp_templates::{Feed, Memory, Name};
+use mdp_text::{ShortText, TextFromEnd};
 use std::alloc::Allocator;
 
+// The text of an `F` line.
+type FaultText = TextFromEnd<128>;
+
 // Gives the end of an `F` line: the place of an entry.
-fn end_at(place: &Place) -> ShortText
-    ensures { result ≡ codes " " ++ place_text place.now ++ codes "\n" }
+fn end_at(place: &Place) -> FaultText
+    ensures text { result ≡ codes " " ++ place_text place.now ++ codes "\n" }
+    ensures size { length result ≤ 64 }
 {
-    let mut text = ShortText::new();
+    let mut text = FaultText::new();
     text.put_byte(b'\n');
     text.put_number(u64::from(place.entry));
     text.put_byte(b'.');
@@ -26,39 +29,24 @@ fn end_at(place: &Place) -> ShortText
     text
 }
 
-// Appends the `F` line, or a front of it where memory runs out.
-#[tactic(auto, unfolding(crate::specs::Texts::fault_line))]
-fn put_place<A: Allocator>(
-    out: &mut Vec<u8, A>,
-    packet: u32,
-    message: u64,
-    name: &[u8],
-    place: &Place,
-) -> Result<(), Memory>
-    ensures ok { OnOk result (out.new.items ≡ out.old.items ++ fault_line packet message name.now place.now) }
-    ensures err { OnErr result (BeginsWith out.new.items out.old.items) }
-    ensures full { OnErr result (vec_capacity out.old < vec_len out.old + length (fault_line packet message name.now place.now)) }
-{
-    put_event(out, b'F', packet, message, name)?;
-    put(out, end_at(place).as_slice())
-}
-
 /// Appends the `F` line of a faulty book, with the place of its first impossible entry, where message
 /// `message` of packet `packet` ends an event. Where memory runs out the vector is as before.
+#[tactic(auto, unfolding(crate::specs::Texts::fault_line))]
 pub fn put_fault<A: Allocator>(
     out: &mut Vec<u8, A>,
     packet: u32,
     message: u64,
-    name: &[u8],
+    name: &Name,
     place: &Place,
 ) -> Result<(), Memory>
     ensures ok { OnOk result (out.new.items ≡ out.old.items ++ fault_line packet message name.now place.now) }
     ensures err { OnErr result (out.new.items ≡ out.old.items) }
     ensures full { OnErr result (vec_capacity out.old < vec_len out.old + length (fault_line packet message name.now place.now)) }
 {
-    let start = out.len();
-    let outcome = put_place(out, packet, message, name, place);
-    settle(out, start, outcome)
+    let mut text = end_at(place);
+    put_event(&mut text, packet, message, name);
+    text.put_bytes(b"F ");
+    put(out, text.as_slice())
 }
 
 /// Appends the `J` line of a jump, with the number of the next packet before and after it. Where

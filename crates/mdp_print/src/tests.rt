@@ -3,13 +3,14 @@
 ghost use Rattle.std.specs.Prelude.{◌≤◌, length};
 
 use crate::{
-    CountedWrite, Counting, put_audit, put_consolidated, put_direct, put_fault, put_implied,
+    CountedWrite, Counting, Head, put_audit, put_consolidated, put_direct, put_fault, put_implied,
     put_jump, put_last, put_merged, put_refusal, write_all_counted,
 };
+use arrayvec::ArrayString;
 use mdp_books::{Place, Side, Sides};
 use mdp_quotes::{Total, Verdict};
 use mdp_sbe::Refusal;
-use mdp_templates::{Feed, Level, Memory};
+use mdp_templates::{Feed, Level, Memory, Name};
 use refusing::Refusing;
 use std::alloc::{Allocator, Global};
 use std::io;
@@ -23,6 +24,13 @@ fn level(price: i64, size: i32) -> Level {
 
 fn total(price: i64, size: i64) -> Total {
     Total { price, size }
+}
+
+/// The name of this text, of at most 20 bytes.
+fn name(text: &str) -> Name {
+    let mut made = ArrayString::new();
+    let _ = made.try_push_str(text);
+    Name::new(made)
 }
 
 /// The sides of a book whose direct ones have these levels.
@@ -57,11 +65,11 @@ fn prints_direct_sides(rt: HostRuntime) -> Result<(), Fail> {
     let bids = [level(100_000_000_000, 5), level(-25_000_000, 0)];
     let offers = [level(i64::MIN, i32::MAX), level(i64::MAX, i32::MIN)];
     let both = with_direct(&bids, &offers);
-    assert!(rt; put_direct(&mut out, 7, 3, b"ESM6", &both).is_ok());
+    assert!(rt; put_direct(&mut out, &Head::new(7, 3, &name("ESM6")), &both).is_ok());
     let none = with_direct(&[], &[]);
-    assert!(rt; put_direct(&mut out, u32::MAX, u64::MAX, b"", &none).is_ok());
+    assert!(rt; put_direct(&mut out, &Head::new(u32::MAX, u64::MAX, &name("")), &none).is_ok());
     let one = with_direct(&[], &offers[..1]);
-    assert!(rt; put_direct(&mut out, 1, 1, b"NEAR", &one).is_ok());
+    assert!(rt; put_direct(&mut out, &Head::new(1, 1, &name("NEAR")), &one).is_ok());
     let lines =
         b"D 7.3 ESM6 B 100000000000x5 -25000000x0 O -9223372036854775808x2147483647 9223372036854775807x-2147483648\nD 4294967295.18446744073709551615  B O\nD 1.1 NEAR B O -9223372036854775808x2147483647\n";
     assert_eq!(rt; out.as_slice(), &lines[..]);
@@ -72,9 +80,9 @@ fn prints_direct_sides(rt: HostRuntime) -> Result<(), Fail> {
 fn prints_implied_sides(rt: HostRuntime) -> Result<(), Fail> {
     let mut out = Vec::new(rt.alloc());
     let bid = with_implied(&[level(-1, 10)], &[]);
-    assert!(rt; put_implied(&mut out, 12, 34, b"FAR", &bid).is_ok());
+    assert!(rt; put_implied(&mut out, &Head::new(12, 34, &name("FAR")), &bid).is_ok());
     let offers = with_implied(&[], &[level(0, 1), level(9, 2)]);
-    assert!(rt; put_implied(&mut out, 12, 34, b"FAR", &offers).is_ok());
+    assert!(rt; put_implied(&mut out, &Head::new(12, 34, &name("FAR")), &offers).is_ok());
     let lines = b"I 12.34 FAR B -1x10 O\nI 12.34 FAR B O 0x1 9x2\n";
     assert_eq!(rt; out.as_slice(), &lines[..]);
     Ok(())
@@ -85,8 +93,8 @@ fn prints_consolidated_sides(rt: HostRuntime) -> Result<(), Fail> {
     let mut out = Vec::new(rt.alloc());
     let bids = [total(10, 4_294_967_294), total(-10, i64::MAX)];
     let offers = [total(i64::MAX, i64::MIN)];
-    assert!(rt; put_consolidated(&mut out, 1, 2, b"N-F", &bids, &offers).is_ok());
-    assert!(rt; put_consolidated(&mut out, 1, 2, b"N-F", &[], &[]).is_ok());
+    assert!(rt; put_consolidated(&mut out, &Head::new(1, 2, &name("N-F")), &bids, &offers).is_ok());
+    assert!(rt; put_consolidated(&mut out, &Head::new(1, 2, &name("N-F")), &[], &[]).is_ok());
     let lines =
         b"C 1.2 N-F B 10x4294967294 -10x9223372036854775807 O 9223372036854775807x-9223372036854775808\nC 1.2 N-F B O\n";
     assert_eq!(rt; out.as_slice(), &lines[..]);
@@ -103,7 +111,7 @@ fn merges_sides_in_order(rt: HostRuntime) -> Result<(), Fail> {
         implied_bids: Side::from_levels(2, &[level(100, 7), level(98, 10)]),
         implied_offers: Side::from_levels(2, &[level(102, 8), level(104, 9)]),
     };
-    assert!(rt; put_merged(&mut out, 1, 2, b"N", &sides).is_ok());
+    assert!(rt; put_merged(&mut out, &Head::new(1, 2, &name("N")), &sides).is_ok());
     // one side empty, both levels of the other at one implied price each
     let offers = [level(-5, i32::MAX), level(6, 0)];
     let alike = Sides {
@@ -112,8 +120,8 @@ fn merges_sides_in_order(rt: HostRuntime) -> Result<(), Fail> {
         implied_bids: Side::from_levels(2, &[level(9, 1), level(8, 2)]),
         implied_offers: Side::from_levels(2, &offers),
     };
-    assert!(rt; put_merged(&mut out, 1, 2, b"N", &alike).is_ok());
-    assert!(rt; put_merged(&mut out, 1, 2, b"N", &with_direct(&[], &[])).is_ok());
+    assert!(rt; put_merged(&mut out, &Head::new(1, 2, &name("N")), &alike).is_ok());
+    assert!(rt; put_merged(&mut out, &Head::new(1, 2, &name("N")), &with_direct(&[], &[])).is_ok());
     let lines =
         b"C 1.2 N B 100x7 99x1 98x12 97x3 O 101x4 102x8 103x2147483647 104x9\nC 1.2 N B 9x1 8x2 O -5x4294967294 6x0\nC 1.2 N B O\n";
     assert_eq!(rt; out.as_slice(), &lines[..]);
@@ -128,7 +136,7 @@ fn prints_faults_jumps_and_the_end(rt: HostRuntime) -> Result<(), Fail> {
         message: u64::MAX,
         entry: 255,
     };
-    assert!(rt; put_fault(&mut out, 4, 1, b"NEAR", &place).is_ok());
+    assert!(rt; put_fault(&mut out, 4, 1, &name("NEAR"), &place).is_ok());
     assert!(rt; put_jump(&mut out, 5, u64::MAX).is_ok());
     assert!(rt; put_jump(&mut out, 0, 1).is_ok());
     assert!(rt; put_last(&mut out, 9, true).is_ok());
@@ -154,14 +162,14 @@ fn prints_verdicts(rt: HostRuntime) -> Result<(), Fail> {
     ];
     for n in 0..verdicts.len() {
         let offer = verdicts[verdicts.len() - 1 - n];
-        assert!(rt; put_audit(&mut out, 5, n as u64 + 1, b"CAL", verdicts[n], offer).is_ok());
+        assert!(rt; put_audit(&mut out, 5, n as u64 + 1, &name("CAL"), verdicts[n], offer).is_ok());
     }
     let all_words =
         b"A 5.1 CAL bid none offer equal-more\nA 5.2 CAL bid missing offer equal-less\nA 5.3 CAL bid extra offer equal\nA 5.4 CAL bid better offer worse\nA 5.5 CAL bid worse offer better\nA 5.6 CAL bid equal offer extra\nA 5.7 CAL bid equal-less offer missing\nA 5.8 CAL bid equal-more offer none\n";
     assert_eq!(rt; out.as_slice(), &all_words[..]);
     out.clear();
     let (worse, equal) = (Verdict::Worse, Verdict::Equal);
-    assert!(rt; put_audit(&mut out, u32::MAX, u64::MAX, b"", worse, equal).is_ok());
+    assert!(rt; put_audit(&mut out, u32::MAX, u64::MAX, &name(""), worse, equal).is_ok());
     let largest = b"A 4294967295.18446744073709551615  bid worse offer equal\n";
     assert_eq!(rt; out.as_slice(), &largest[..]);
     Ok(())
@@ -303,15 +311,15 @@ fn put_line<A: Allocator>(out: &mut Vec<u8, A>, kind: usize) -> Result<(), Memor
     let totals = [total(i64::MAX, i64::MAX), total(i64::MIN, i64::MIN)];
     let direct = with_direct(&levels, &levels);
     match kind {
-        0 => put_direct(out, u32::MAX, u64::MAX, b"NEAR", &direct),
-        1 => put_implied(out, 1, 2, b"NEAR", &with_implied(&levels, &[])),
-        2 => put_consolidated(out, 1, 2, b"NEAR", &totals, &totals),
-        3 => put_fault(out, 1, 2, b"A NAME OF 20 LETTERS", &place),
+        0 => put_direct(out, &Head::new(u32::MAX, u64::MAX, &name("NEAR")), &direct),
+        1 => put_implied(out, &Head::new(1, 2, &name("NEAR")), &with_implied(&levels, &[])),
+        2 => put_consolidated(out, &Head::new(1, 2, &name("NEAR")), &totals, &totals),
+        3 => put_fault(out, 1, 2, &name("A NAME OF 20 LETTERS"), &place),
         4 => put_audit(
             out,
             u32::MAX,
             u64::MAX,
-            b"A NAME OF 20 LETTERS",
+            &name("A NAME OF 20 LETTERS"),
             Verdict::EqualLess,
             Verdict::EqualMore,
         ),
@@ -342,11 +350,11 @@ fn refuse_each(rt: &impl Abort, alloc: Global, kind: usize) -> Result<u64, Fail>
 
 #[test]
 fn keeps_the_vector_where_memory_runs_out(rt: HostRuntime) -> Result<(), Fail> {
-    // the lines of books and spreads go out in pieces, so that a later growth finds some of the line in place
-    for kind in 0..5usize {
+    // the lines of good books go out in pieces, so that a later growth finds some of the line in place
+    for kind in 0..3usize {
         assert!(rt; refuse_each(&rt, rt.alloc(), kind)? > 1);
     }
-    for kind in 5..8usize {
+    for kind in 3..8usize {
         assert!(rt; refuse_each(&rt, rt.alloc(), kind)? > 0);
     }
     Ok(())

@@ -2,12 +2,11 @@
 
 ghost use Rattle.std.specs.Prelude.{◌≡◌, ◌+◌, ◌<◌, ◌≤◌, ◌++◌, length, codes, vec_len, vec_capacity, OnOk, OnErr};
 ghost use Rattle.mdp_print.specs.Texts.{verdict_text, audit_line};
-ghost use Rattle.mdp_print.specs.Pieces.{BeginsWith};
 
-use crate::pieces::{put, put_event, settle};
+use crate::pieces::{put, put_event};
 use mdp_quotes::Verdict;
-use mdp_templates::Memory;
-use mdp_text::ShortText;
+use mdp_templates::{Memory, Name};
+use mdp_text::TextFromEnd;
 use std::alloc::Allocator;
 
 // Tells the word for a verdict, of ten bytes at most.
@@ -27,11 +26,15 @@ fn word_of(verdict: Verdict) -> &'static [u8]
     }
 }
 
+// The text of an `A` line.
+type AuditText = TextFromEnd<104>;
+
 // Gives the end of an `A` line: the verdicts on the bid and the offer.
-fn end_with(bid: Verdict, offer: Verdict) -> ShortText
-    ensures { result ≡ codes " bid " ++ verdict_text bid ++ codes " offer " ++ verdict_text offer ++ codes "\n" }
+fn end_with(bid: Verdict, offer: Verdict) -> AuditText
+    ensures text { result ≡ codes " bid " ++ verdict_text bid ++ codes " offer " ++ verdict_text offer ++ codes "\n" }
+    ensures size { length result ≤ 33 }
 {
-    let mut text = ShortText::new();
+    let mut text = AuditText::new();
     text.put_byte(b'\n');
     text.put_bytes(word_of(offer));
     text.put_bytes(b" offer ");
@@ -40,32 +43,15 @@ fn end_with(bid: Verdict, offer: Verdict) -> ShortText
     text
 }
 
-// Appends the `A` line, or a front of it where memory runs out.
-#[tactic(auto, unfolding(crate::specs::Texts::audit_line))]
-fn put_verdicts<A: Allocator>(
-    out: &mut Vec<u8, A>,
-    packet: u32,
-    message: u64,
-    name: &[u8],
-    bid: Verdict,
-    offer: Verdict,
-) -> Result<(), Memory>
-    ensures ok { OnOk result (out.new.items ≡ out.old.items ++ audit_line packet message name.now bid offer) }
-    ensures err { OnErr result (BeginsWith out.new.items out.old.items) }
-    ensures full { OnErr result (vec_capacity out.old < vec_len out.old + length (audit_line packet message name.now bid offer)) }
-{
-    put_event(out, b'A', packet, message, name)?;
-    put(out, end_with(bid, offer).as_slice())
-}
-
 /// Appends the `A` line of a calendar spread: the verdicts on its implied bid and its implied offer,
 /// where message `message` of packet `packet` ends an event. Where memory runs out the vector is as
 /// before.
+#[tactic(auto, unfolding(crate::specs::Texts::audit_line))]
 pub fn put_audit<A: Allocator>(
     out: &mut Vec<u8, A>,
     packet: u32,
     message: u64,
-    name: &[u8],
+    name: &Name,
     bid: Verdict,
     offer: Verdict,
 ) -> Result<(), Memory>
@@ -73,7 +59,8 @@ pub fn put_audit<A: Allocator>(
     ensures err { OnErr result (out.new.items ≡ out.old.items) }
     ensures full { OnErr result (vec_capacity out.old < vec_len out.old + length (audit_line packet message name.now bid offer)) }
 {
-    let start = out.len();
-    let outcome = put_verdicts(out, packet, message, name, bid, offer);
-    settle(out, start, outcome)
+    let mut text = end_with(bid, offer);
+    put_event(&mut text, packet, message, name);
+    text.put_bytes(b"A ");
+    put(out, text.as_slice())
 }

@@ -8,11 +8,12 @@ ghost use Rattle.mdp_engine.specs.Parts.{AreQuiet};
 ghost use Rattle.mdp_engine.specs.Spreads.{IsUnder};
 ghost use Rattle.mdp_reports.specs.Taking.{marked_line};
 
+use arrayvec::ArrayString;
 use mdp_desks::Marked;
 use mdp_engine::Spread;
 use mdp_print::put_audit;
 use mdp_quotes::{Best, audit};
-use mdp_templates::{Instrument, Memory};
+use mdp_templates::{Instrument, Memory, Name};
 use std::alloc::Allocator;
 
 // Appends the verdicts of a spread against its legs, unless one of the three has no best levels.
@@ -20,7 +21,7 @@ fn put_verdicts<A: Allocator>(
     out: &mut Vec<u8, A>,
     packet: u32,
     message: u64,
-    name: &[u8],
+    name: &Name,
     spread: Option<Best>,
     leg1: Option<Best>,
     leg2: Option<Best>,
@@ -46,13 +47,13 @@ fn kept_at(kept: &[Option<Best>], slot: usize) -> Option<Best>
     }
 }
 
-// Lends the name of the security at a slot.
-fn name_at(listed: &[Instrument], slot: usize) -> &[u8]
-    ensures { result.now ≡ name_of (slice_get listed.now slot) }
+// Gives the name of the security at a slot, an empty one where none is listed there.
+fn name_at(listed: &[Instrument], slot: usize) -> Name
+    ensures { result ≡ name_of (slice_get listed.now slot) }
 {
     match listed.get(slot) {
-        Some(instrument) => instrument.name.as_str().as_bytes(),
-        None => &[],
+        Some(instrument) => instrument.name.copy(),
+        None => Name::new(ArrayString::new()),
     }
 }
 
@@ -87,7 +88,7 @@ fn put_marked<A: Allocator>(
         out,
         packet,
         message,
-        name_at(listed, spread.slot),
+        &name_at(listed, spread.slot),
         kept_at(kept, spread.slot),
         kept_at(kept, spread.leg1),
         kept_at(kept, spread.leg2),

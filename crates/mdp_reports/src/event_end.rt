@@ -23,7 +23,7 @@ fn tell_due<A: Allocator + Copy>(
     ensures { OnOk result (out.new ≡ reports_with_all (told_there packet message slot (desk_standing packet desk.now)) out.old) }
 {
     if packet > desk.base {
-        let name = desk.instrument.name.as_str().as_bytes();
+        let name = &desk.instrument.name;
         out.put_row(packet, message, slot, name, &desk.book)?;
     }
     Ok(())

@@ -10,7 +10,7 @@ use crate::rest::Rest;
 use crate::row::{Heading, Mark, Row};
 use mdp_desks::put_book;
 use mdp_quotes::{Best, Live};
-use mdp_templates::Memory;
+use mdp_templates::{Memory, Name};
 use std::alloc::Allocator;
 use std::marker::Model;
 
@@ -88,7 +88,7 @@ fn put_told<A: Allocator>(
     packet: u32,
     message: u64,
     slot: u16,
-    name: &[u8],
+    name: &Name,
     live: &Live,
 ) -> Result<(), Memory>
     ensures bytes { OnOk result (bytes.new.items ≡ bytes.old.items ++ (told_of_book packet message slot name.now live.now).lines) }
@@ -194,7 +194,7 @@ impl<A: Allocator + Copy> Reports<A> {
         packet: u32,
         message: u64,
         slot: u16,
-        name: &[u8],
+        name: &Name,
         live: &Live,
     ) -> Result<(), Memory>
         ensures told { OnOk result (self.new ≡ reports_with (told_of_book packet message slot name.now live.now) self.old) }

@@ -1,30 +1,47 @@
-use Rattle.std.proofs.Common.{rules, arith, ◌≡◌, ◌+◌, ◌<◌, ◌++◌, ap, ◌∙◌, sym, length, vec_len, vec_capacity}
+use Rattle.std.proofs.Common.{rules, arith, ◌≡◌, ◌+◌, ◌<◌, ◌++◌, refl, ap, ◌∙◌, sym, length, vec_len, vec_capacity}
 use Rattle.mdp_quotes.specs.Merged.{merged}
 use Rattle.mdp_print.specs.Texts.{totals_text}
-use Rattle.mdp_print.proofs.Merging.{last_is}
+use Rattle.mdp_print.proofs.Fronts.{begins_more}
+use Rattle.mdp_print.proofs.Merging.{last_is, stands_at, left_at, lengths_at, parts_on}
 use Rattle.mdp_print.proofs.merged.put_merged_levels.Goals as goal
+
+pub put_up_to-requires : goal.put_up_to-requires
+put_up_to-requires g c =
+    let at = stands_at c.loop-n.n c.levels-levels.result.now c.args.implied.now _ c.levels-levels.ensures.items c.loop-n-test.true in
+    record { passed = c.loop-n.invariant.inside; text = c.text_of-text.ensures ∙ at.text }
+
+pub loop-n-preserved : goal.loop-n-preserved
+loop-n-preserved g c =
+    let at = stands_at c.loop-n.n c.levels-levels.result.now c.args.implied.now _ c.levels-levels.ensures.items c.loop-n-test.true in
+    let split = left_at c.args.way c.args.direct.now c.args.implied.now c.loop-n.passed c.in_ok-passed.passed c.loop-n.n _ at c.in_ok-passed.ensures.passed in
+    let lengths = lengths_at c.args.way c.args.direct.now c.args.implied.now c.loop-n.passed c.in_ok-passed.passed c.loop-n.n _ at c.in_ok-passed.ensures.passed in
+    record {
+      inside = c.in_ok-passed.ensures.inside;
+      text = parts_on c.loop-n.out.items c.put_up_to.new.out.items _ _ _ c.in_ok-passed.ensures.ok (ap (λ ys. c.loop-n.out.items ++ ys) (sym split) ∙ c.loop-n.invariant.text);
+      len = omega (arith, c.in_ok-passed.ensures.len, lengths, c.loop-n.invariant.len);
+      front = rw c.in_ok-passed.ensures.ok (begins_more c.args.out.now.items c.loop-n.out.items _ c.loop-n.invariant.front);
+      room = omega (arith, c.in_ok-passed.ensures.room, c.loop-n.invariant.room);
+    }
 
 pub returns-clause-ok : goal.returns-clause-ok
 returns-clause-ok g c =
-    let last = last_is c.args.way c.args.direct.now c.args.implied.now c.loop-level.passed c.loop-level.level-index c.len.result c.text_of.result.now
-    (omega (arith, c.loop-level-test.false)) c.len.ensures.value c.text_of.ensures in
-    let all : c.loop-level.out.items ++ c.text_of.result.now ≡ c.args.out.now.items ++ totals_text (merged c.args.way c.args.direct.now c.args.implied.now) =
-    ap (λ ys. c.loop-level.out.items ++ ys) (sym last) ∙ c.loop-level.invariant.text in
-    rw (← all) c.in_ok-put.ensures.ok
+    let last = last_is c.args.way c.args.direct.now c.args.implied.now c.loop-n.passed c.loop-n.n c.len.result _
+    (omega (arith, c.loop-n-test.false, ap length c.levels-levels.ensures.items)) c.len.ensures.value refl in
+    let all : c.loop-n.out.items ++ _ ≡ c.args.out.now.items ++ totals_text (merged c.args.way c.args.direct.now c.args.implied.now) =
+    ap (λ ys. c.loop-n.out.items ++ ys) (sym last) ∙ c.loop-n.invariant.text in
+    c.in_ok-put_levels.ensures.ok ∙ all
 
 pub returns-clause-len : goal.returns-clause-len
 returns-clause-len g c =
-    let last = last_is c.args.way c.args.direct.now c.args.implied.now c.loop-level.passed c.loop-level.level-index c.len.result c.text_of.result.now
-    (omega (arith, c.loop-level-test.false)) c.len.ensures.value c.text_of.ensures in
-    let all : vec_len c.loop-level.out + length c.text_of.result.now ≡ vec_len c.args.out.now + length (totals_text (merged c.args.way c.args.direct.now c.args.implied.now)) =
-    omega (arith, ap length last, c.loop-level.invariant.len) in
-    rw (← all) c.in_ok-put.ensures.len
+    let last = last_is c.args.way c.args.direct.now c.args.implied.now c.loop-n.passed c.loop-n.n c.len.result _
+    (omega (arith, c.loop-n-test.false, ap length c.levels-levels.ensures.items)) c.len.ensures.value refl in
+    omega (arith, c.in_ok-put_levels.ensures.len, ap length last, c.loop-n.invariant.len)
 
-pub returns-in_err-put-clause-full : goal.returns-in_err-put-clause-full
-returns-in_err-put-clause-full g c =
-    let last = last_is c.args.way c.args.direct.now c.args.implied.now c.loop-level.passed c.loop-level.level-index c.len.result c.text_of.result.now
-    (omega (arith, c.loop-level-test.false)) c.len.ensures.value c.text_of.ensures in
+pub returns-in_err-put_levels-clause-full : goal.returns-in_err-put_levels-clause-full
+returns-in_err-put_levels-clause-full g c =
+    let last = last_is c.args.way c.args.direct.now c.args.implied.now c.loop-n.passed c.loop-n.n c.len.result _
+    (omega (arith, c.loop-n-test.false, ap length c.levels-levels.ensures.items)) c.len.ensures.value refl in
     let all = c.args.out.now in
     let full : vec_capacity all < vec_len all + length (totals_text (merged c.args.way c.args.direct.now c.args.implied.now)) =
-    omega (arith, c.in_err-put.ensures.full, ap length last, c.loop-level.invariant.len, c.loop-level.invariant.room) in
+    omega (arith, c.in_err-put_levels.ensures.full, ap length last, c.loop-n.invariant.len, c.loop-n.invariant.room) in
     search rules

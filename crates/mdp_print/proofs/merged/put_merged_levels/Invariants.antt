@@ -5,14 +5,14 @@ use Rattle.mdp_print.specs.Pieces.{BeginsWith}
 use Rattle.mdp_print.proofs.merged.put_merged_levels.Given as goal
 
 -- what is there and the text of the totals that are left are the whole
-abbrev pub invariant-loop-level : goal.invariant-loop-level
-invariant-loop-level g l = record {
+abbrev pub invariant-loop-n : goal.invariant-loop-n
+invariant-loop-n g l = record {
   inside : l.passed ≤ length l.direct;
   text :
-      l.out.items ++ totals_text (merged l.way (drop l.passed l.direct) (drop l.level-index l.implied))
+      l.out.items ++ totals_text (merged l.way (drop l.passed l.direct) (drop l.n l.implied))
       ≡ l.initial.out.items ++ totals_text (merged l.way l.direct l.implied);
   len :
-      vec_len l.out + length (totals_text (merged l.way (drop l.passed l.direct) (drop l.level-index l.implied)))
+      vec_len l.out + length (totals_text (merged l.way (drop l.passed l.direct) (drop l.n l.implied)))
       ≡ vec_len l.initial.out + length (totals_text (merged l.way l.direct l.implied));
   front : BeginsWith l.out.items l.initial.out.items;
   room : vec_capacity l.initial.out ≤ vec_capacity l.out;

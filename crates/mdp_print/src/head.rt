@@ -1,0 +1,48 @@
+//! What the lines of a book begin with.
+
+ghost use Rattle.std.specs.Prelude.{◌≡◌};
+ghost use Rattle.mdp_print.specs.Texts.{head_text};
+
+use crate::pieces::put_event;
+use mdp_templates::Name;
+use mdp_text::TextFromEnd;
+use std::marker::Model;
+
+// Two spaces, the letter of bids, and 62 bytes at most of where an event ends.
+type HeadText = TextFromEnd<72>;
+
+/// What the lines of a book have behind their letter: where the event ends, whose book it is, and the letter of bids. It is put
+/// together once for all of them, and takes no memory.
+#[derive(Drop)]
+pub struct Head {
+    text: HeadText,
+}
+
+impl Model for Head {
+    ghost use Rattle.std.specs.Prelude.{List, ℕ};
+
+    ghost Value = { List ℕ };
+
+    ghost view = { λ h. h.text };
+}
+
+impl Head {
+    /// Puts together what the lines of a book have behind their letter where message `message` of packet `packet` ends an event.
+    pub fn new(packet: u32, message: u64, name: &Name) -> Head
+        ensures { result ≡ head_text packet message name.now }
+    {
+        let mut text = HeadText::new();
+        text.put_bytes(b" B");
+        put_event(&mut text, packet, message, name);
+        text.put_byte(b' ');
+        Head { text }
+    }
+
+    /// Lends the text.
+    #[inline]
+    pub(crate) fn as_slice(&self) -> &[u8]
+        ensures { result.now ≡ self.now }
+    {
+        self.text.as_slice()
+    }
+}
