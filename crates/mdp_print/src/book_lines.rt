@@ -76,9 +76,11 @@ fn put_merged_sides<A: Allocator>(
     ensures full { OnErr result (vec_capacity out.old < vec_len out.old + length (consolidated_line head.now (merged_quotes sides.now).bids (merged_quotes sides.now).offers)) }
 {
     put_head(out, b'C', head)?;
-    put_merged_levels(out, Way::Falling, sides.bids.printed(), sides.implied_bids.printed())?;
+    let implied = sides.implied_bids.printed();
+    put_merged_levels(out, Way::Falling, sides.bids.printed(), implied)?;
     put_offers_letter(out)?;
-    put_merged_levels(out, Way::Rising, sides.offers.printed(), sides.implied_offers.printed())?;
+    let implied = sides.implied_offers.printed();
+    put_merged_levels(out, Way::Rising, sides.offers.printed(), implied)?;
     put_byte(out, b'\n')
 }
 

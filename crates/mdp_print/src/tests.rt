@@ -104,6 +104,7 @@ fn prints_consolidated_sides(rt: HostRuntime) -> Result<(), Fail> {
 #[test]
 fn merges_sides_in_order(rt: HostRuntime) -> Result<(), Fail> {
     let mut out = Vec::new(rt.alloc());
+    let head = Head::new(1, 2, &name("N"));
     // implied bids before all others and at the price of 98; implied offers between two levels and behind all
     let sides = Sides {
         bids: Side::from_levels(10, &[level(99, 1), level(98, 2), level(97, 3)]),
@@ -111,7 +112,7 @@ fn merges_sides_in_order(rt: HostRuntime) -> Result<(), Fail> {
         implied_bids: Side::from_levels(2, &[level(100, 7), level(98, 10)]),
         implied_offers: Side::from_levels(2, &[level(102, 8), level(104, 9)]),
     };
-    assert!(rt; put_merged(&mut out, &Head::new(1, 2, &name("N")), &sides).is_ok());
+    assert!(rt; put_merged(&mut out, &head, &sides).is_ok());
     // one side empty, both levels of the other at one implied price each
     let offers = [level(-5, i32::MAX), level(6, 0)];
     let alike = Sides {
@@ -120,8 +121,8 @@ fn merges_sides_in_order(rt: HostRuntime) -> Result<(), Fail> {
         implied_bids: Side::from_levels(2, &[level(9, 1), level(8, 2)]),
         implied_offers: Side::from_levels(2, &offers),
     };
-    assert!(rt; put_merged(&mut out, &Head::new(1, 2, &name("N")), &alike).is_ok());
-    assert!(rt; put_merged(&mut out, &Head::new(1, 2, &name("N")), &with_direct(&[], &[])).is_ok());
+    assert!(rt; put_merged(&mut out, &head, &alike).is_ok());
+    assert!(rt; put_merged(&mut out, &head, &with_direct(&[], &[])).is_ok());
     let lines =
         b"C 1.2 N B 100x7 99x1 98x12 97x3 O 101x4 102x8 103x2147483647 104x9\nC 1.2 N B 9x1 8x2 O -5x4294967294 6x0\nC 1.2 N B O\n";
     assert_eq!(rt; out.as_slice(), &lines[..]);
@@ -310,10 +311,11 @@ fn put_line<A: Allocator>(out: &mut Vec<u8, A>, kind: usize) -> Result<(), Memor
     let levels = [level(-25_000_000, 7), level(i64::MIN, i32::MAX)];
     let totals = [total(i64::MAX, i64::MAX), total(i64::MIN, i64::MIN)];
     let direct = with_direct(&levels, &levels);
+    let head = Head::new(u32::MAX, u64::MAX, &name("A NAME OF 20 LETTERS"));
     match kind {
-        0 => put_direct(out, &Head::new(u32::MAX, u64::MAX, &name("NEAR")), &direct),
-        1 => put_implied(out, &Head::new(1, 2, &name("NEAR")), &with_implied(&levels, &[])),
-        2 => put_consolidated(out, &Head::new(1, 2, &name("NEAR")), &totals, &totals),
+        0 => put_direct(out, &head, &direct),
+        1 => put_implied(out, &head, &with_implied(&levels, &[])),
+        2 => put_consolidated(out, &head, &totals, &totals),
         3 => put_fault(out, 1, 2, &name("A NAME OF 20 LETTERS"), &place),
         4 => put_audit(
             out,

@@ -6,9 +6,11 @@ use Rattle.mdp_print.proofs.Merging.{put_is, put_alone}
 use Rattle.mdp_print.proofs.merged.put_up_to.Goals as goal
 
 pub put_standing-requires : goal.put_standing-requires
-put_standing-requires g c = record { alone = λ none.
-    c.requires.text ∙ put_alone c.args.way c.args.level.now _ c.standing_of-standing.result.ahead c.standing_of-standing.result.passed c.standing_of-standing.result.total
-    c.standing_of-standing.ensures.ahead c.standing_of-standing.ensures.passed c.standing_of-standing.ensures.total none }
+put_standing-requires g c = record {
+  alone = λ none.
+      c.requires.text ∙ put_alone c.args.way c.args.level.now _ c.standing_of-standing.result.ahead c.standing_of-standing.result.passed c.standing_of-standing.result.total
+      c.standing_of-standing.ensures.ahead c.standing_of-standing.ensures.passed c.standing_of-standing.ensures.total none;
+}
 
 pub returns-in_err-put_levels-clause-full : goal.returns-in_err-put_levels-clause-full
 returns-in_err-put_levels-clause-full g c =
