@@ -1,14 +1,14 @@
 -- Snapshots' sides: what is found at a position, what is gathered, and that a side is one or none.
 use Rattle.std.proofs.Common.{◌≡◌, ◌≢◌, ◌⊎◌, ℕ, zero, suc, ◌+◌, ◌<◌, ◌≤◌, List, [], ◌∷◌, ◌++◌, take, length, get_or, Option, Some, None, Result, Ok, Err, true, false, refl, sym, ap, subst, ◌∙◌, arith, inl, inr}
-use Rattle.std.specs.Prelude.{slice_get, slice_index, ◌==◌, nat_lt, ⊤}
-use Rattle.std.specs.Option.{option_to_list}
+use Rattle.std.specs.Prelude.{slice_get, slice_set, slice_index, ◌==◌, nat_lt, ⊤}
+use Rattle.std.specs.Option.{option_map, option_to_list}
 use Rattle.std.proofs.Math.Seq.{take-suc}
-use Rattle.std.proofs.lemmas.Bool.{cases_lt, cases_Bool}
+use Rattle.std.proofs.lemmas.Bool.{cases_lt, cases_eq, cases_Bool}
 use Rattle.std.proofs.lemmas.Bool.Decides.{nat_tests}
 use Rattle.mdp_sbe.specs.declared.refusal.Refusal.{Refusal}
 use Rattle.mdp_sbe.specs.declared.refusal.Refusal.TheVariants as refusals
 use Rattle.mdp_templates.specs.Entry.{kind_of, level_of, depth_of, quote_of}
-use Rattle.std.proofs.lemmas.Option.{slice_get_past, slice_get_within}
+use Rattle.std.proofs.lemmas.Option.{slice_get_past, slice_get_within, slice_get-get_or}
 use Rattle.std.proofs.lemmas.List.{length-append}
 use Rattle.std.proofs.lemmas.List.Elements.{filter_map-append}
 use Rattle.mdp_templates.specs.declared.entry.Level.{Level}
@@ -21,7 +21,7 @@ use Rattle.mdp_sbe.specs.Number.{int32_at, int64_at}
 use Rattle.mdp_templates.specs.Answer.{◌>>=◌}
 use Rattle.mdp_templates.specs.Layout.{AreEntries}
 use Rattle.mdp_templates.specs.Recovery.{IsSide, level_at, levels_at, same_kind, quote_in, quote_by}
-use Rattle.mdp_templates.specs.Side.{found_of, found_and, AreShallow, IsGathered}
+use Rattle.mdp_templates.specs.Side.{found_of, found_and, Notes, AreFound, AreShallow, IsGathered}
 
 -- ---- what is found
 
@@ -38,7 +38,7 @@ levels_at-one kind position quote None e = rw e refl
 levels_at-one kind position quote (Some x) e = rw e refl
 
 -- one entry more
-pub found_more : (kind : Kind) (position n : ℕ) (quotes : List (Option Quote)) (d : Option Quote) (found : Found) → n < length quotes → found ≡ found_of (levels_at kind position (take n quotes)) → found_and found (level_at kind position (get_or quotes n d)) ≡ found_of (levels_at kind position (take (n + 1) quotes))
+found_more : (kind : Kind) (position n : ℕ) (quotes : List (Option Quote)) (d : Option Quote) (found : Found) → n < length quotes → found ≡ found_of (levels_at kind position (take n quotes)) → found_and found (level_at kind position (get_or quotes n d)) ≡ found_of (levels_at kind position (take (n + 1) quotes))
 found_more kind position n quotes d found below so_far =
     let here : Option Level = level_at kind position (get_or quotes n d) in
     let front : List Level = levels_at kind position (take n quotes) in
@@ -49,6 +49,68 @@ found_more kind position n quotes d found below so_far =
     ∙ filter_map-append (level_at kind position) (take n quotes) (get_or quotes n d ∷ [])
     ∙ ap (λ (xs : List Level). front ++ xs) (levels_at-one kind position (get_or quotes n d) here refl) in
     ap (λ (f : Found). found_and f here) so_far ∙ sym (found_of-push front here) ∙ ap found_of (sym more)
+
+-- ---- what is noted
+
+set_here : (xs : List Found) (n : ℕ) (x : Found) → n < length xs → slice_get (slice_set xs n x) n ≡ Some x
+set_here [] n x inside = absurd (omega arith)
+set_here (a ∷ xs) zero x inside = refl
+set_here (a ∷ xs) (suc n) x inside = set_here xs n x (omega (arith, inside))
+
+set_apart : (xs : List Found) (n k : ℕ) (x : Found) → k ≢ n → slice_get (slice_set xs n x) k ≡ slice_get xs k
+set_apart [] n k x apart = refl
+set_apart (a ∷ xs) zero zero x apart = absurd (apart refl)
+set_apart (a ∷ xs) zero (suc k) x apart = refl
+set_apart (a ∷ xs) (suc n) zero x apart = refl
+set_apart (a ∷ xs) (suc n) (suc k) x apart = set_apart xs n k x (λ same. apart (ap suc same))
+
+-- a place to which no level comes
+not_added : (o : Option Found) (level : Option Level) → level ≡ None → o ≡ option_map (λ found. found_and found level) o
+not_added None level none = refl
+not_added (Some found) level none = rw none refl
+
+pub other_side : (kind : Kind) (quote : Quote) (k : ℕ) → same_kind quote.kind kind ≡ false → level_at kind (k + 1) (Some quote) ≡ None
+other_side kind quote k other = rw other refl
+
+pub nowhere : (kind : Kind) (quote : Quote) (k : ℕ) → (quote.position ≡ k + 1 → ⊥) → level_at kind (k + 1) (Some quote) ≡ None
+nowhere kind quote k apart = elim (cases_Bool (same_kind quote.kind kind)) [
+  | inl same ↦ let away : (quote.position == k + 1) ≡ false = grind (arith, nat_tests, apart) in rw (same, away) refl
+  | inr other ↦ other_side kind quote k other
+]
+
+-- an entry of this side
+pub notes_here : (kind : Kind) (quote : Quote) (found : List Found) (place : ℕ) (before : Found) → same_kind quote.kind kind ≡ true → quote.position ≡ place + 1
+    → slice_get found place ≡ Some before → Notes kind (Some quote) found (slice_set found place (found_and before (Some quote.level)))
+notes_here kind quote found place before same here was = λ k. elim (cases_eq k place) [
+  | inl at ↦
+      let there : (quote.position == place + 1) ≡ true = grind (arith, nat_tests, here) in
+      rw (at, was, same, there) (set_here found place (found_and before (Some quote.level)) (slice_get_within found place before was))
+  | inr apart ↦
+      set_apart found place k (found_and before (Some quote.level)) apart
+      ∙ not_added (slice_get found k) (level_at kind (k + 1) (Some quote)) (nowhere kind quote k (λ e. apart (omega (arith, e, here))))
+]
+
+-- an entry of another side, or at no position of this list
+pub notes_nothing : (kind : Kind) (quote : Option Quote) (found : List Found) → ((k : ℕ) → k < length found → level_at kind (k + 1) quote ≡ None) → Notes kind quote found found
+notes_nothing kind quote found none = λ k. elim (cases_lt k (length found)) [
+  | inl inside ↦ not_added (slice_get found k) (level_at kind (k + 1) quote) (none k inside)
+  | inr past ↦ rw (slice_get_past found k past) refl
+]
+
+-- one entry more is noted
+pub notes_more : (kind : Kind) (n : ℕ) (quotes : List (Option Quote)) (d : Option Quote) (old new : List Found) → n < length quotes → length new ≡ length old
+    → Notes kind (get_or quotes n d) old new → AreFound kind (take n quotes) old → AreFound kind (take (n + 1) quotes) new
+notes_more kind n quotes d old new below same notes so_far = λ k inside.
+    let level : Option Level = level_at kind (k + 1) (get_or quotes n d) in
+    notes k ∙ ap (option_map (λ found. found_and found level)) (so_far k (omega (arith, inside, same)))
+    ∙ ap (λ (found : Found). Some found) (found_more kind (k + 1) n quotes d (found_of (levels_at kind (k + 1) (take n quotes))) below refl)
+
+pub found_at : (kind : Kind) (quotes : List (Option Quote)) (found : List Found) (k : ℕ) (one : Found) → AreFound kind quotes found → k < length found
+    → get_or found k Nothing ≡ one → found_of (levels_at kind (k + 1) quotes) ≡ one
+found_at kind quotes found k one are below is =
+    let some : Some (get_or found k Nothing) ≡ Some (found_of (levels_at kind (k + 1) quotes)) = sym (slice_get-get_or found k Nothing below) ∙ are k below in
+    let same : get_or found k Nothing ≡ found_of (levels_at kind (k + 1) quotes) = cc in
+    sym same ∙ is
 
 -- ---- what is gathered
 

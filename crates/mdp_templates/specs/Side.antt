@@ -1,12 +1,12 @@
 -- A snapshot's side while it is gathered, position by position.
 use Rattle.std.specs.Prelude.{◌≡◌, ◌<◌, ◌≤◌, ◌+◌, ℕ, List, [], ◌∷◌, length, slice_get, Option, Some, None}
-use Rattle.std.specs.Option.{option_to_list}
+use Rattle.std.specs.Option.{option_map, option_to_list}
 use Rattle.mdp_templates.specs.declared.entry.Level.{Level}
 use Rattle.mdp_templates.specs.declared.entry.Kind.{Kind}
 use Rattle.mdp_templates.specs.declared.quote.Quote.{Quote}
 use Rattle.mdp_templates.specs.declared.side.Found.{Found}
 use Rattle.mdp_templates.specs.declared.side.Found.TheVariants.{Nothing, One, Many}
-use Rattle.mdp_templates.specs.Recovery.{levels_at}
+use Rattle.mdp_templates.specs.Recovery.{level_at, levels_at}
 
 -- how many levels stand at a position
 abbrev pub found_of : List Level → Found
@@ -20,6 +20,14 @@ found_and found None = found
 found_and Nothing (Some level) = One level
 found_and (One other) (Some level) = Many
 found_and Many (Some level) = Many
+
+-- to what was found at each position of a side, from 1 on, the level that an entry gives there was added
+abbrev pub Notes : Kind → Option Quote → List Found → List Found → Type 0
+Notes kind quote old new = (k : ℕ) → slice_get new k ≡ option_map (λ found. found_and found (level_at kind (k + 1) quote)) (slice_get old k)
+
+-- what these entries give at each position of a side, from 1 on, as far as the list goes
+abbrev pub AreFound : Kind → List (Option Quote) → List Found → Type 0
+AreFound kind quotes found = (k : ℕ) → k < length found → slice_get found k ≡ Some (found_of (levels_at kind (k + 1) quotes))
 
 -- no entry of this kind stands at a position past the depth
 abbrev pub AreShallow : Kind → ℕ → List (Option Quote) → Type 0

@@ -1,9 +1,10 @@
 //! The sides of a snapshot, gathered from entries that stand in any order.
 
-ghost use Rattle.std.specs.Prelude.{◌≡◌, ◌≤◌, IfSome, IfNone, List};
+ghost use Rattle.std.specs.Prelude.{◌≡◌, ◌≤◌, IfSome, IfNone, List, Some};
 ghost use Rattle.mdp_templates.specs.declared.entry.Level.{Level};
-ghost use Rattle.mdp_templates.specs.Recovery.{IsSide, level_at, levels_at, same_kind};
-ghost use Rattle.mdp_templates.specs.Side.{AreShallow, found_of, found_and};
+ghost use Rattle.mdp_templates.specs.Entry.{direct_depth};
+ghost use Rattle.mdp_templates.specs.Recovery.{IsSide, same_kind};
+ghost use Rattle.mdp_templates.specs.Side.{AreFound, AreShallow, Notes, found_and};
 
 use crate::entry::{Kind, Level};
 use crate::quote::Quote;
@@ -18,37 +19,44 @@ pub enum Found {
 }
 
 impl Found {
-    // Gives these levels and, if there is one, this.
-    fn and(self, level: Option<Level>) -> Found
-        ensures { result ≡ found_and self level }
+    // Gives these levels and one more.
+    fn and(self, level: Level) -> Found
+        ensures { result ≡ found_and self (Some level) }
     {
-        match (self, level) {
-            (found, None) => found,
-            (Found::Nothing, Some(level)) => Found::One(level),
-            (Found::One(_) | Found::Many, Some(_)) => Found::Many,
+        match self {
+            Found::Nothing => Found::One(level),
+            Found::One(_) | Found::Many => Found::Many,
         }
     }
 }
 
-// Gives the level that an entry gives at a position of a side, if it does.
-fn level_of(quote: &Option<Quote>, kind: Kind, position: usize) -> Option<Level>
-    ensures { result ≡ level_at kind position quote.now }
+// Tells whether an entry is for this side.
+fn is_for(quote: &Quote, kind: Kind) -> bool
+    ensures { result ≡ same_kind quote.now.kind kind }
 {
-    match quote {
-        Some(quote) if quote.kind == kind && quote.position as usize == position => {
-            Some(quote.level)
-        }
-        _ => None,
+    quote.kind == kind
+}
+
+// Adds the level of an entry to what was found at its position, where the entry is for this side and its position among these.
+fn note(found: &mut [Found], quote: &Option<Quote>, kind: Kind)
+    ensures { Notes kind quote.now found.old found.new }
+{
+    let Some(quote) = quote else {
+        return;
+    };
+    let position = usize::from(quote.position);
+    if is_for(quote, kind) && 0 < position && position <= found.len() {
+        found[position - 1] = found[position - 1].and(quote.level);
     }
 }
 
-// Finds the levels that these entries give at a position of a side.
-fn find(quotes: &[Option<Quote>], kind: Kind, position: usize) -> Found
-    ensures { result ≡ found_of (levels_at kind position quotes.now) }
+// Finds the levels that these entries give at each position of a side, from 1 on.
+fn find_all<const DEPTH: usize>(quotes: &[Option<Quote>], kind: Kind) -> [Found; DEPTH]
+    ensures { AreFound kind quotes.now result }
 {
-    let mut found = Found::Nothing;
+    let mut found = [Found::Nothing; DEPTH];
     for quote in quotes {
-        found = found.and(level_of(quote, kind, position));
+        note(&mut found, quote, kind);
     }
     found
 }
@@ -58,13 +66,15 @@ pub(crate) fn gather<const DEPTH: usize>(
     quotes: &[Option<Quote>],
     kind: Kind,
 ) -> Option<ArrayVec<Level, DEPTH>>
-    requires { AreShallow kind DEPTH quotes.now }
+    requires few { DEPTH ≤ direct_depth }
+    requires shallow { AreShallow kind DEPTH quotes.now }
     ensures some { IfSome result (λ side. IsSide kind quotes.now side.items) }
     ensures none { IfNone result ((side : List Level) → IsSide kind quotes.now side → ⊥) }
 {
+    let found: [Found; DEPTH] = find_all(quotes, kind);
     let mut side = ArrayVec::new_in(());
     for place in 0..DEPTH {
-        match find(quotes, kind, place + 1) {
+        match found[place] {
             Found::Nothing => {}
             Found::One(level) if side.len() == place => side.push(level),
             Found::One(_) => return None,

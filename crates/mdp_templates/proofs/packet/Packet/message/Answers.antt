@@ -1,7 +1,6 @@
 use Rattle.std.proofs.Common.{◌<◌, Bool, List, Some, length, take, drop, get_or, false, ap, sym, ◌∙◌, arith}
 use Rattle.mdp_templates.specs.declared.entry.Entry.{Entry}
 use Rattle.mdp_templates.specs.Packet.{MessageContent, PacketContent}
-use Rattle.mdp_templates.specs.Spans.{message_at}
 use Rattle.mdp_templates.proofs.Spanning.{message-there, as_many_spans, span_of}
 use Rattle.mdp_templates.proofs.packet.Packet.message.Goals as goal
 
