@@ -22,8 +22,10 @@ fn put_head<A: Allocator>(out: &mut Vec<u8, A>, letter: u8, head: &Head) -> Resu
     ensures room { vec_capacity out.old ≤ vec_capacity out.new }
     ensures full { OnErr result (vec_capacity out.old < vec_len out.old + length (letter ∷ head.now)) }
 {
-    put_byte(out, letter)?;
-    put(out, head.as_slice())
+    let start = out.len();
+    put(out, head.as_slice())?;
+    out[start] = letter;
+    Ok(())
 }
 
 // Appends the line of the texts of two sides under a letter.

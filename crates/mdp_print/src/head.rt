@@ -1,6 +1,6 @@
 //! What the lines of a book begin with.
 
-ghost use Rattle.std.specs.Prelude.{◌≡◌};
+ghost use Rattle.std.specs.Prelude.{◌≡◌, ◌++◌, codes};
 ghost use Rattle.mdp_print.specs.Texts.{head_text};
 
 use crate::pieces::put_event;
@@ -8,22 +8,25 @@ use mdp_templates::Name;
 use mdp_text::TextFromEnd;
 use std::marker::Model;
 
-// Two spaces, the letter of bids, and 62 bytes at most of where an event ends.
+// Two letters, two spaces, and 62 bytes at most of where an event ends.
 type HeadText = TextFromEnd<72>;
 
 /// What the lines of a book have behind their letter: where the event ends, whose book it is, and the letter of bids. It is put
 /// together once for all of them, and takes no memory.
 #[derive(Drop)]
 pub struct Head {
+    /// The letter of direct sides, in the place of which another line has its own, and what stands behind it.
     text: HeadText,
 }
 
 impl Model for Head {
-    ghost use Rattle.std.specs.Prelude.{List, ℕ};
+    ghost use Rattle.std.specs.Prelude.{◌≡◌, List, ℕ, take, drop, codes};
 
     ghost Value = { List ℕ };
 
-    ghost view = { λ h. h.text };
+    ghost view = { λ h. drop 1 h.text };
+
+    ghost invariant = { λ h. take 1 h.text ≡ codes "D" };
 }
 
 impl Head {
@@ -35,13 +38,14 @@ impl Head {
         text.put_bytes(b" B");
         put_event(&mut text, packet, message, name);
         text.put_byte(b' ');
+        text.put_byte(b'D');
         Head { text }
     }
 
-    /// Lends the text.
+    /// Lends the letter of direct sides and the text behind it.
     #[inline]
     pub(crate) fn as_slice(&self) -> &[u8]
-        ensures { result.now ≡ self.now }
+        ensures { result.now ≡ codes "D" ++ self.now }
     {
         self.text.as_slice()
     }
