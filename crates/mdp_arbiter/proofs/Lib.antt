@@ -6,3 +6,4 @@ pub mod Renewals
 pub mod Jumps
 pub mod NoLoss
 pub mod Joining
+pub mod Passing

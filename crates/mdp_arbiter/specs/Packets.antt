@@ -1,8 +1,8 @@
 -- What an arbiter answers to a packet, and what that leaves.
-use Rattle.std.specs.Prelude.{◌≡◌, ◌≤◌, ◌<◌, ◌⊎◌, Bool, true, false, max, None, IsSome}
+use Rattle.std.specs.Prelude.{◌≡◌, ◌≤◌, ◌<◌, ◌⊎◌, ◌+◌, ◌==◌, ◌&&◌, ℕ, Bool, true, false, not, max, nat_lt, None, IsSome}
 use Rattle.std.specs.FinMap.{get}
 use Rattle.mdp_templates.specs.Packet.{PacketContent}
-use Rattle.mdp_window.specs.Window.{HoldsAlso}
+use Rattle.mdp_window.specs.Window.{HoldsAlso, HoldsFrom}
 use Rattle.mdp_window.specs.declared.window.Put.{Put}
 use Rattle.mdp_window.specs.declared.window.Put.TheVariants.{Kept, Back, Memory}
 use Rattle.mdp_arbiter.specs.Arbiter.{View, state, least_held}
@@ -40,3 +40,18 @@ abbrev pub is_taken_in : Put PacketContent → Bool
 is_taken_in Kept = true
 is_taken_in (Back back) = true
 is_taken_in (Memory back) = false
+
+-- A packet of this number passes at once: it is the next one, packets may pass, and none came with its number or a later one.
+abbrev pub passes_at_once : ℕ → View → Bool
+passes_at_once number v = not v.is_closed && (v.joined && (number == v.next && nat_lt v.top v.next))
+
+-- what a packet leaves that passes at once
+pub record LetsPass (old new : View) : Type 0 where
+  pub next : new.next ≡ old.next + 1
+  pub top : new.top ≡ old.next
+  pub joined : new.joined ≡ old.joined
+  pub channel : new.channel ≡ old.channel
+  pub is_closed : new.is_closed ≡ old.is_closed
+  pub newest : new.newest ≡ old.newest
+  pub bases : new.bases ≡ old.bases
+  pub held : HoldsFrom new.next old.held new.held

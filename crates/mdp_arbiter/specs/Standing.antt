@@ -1,9 +1,11 @@
 -- What an arbiter holds of the events that came.
-use Rattle.std.specs.Prelude.{◌≡◌, ℕ, ◌+◌, ◌-◌, ◌≤◌, max, false, nat_lt, if◌then◌else◌, List, Option, None}
+use Rattle.std.specs.Prelude.{◌≡◌, ℕ, ◌+◌, ◌-◌, ◌≤◌, max, false, nat_lt, if◌then◌else◌, List, Option, None, Some}
 use Rattle.std.specs.FinMap.{get}
+use Rattle.mdp_templates.specs.Packet.{PacketContent}
 use Rattle.mdp_arbiter.specs.declared.step.Step.{Step}
 use Rattle.mdp_arbiter.specs.Accepted.{Event, accepted_packets, first_of, highest, is_closed, newest_snapshots}
-use Rattle.mdp_arbiter.specs.Machine.{next_move}
+use Rattle.mdp_arbiter.specs.Machine.{next_move, after}
+use Rattle.mdp_arbiter.specs.Machine.Move.{passed}
 use Rattle.mdp_arbiter.specs.Arbiter.{View, state}
 use Rattle.mdp_arbiter.specs.Moves.{Answers, after_move}
 
@@ -29,3 +31,10 @@ pub record StepsAs {A : Type 0} (es : List Event) (old new : View) (step : Optio
   pub stands : StandsAt es new
   pub answer : Answers (next_move old.channel es (state old)) step
   pub state : state new ≡ after_move (state old) (next_move old.channel es (state old))
+
+-- a packet passed as the machine's move at the events, which leaves the arbiter standing there, and no other move is possible
+pub record HasPassed (packet : PacketContent) (es : List Event) (old new : View) : Type 0 where
+  pub stands : StandsAt es new
+  pub possible : next_move old.channel es (state old) ≡ Some (passed packet)
+  pub settled : next_move old.channel es (state new) ≡ None
+  pub state : state new ≡ after (state old) (passed packet)

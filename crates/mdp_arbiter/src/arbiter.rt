@@ -1,6 +1,6 @@
 //! The arbiter of a channel's feeds.
 
-ghost use Rattle.std.specs.Prelude.{◌≡◌, ◌≤◌, ◌<◌, ℕ, List, [], ◌∷◌, ◌++◌, length, true, IfOk, IfSome, Some, None, slice_get, option_copied};
+ghost use Rattle.std.specs.Prelude.{◌≡◌, ◌≤◌, ◌<◌, ℕ, List, [], ◌∷◌, ◌++◌, length, true, false, IfOk, IfSome, Some, None, slice_get, option_copied};
 ghost use Rattle.std.specs.FinMap as map;
 ghost use Rattle.mdp_templates.specs.Instrument.{AreFit};
 ghost use Rattle.mdp_arbiter.specs.Channel.{channel_of};
@@ -8,10 +8,10 @@ ghost use Rattle.mdp_arbiter.specs.Accepted.{Event};
 ghost use Rattle.mdp_arbiter.specs.Accepted.Event.{came, recovered, closed};
 ghost use Rattle.mdp_arbiter.specs.Machine.{first_state, is_lost};
 ghost use Rattle.mdp_arbiter.specs.Arbiter.{is_lost_now, state, steps_left};
-ghost use Rattle.mdp_arbiter.specs.Packets.{Receives, is_taken_in};
+ghost use Rattle.mdp_arbiter.specs.Packets.{LetsPass, Receives, is_taken_in, passes_at_once};
 ghost use Rattle.mdp_arbiter.specs.Snapshots.{Renews};
 ghost use Rattle.mdp_arbiter.specs.Moves.{Answers, Moves, seen_move};
-ghost use Rattle.mdp_arbiter.specs.Standing.{StandsAt, StepsAs};
+ghost use Rattle.mdp_arbiter.specs.Standing.{HasPassed, StandsAt, StepsAs};
 
 use crate::newest::{are_all_fresh, copy_all, least_number, none_for, renews};
 use crate::slots::Slots;
@@ -159,6 +159,23 @@ impl<A: Allocator + Copy, W: Window<Packet<A>> + Drop> Arbiter<A, W> {
         self.receive(packet)
     }
 
+    /// Lets a packet pass at once where nothing stands in its way: it is the one that passes next, and none came with its
+    /// number or a later one. That is what [`packet`](Arbiter::packet) and [`step`](Arbiter::step) would do, without a stay in
+    /// the window, and no further step is possible then. Tells whether it passed; where not, all is as before.
+    pub fn pass_at_once(&mut self, packet: &Packet<A>) -> bool
+        ensures tells { result ≡ passes_at_once packet.now.number self.old }
+        ensures keeps { result ≡ false → self.new ≡ self.old }
+        ensures channel { self.new.channel ≡ self.old.channel }
+        ensures passes { result ≡ true → (es : List Event) → StandsAt es self.old
+            → HasPassed packet.now (es ++ came packet.now ∷ []) self.old self.new }
+    {
+        if !self.is_free(packet.number()) {
+            return false;
+        }
+        self.pass_next();
+        true
+    }
+
     /// Takes in a snapshot, and makes no step. What comes back is of no listed security, has no greater number than the
     /// newest, or came after a close, and leaves all as it was.
     pub fn snapshot(&mut self, snapshot: Snapshot) -> Option<Snapshot>
@@ -180,6 +197,25 @@ impl<A: Allocator + Copy, W: Window<Packet<A>> + Drop> Arbiter<A, W> {
         ensures steps { (es : List Event) → StandsAt es self.old → StepsAs es self.old self.new result }
     {
         self.take_step()
+    }
+
+    // Tells whether a packet of this number passes at once.
+    fn is_free(&self, number: u32) -> bool
+        ensures { result ≡ passes_at_once number self.now }
+    {
+        !self.is_closed && self.joined && u64::from(number) == self.next && self.top < self.next
+    }
+
+    // Lets the packet of the next number pass, where none came from there on.
+    fn pass_next(&mut self)
+        requires joined { self.old.joined ≡ true }
+        requires none { self.old.top < self.old.next }
+        requires most { self.old.next ≤ 4294967295 }
+        ensures { LetsPass self.old self.new }
+    {
+        self.top = self.next;
+        self.next += 1;
+        self.window.drop_below(self.next);
     }
 
     // Puts a packet into the window, unless the channel was closed.

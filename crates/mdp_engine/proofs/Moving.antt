@@ -7,13 +7,13 @@ use Rattle.mdp_templates.specs.Snapshot.{SnapshotContent}
 use Rattle.mdp_templates.specs.declared.instrument.Instrument.{Instrument}
 use Rattle.mdp_books.specs.Feed.{sent_in}
 use Rattle.mdp_print.specs.Texts.{jump_line}
-use Rattle.mdp_arbiter.specs.Accepted.{Event, newest_snapshots, newest_snapshot}
+use Rattle.mdp_arbiter.specs.Accepted.{Event, came, newest_snapshots, newest_snapshot}
 use Rattle.mdp_arbiter.specs.Machine.{State, Move, Settles, first_state, next_move, after, after_all, state_at, trace}
 use Rattle.mdp_arbiter.specs.Machine.Move.{passed, jumped}
 use Rattle.mdp_arbiter.specs.Channel.{Channel, ids_of}
 use Rattle.mdp_arbiter.specs.Arbiter.{View as ArbiterView, state}
 use Rattle.mdp_arbiter.specs.Moves.{Answers, after_move}
-use Rattle.mdp_arbiter.specs.Standing.{StandsAt, StepsAs}
+use Rattle.mdp_arbiter.specs.Standing.{HasPassed, StandsAt, StepsAs}
 use Rattle.mdp_arbiter.specs.declared.step.Step.{Step}
 use Rattle.mdp_arbiter.specs.declared.step.Step.TheVariants.{Pass, Jump}
 use Rattle.mdp_arbiter.proofs.Jumps.{law_of_jumps}
@@ -182,6 +182,34 @@ stands_further listed es e drained old mid new taken keeps channel desks held ke
       shows =
           subst (λ (c : Channel). Shows listed (trace c (es ++ e ∷ [])) new.desks (drained ++ new.held)) (sym same)
           (subst (λ (ms : List Move). Shows listed ms new.desks (drained ++ new.held)) (sym law.0) moved.under_way.shows);
+    }
+
+-- a packet that passed at once and was shown
+pub stands_passed : (listed : List Instrument) (es : List Event) (p : PacketContent) (drained : List ℕ) (old new : View)
+    → HasPassed p (es ++ came p ∷ []) old.arbiter new.arbiter → new.arbiter.channel ≡ old.arbiter.channel
+    → new.desks ≡ passed_desks (sent_in p) old.desks → new.held ≡ old.held ++ passed_text (sent_in p) old.desks
+    → Stands listed es drained old → Stands listed (es ++ came p ∷ []) drained new
+stands_passed listed es p drained old new has same desks held stands =
+    let all = es ++ came p ∷ [] in
+    let one = passed p ∷ [] in
+    let channel = old.arbiter.channel in
+    let from : state old.arbiter ≡ state_at channel es = stands.settled.state in
+    let settles : Settles channel all (state_at channel es) one =
+    subst (λ (s : State). Settles channel all s one) from (has.possible, ap (next_move channel all) (sym has.state) ∙ has.settled) in
+    let law = law_of_events channel es (came p) one settles in
+    let text : drained ++ new.held ≡ (drained ++ old.held) ++ passed_text (sent_in p) old.desks =
+    ap (λ (t : List ℕ). drained ++ t) held ∙ sym (append_assoc drained old.held (passed_text (sent_in p) old.desks)) in
+    let shown : Shows listed (trace channel es ++ one) new.desks (drained ++ new.held) =
+    shows_passed listed (trace channel es) p old.desks new.desks (drained ++ old.held) (drained ++ new.held) desks text stands.shows in
+    record {
+      settled = record {
+        stands = has.stands;
+        ids = ap (λ (c : Channel). c.ids) same ∙ stands.settled.ids;
+        state = has.state ∙ ap (λ (s : State). after s (passed p)) from ∙ sym law.1 ∙ ap (λ (c : Channel). state_at c all) (sym same);
+      };
+      shows =
+          subst (λ (c : Channel). Shows listed (trace c all) new.desks (drained ++ new.held)) (sym same)
+          (subst (λ (ms : List Move). Shows listed ms new.desks (drained ++ new.held)) (sym law.0) shown);
     }
 
 -- before any event

@@ -195,9 +195,30 @@ impl<A: Allocator + Copy, W: Window<Packet<A>> + Drop> Engine<A, W> {
         ensures channel { OnOk result (self.new.arbiter.channel ≡ self.old.arbiter.channel) }
         ensures sound { OnOk result (self.new.has_failed ≡ self.old.has_failed) }
     {
+        if self.pass_at_once(&event)? {
+            return Ok(());
+        }
         self.take_in(event)?;
         self.move_on()?;
         Ok(())
+    }
+
+    // Takes in a packet that passes at once and shows it, where the event is one, and tells whether it is.
+    fn pass_at_once(&mut self, event: &Event<A>) -> Result<bool, Memory>
+        ensures passed { IfOk result (λ passed. passed ≡ true → (listed : List Instrument) (es : List Accepted) (drained : List ℕ)
+            → Stands listed es drained self.old → Stands listed (es ++ event_of event.now ∷ []) drained self.new) }
+        ensures kept { IfOk result (λ passed. passed ≡ false → self.new ≡ self.old) }
+        ensures channel { OnOk result (self.new.arbiter.channel ≡ self.old.arbiter.channel) }
+        ensures sound { OnOk result (self.new.has_failed ≡ self.old.has_failed) }
+    {
+        let Event::Packet(packet) = event else {
+            return Ok(false);
+        };
+        if !self.arbiter.pass_at_once(packet) {
+            return Ok(false);
+        }
+        self.desks.pass(&mut self.held, packet)?;
+        Ok(true)
     }
 
     // Takes in an event, and makes no move.

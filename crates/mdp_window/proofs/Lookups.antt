@@ -61,7 +61,7 @@ module _ {T : Type 0} where
       → HoldsAlso first number item (from_entries {R = nat_cmp} es) (from_entries {R = nat_cmp} gs)
   holds_also es fs gs first number item e f k = rw (get-tree gs k, get-tree es k) (case_put k first number item _ _ _ (e k) (f k))
 
-  case_from : (k first : ℕ) (x y : Option T) → x ≡ cond (ltb k first) None y → y ≡ None → x ≡ None
+  pub case_from : (k first : ℕ) (x y : Option T) → x ≡ cond (ltb k first) None y → y ≡ None → x ≡ None
   case_from k first x y e none = grind (arith, common_steps)
 
   case_below : (k first : ℕ) (x y : Option T) → x ≡ cond (ltb k first) None y → k < first → x ≡ None
@@ -79,7 +79,8 @@ module _ {T : Type 0} where
     none_larger = λ k larger. case_from k new.first _ _ (held k) (r.none_larger k larger);
   }
 
-  case_also : (k first number : ℕ) (item : T) (x y : Option T) → x ≡ cond (ltb k first) None (cond (eqb k number) (Some item) y) → number < k → y ≡ None → x ≡ None
+  pub case_also : (k first number : ℕ) (item : T) (x y : Option T) → x ≡ cond (ltb k first) None (cond (eqb k number) (Some item) y) → number < k
+      → y ≡ None → x ≡ None
   case_also k first number item x y e past none = grind (arith, common_steps)
 
   -- a window that holds one more is in range

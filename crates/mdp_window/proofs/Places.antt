@@ -1,5 +1,5 @@
 -- What a ring of places holds at each number.
-use Rattle.std.proofs.Common.{◌≡◌, ℕ, suc, cond, List, [], ◌∷◌, ◌++◌, length, get_or, replicate, refl, sym, ap, ◌∙◌, Bool, true, false, ltb, eqb, ◌<◌, ◌≤◌, ◌+◌, ◌-◌, ◌≢◌, ◌⊎◌, min, max, arith, inl, inr, length-append, length-drop}
+use Rattle.std.proofs.Common.{◌≡◌, ℕ, suc, cond, List, [], ◌∷◌, ◌++◌, length, get_or, replicate, refl, sym, ap, ◌∙◌, Bool, true, false, ltb, eqb, ◌<◌, ◌≤◌, ◌+◌, ◌-◌, ◌≢◌, ◌⊎◌, min, max, arith, inl, inr, length-append, length-drop, length-set}
 use Rattle.std.proofs.lemmas.Grind.{common_steps, get_or_tail, get_or-set_at}
 use Rattle.std.proofs.lemmas.Bool.{le-ltb, false≢true}
 use Rattle.std.proofs.lemmas.List.{length-replicate, get_or-drop, get_or_past, get_or-replicate, get_or_append_left, get_or-append_right, get_or-set_other}
@@ -14,13 +14,13 @@ use Rattle.circular_buffer.specs.Buffer.{keep_last}
 use Rattle.mdp_window.specs.Ring.{held_from}
 use Rattle.mdp_window.specs.Window.{View, IsInRange, HoldsFrom, HoldsAlso, Puts, Takes, DropsBelow}
 use Rattle.mdp_window.specs.declared.window.Put.TheVariants.{Kept}
-use Rattle.mdp_window.proofs.Lookups.{is_eq-nat_cmp, range_also}
+use Rattle.mdp_window.proofs.Lookups.{is_eq-nat_cmp, range_also, range_from, case_from, case_also}
 
 module _ {X : Type 0} where
-  pub length-kept : (n count : ℕ) (xs : List X) (x : X) → length xs ≡ n → length (keep_last n (xs ++ replicate count x)) ≡ n
+  length-kept : (n count : ℕ) (xs : List X) (x : X) → length xs ≡ n → length (keep_last n (xs ++ replicate count x)) ≡ n
   length-kept n count xs x full = omega (arith, length-append xs (replicate count x), length-replicate count x, length-drop (length (xs ++ replicate count x) - n) (xs ++ replicate count x))
 
-  pub length-none : (n : ℕ) (x : X) → length (keep_last n ([] ++ replicate n x)) ≡ n
+  length-none : (n : ℕ) (x : X) → length (keep_last n ([] ++ replicate n x)) ≡ n
   length-none n x = omega (arith, length-replicate n x, length-drop (length (replicate n x) - n) (replicate n x))
 
   replicate_at : (count k : ℕ) (x : X) → get_or (replicate count x) k x ≡ x
@@ -104,7 +104,7 @@ module _ {T : Type 0} where
   same_place places i j (inr past) = get_or_past places i None past.0 ∙ sym (get_or_past places j None past.1)
 
   -- as many empty places behind the others as the first number goes up, but no more than there are places
-  pub holds_moved : (old new n count : ℕ) (places : List (Option T)) → length places ≡ n → old ≤ new → count ≡ min (new - old) n
+  holds_moved : (old new n count : ℕ) (places : List (Option T)) → length places ≡ n → old ≤ new → count ≡ min (new - old) n
       → HoldsFrom new (held_from old places) (held_from new (keep_last n (places ++ replicate count None)))
   holds_moved old new n count places full up steps k =
       case_moved k old new _ _ _ _ (get-held_from new _ k) (get-held_from old places k) up (λ above. kept_at n count (k - new) places None full ∙ same_place places (count + (k - new)) (k - old) (rw full (same_or_past k old new n count up steps above)))
@@ -121,6 +121,18 @@ module _ {T : Type 0} where
       (λ is. get_or-set_at places index (k - first) (Some item) None (omega (arith, at, is)) within)
       (λ other above. get_or-set_other places index (k - first) (Some item) None (λ is. other (omega (arith, at, is, above, from)))) from
 
+  -- nothing is held at a number or a later one
+  abbrev pub HoldsNoneFrom : ℕ → FinMap nat_cmp T → Type 0
+  HoldsNoneFrom end held = (k : ℕ) → end ≤ k → get held k ≡ None
+
+  -- a ring's places as a window
+  abbrev pub ring_view : ℕ → ℕ → List (Option T) → View T
+  ring_view first room places = record { first = first; room = room; held = held_from first places }
+
+  -- what is so of a ring of this first number, end, room and places
+  abbrev pub IsRing : ℕ → ℕ → ℕ → List (Option T) → Type 0
+  IsRing first end room places = (length places ≡ room) × IsInRange (ring_view first room places) × HoldsNoneFrom end (held_from first places)
+
   -- empty places hold nothing
   pub held_none : (first n : ℕ) → held_from first (keep_last n ([] ++ replicate n None)) ≡ empty {K = ℕ} {X = T} {R = nat_cmp}
   held_none first n = same_map nat_cmp_total nat_cmp-IsAntisymmetric _ _ (λ k.
@@ -128,17 +140,21 @@ module _ {T : Type 0} where
       ∙ sym (case_none (ltb k first) _ (sym (none_kept n (k - first) None)))
       ∙ sym (get-empty nat_cmp k))
 
-  -- a window that was just made is in range
-  pub range_new : (room : ℕ) (held : FinMap nat_cmp T) → 1 ≤ room → room ≤ 65536 → held ≡ empty → IsInRange (record { first = 1; room = room; held = held })
-  range_new room held least most none = rw none record {
-    first_least = omega arith;
-    first_most = omega arith;
-    room_least = least;
-    room_most = most;
-    none_below = λ k below. get-empty nat_cmp k;
-    none_past = λ k past. get-empty nat_cmp k;
-    none_larger = λ k larger. get-empty nat_cmp k;
-  }
+  -- a ring that was just made
+  pub ring_new : (room : ℕ) → 1 ≤ room → room ≤ 65536 → IsRing 1 1 room (keep_last room ([] ++ replicate room None))
+  ring_new room least most = rw (held_none 1 room) (
+    length-none room None,
+    record {
+      first_least = omega arith;
+      first_most = omega arith;
+      room_least = least;
+      room_most = most;
+      none_below = λ k below. get-empty nat_cmp k;
+      none_past = λ k past. get-empty nat_cmp k;
+      none_larger = λ k larger. get-empty nat_cmp k;
+    },
+    λ k past. get-empty nat_cmp k,
+  )
 
   -- where none is told to be held, none is
   pub none_held : (answer : Bool) (held : Option T) → (IsTrue answer) ↔ (IsSome held) → answer ≡ false → held ≡ None
@@ -163,9 +179,48 @@ module _ {T : Type 0} where
   takes_first old new None some is first room held = absurd (false≢true (ap is_some is ∙ some))
   takes_first old new (Some item) some is first room held = (sym is, first, room, held)
 
-  -- a window moves up
-  pub drops_below : (number : ℕ) (old new : View T) → old.first < number → new.first ≡ number → new.room ≡ old.room → HoldsFrom new.first old.held new.held → DropsBelow number old new
-  drops_below number old new above first room held = (omega (arith, first, above), room, held)
+  -- what is held from a number on ends where all that was held did
+  none_from : (first end : ℕ) (old new : FinMap nat_cmp T) → HoldsFrom first old new → HoldsNoneFrom end old → HoldsNoneFrom end new
+  none_from first end old new from none k past = case_from k first _ _ (from k) (none k past)
+
+  case_none_held : (k first : ℕ) (w x z : Option T) → w ≡ cond (ltb k first) None x → x ≡ None → (first ≤ k → z ≡ None) → w ≡ cond (ltb k first) None z
+  case_none_held k first w x z e empty none = grind (arith, common_steps)
+
+  -- places that hold nothing from one first number on hold nothing from another
+  holds_none : (old new end : ℕ) (places : List (Option T)) → end ≤ old → old ≤ new → HoldsNoneFrom end (held_from old places)
+      → HoldsFrom new (held_from old places) (held_from new places)
+  holds_none old new end places past up none k =
+      let at : old + (k - new) - old ≡ k - new = omega arith in
+      let empty : get_or places (k - new) None ≡ None =
+      ap (λ j. get_or places j None) (sym at) ∙ sym (held_at old places (old + (k - new)) (omega arith)) ∙ none (old + (k - new)) (omega (arith, past)) in
+      case_none_held k new _ _ _ (get-held_from new places k) empty (λ above. none k (omega (arith, above, up, past)))
+
+  -- a ring moves up, where its places do or hold nothing
+  moves : (old new end room : ℕ) (places after : List (Option T)) → IsRing old end room places → old < new → new ≤ 4294967296 → length after ≡ room
+      → HoldsFrom new (held_from old places) (held_from new after)
+      → IsRing new end room after × DropsBelow new (ring_view old room places) (ring_view new room after)
+  moves old new end room places after ring up most full holds = (
+    (
+      full,
+      range_from (ring_view old room places) (ring_view new room after) refl (omega (arith, up)) most holds ring.1,
+      none_from new end (held_from old places) (held_from new after) holds ring.2,
+    ),
+    (omega (arith, up), refl, holds),
+  )
+
+  -- a ring moves up by empty places
+  pub moves_up : (old new end room count : ℕ) (places : List (Option T)) → IsRing old end room places → old < new → new ≤ 4294967296
+      → count ≡ min (new - old) room → let after : List (Option T) = keep_last room (places ++ replicate count None) in
+      IsRing new end room after × DropsBelow new (ring_view old room places) (ring_view new room after)
+  moves_up old new end room count places ring up most steps =
+      moves old new end room places _ ring up most (length-kept room count places None ring.0)
+      (holds_moved old new room count places ring.0 (omega (arith, up)) steps)
+
+  -- a ring that holds nothing moves up as it is
+  pub moves_empty : (old new end room : ℕ) (places : List (Option T)) → IsRing old end room places → old < new → new ≤ 4294967296 → end ≤ old
+      → IsRing new end room places × DropsBelow new (ring_view old room places) (ring_view new room places)
+  moves_empty old new end room places ring up most past =
+      moves old new end room places places ring up most ring.0 (holds_none old new end places past (omega (arith, up)) ring.2)
 
   case_both : (k first number : ℕ) (item : T) (w x y : Option T) → w ≡ cond (ltb k first) None (cond (eqb k number) (Some item) x) → x ≡ cond (ltb k first) None y
       → w ≡ cond (ltb k first) None (cond (eqb k number) (Some item) y)
@@ -175,26 +230,31 @@ module _ {T : Type 0} where
   pub holds_both : (first number : ℕ) (item : T) (old between new : FinMap nat_cmp T) → HoldsFrom first old between → HoldsAlso first number item between new → HoldsAlso first number item old new
   holds_both first number item old between new from also k = case_both k first number item _ _ _ (also k) (from k)
 
-  -- a ring's places as a window
-  abbrev pub ring_view : ℕ → ℕ → List (Option T) → View T
-  ring_view first room places = record { first = first; room = room; held = held_from first places }
+  -- one item more is held, and what was held ended before
+  none_also : (first end number : ℕ) (item : T) (old new : FinMap nat_cmp T) → HoldsAlso first number item old new → HoldsNoneFrom end old
+      → HoldsNoneFrom (max end (number + 1)) new
+  none_also first end number item old new also none k past = case_also k first number item _ _ (also k) (omega (arith, past)) (none k (omega (arith, past)))
 
   -- the ring moves up as far as it has to, and the item's place is filled
-  pub puts_kept : (number up first room : ℕ) (item : T) (places : List (Option T)) (old between : View T) → IsInRange old → old.first ≤ number → get old.held number ≡ None
-      → up ≡ number + 1 - old.room → DropsBelow up old between → ring_view first room places ≡ between → length places ≡ room
-      → Puts false number item old (ring_view first room (slice_set places (number - first) (Some item))) Kept
-  puts_kept number up first room item places old between range from none is_up drops is full =
+  pub puts_kept : (number up first end room : ℕ) (item : T) (places : List (Option T)) (old between : View T) → IsInRange old → old.first ≤ number
+      → number ≤ 4294967295 → get old.held number ≡ None → up ≡ number + 1 - old.room → DropsBelow up old between → ring_view first room places ≡ between
+      → IsRing first end room places → let after : List (Option T) = slice_set places (number - first) (Some item) in
+      IsRing first (max end (number + 1)) room after × Puts false number item old (ring_view first room after) Kept
+  puts_kept number up first end room item places old between range from most none is_up drops is ring =
       let e : first ≡ max old.first up = ap (λ v. v.first) is ∙ drops.0 in
       let same : room ≡ old.room = ap (λ v. v.room) is ∙ drops.1 in
       let least = range.room_least in
-      let moved : HoldsFrom first old.held (held_from first places) = rw (← is) at drops.2 in (
-        from,
-        none,
-        omega (arith, e, is_up),
-        same,
-        holds_both first number item old.held (held_from first places) _ moved (holds_filled first number (number - first) item places refl (omega (arith, e, is_up, least, from)) (omega (arith, e, is_up, least, from, full, same))),
+      let full = ring.0 in
+      let moved : HoldsFrom first old.held (held_from first places) = rw (← is) at drops.2 in
+      let after : List (Option T) = slice_set places (number - first) (Some item) in
+      let filled : HoldsAlso first number item (held_from first places) (held_from first after) =
+      holds_filled first number (number - first) item places refl (omega (arith, e, is_up, least, from)) (omega (arith, e, is_up, least, from, full, same)) in
+      let at : first ≡ max old.first (number + 1 - old.room) = omega (arith, e, is_up) in
+      let also = holds_both first number item old.held (held_from first places) _ moved filled in (
+        (
+          length-set places (number - first) (Some item) ∙ full,
+          range_also old (ring_view first room after) number item same from most at also range,
+          none_also first end number item (held_from first places) (held_from first after) filled ring.2,
+        ),
+        (from, none, at, same, also),
       )
-
-  -- a window that holds one more is in range
-  pub range_kept : (number : ℕ) (item : T) (old new : View T) → IsInRange old → number ≤ 4294967295 → Puts false number item old new Kept → IsInRange new
-  range_kept number item old new range most kept = range_also old new number item kept.3 kept.0 most kept.2 kept.4 range

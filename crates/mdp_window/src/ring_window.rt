@@ -15,15 +15,19 @@ use std::marker::Model;
 /// to 65536, and a place is empty or holds an item.
 ///
 /// To put an item at the first number and to take it out takes constant time, with no search. A call that moves the
-/// window up takes a step for each number that it moves by, and at most as many steps as the room.
+/// window up takes a step for each number that it moves by, and at most as many steps as the room; where nothing is held,
+/// it takes one.
 #[derive(Drop)]
 pub struct RingWindow<T: Drop, A: Allocator> {
     first: u64,
+    /// No item stands at this number or a later one.
+    end: u64,
     places: HeapCircularBuffer<Option<T>, A>,
 }
 
 impl<T: Drop, A: Allocator> Model for RingWindow<T, A> {
-    ghost use Rattle.std.specs.Prelude.{◌≡◌, length};
+    ghost use Rattle.std.specs.Prelude.{◌≡◌, ◌≤◌, ℕ, None, length};
+    ghost use Rattle.std.specs.FinMap as map;
     ghost use Rattle.mdp_window.specs.Window.{View, IsInRange, view_code};
     ghost use Rattle.mdp_window.specs.Ring.{held_from};
 
@@ -39,7 +43,8 @@ impl<T: Drop, A: Allocator> Model for RingWindow<T, A> {
 
     ghost invariant = { λ w.
         (length w.places.items ≡ w.places.capacity)
-        × IsInRange (record { first = w.first; room = w.places.capacity; held = held_from w.first w.places.items }) };
+        × IsInRange (record { first = w.first; room = w.places.capacity; held = held_from w.first w.places.items })
+        × ((k : ℕ) → w.end ≤ k → map.get (held_from w.first w.places.items) k ≡ None) };
 }
 
 // Puts this many empty places behind the others. Each takes the place of the first one, where the ring is full.
@@ -77,7 +82,11 @@ impl<T: Drop, A: Allocator + Copy> RingWindow<T, A> {
         let room = capacity as usize;
         let mut places = HeapCircularBuffer::with_capacity(alloc, room)?;
         push_empty(&mut places, room);
-        Ok(RingWindow { first: 1, places })
+        Ok(RingWindow {
+            first: 1,
+            end: 1,
+            places,
+        })
     }
 
     // Tells whether an item is held under this number.
@@ -116,6 +125,7 @@ impl<T: Numbered + Drop, A: Allocator + Copy> Window<T> for RingWindow<T, A> {
         self.drop_below((number + 1).saturating_sub(self.capacity()));
         let index = (number - self.first) as usize;
         fill_place(&mut self.places, index, item);
+        self.end = self.end.max(number + 1);
         Put::Kept
     }
 
@@ -128,11 +138,14 @@ impl<T: Numbered + Drop, A: Allocator + Copy> Window<T> for RingWindow<T, A> {
     }
 
     fn drop_below(&mut self, number: u64) {
-        if self.first < number {
+        if self.first >= number {
+            return;
+        }
+        if self.first < self.end {
             let room = self.places.capacity() as u64;
             let steps = (number - self.first).min(room);
             push_empty(&mut self.places, steps as usize);
-            self.first = number;
         }
+        self.first = number;
     }
 }

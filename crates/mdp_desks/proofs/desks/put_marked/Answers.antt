@@ -1,7 +1,7 @@
-use Rattle.std.proofs.Common.{◌≡◌, ◌<◌, ◌≤◌, length, ap, ◌∙◌, refl, arith, subst}
+use Rattle.std.proofs.Common.{◌≡◌, ◌<◌, length, ap, ◌∙◌, refl, arith, subst}
 use Rattle.std.specs.Prelude.{List, Bool}
 use Rattle.std.proofs.lemmas.List.{length-map}
-use Rattle.mdp_desks.specs.Beside.{AreClear, IsFirstSet}
+use Rattle.mdp_desks.specs.Beside.{AreClear}
 use Rattle.mdp_desks.proofs.Passing.{lines_more, lines_end}
 use Rattle.mdp_desks.proofs.desks.put_marked.Goals as goal
 

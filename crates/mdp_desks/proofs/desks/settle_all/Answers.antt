@@ -1,9 +1,8 @@
-use Rattle.std.proofs.Common.{◌≡◌, ◌<◌, ◌≤◌, length, ap, sym, ◌∙◌, refl, arith, subst}
+use Rattle.std.proofs.Common.{◌≡◌, ◌<◌, length, ap, ◌∙◌, refl, arith, subst}
 use Rattle.std.specs.Prelude.{List, Bool}
 use Rattle.std.proofs.lemmas.List.{length-map, length-set, get_or-set_same}
 use Rattle.mdp_desks.specs.declared.desk.Desk.{Desk}
-use Rattle.mdp_desks.specs.Desks.{desk_settled}
-use Rattle.mdp_desks.specs.Beside.{AreClear, IsFirstSet}
+use Rattle.mdp_desks.specs.Beside.{AreClear}
 use Rattle.mdp_desks.proofs.Passing.{settled_more, settled_end, marks_put}
 use Rattle.mdp_desks.proofs.desks.settle_all.Goals as goal
 

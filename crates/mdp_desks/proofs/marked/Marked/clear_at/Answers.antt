@@ -1,4 +1,4 @@
-use Rattle.std.proofs.Common.{◌≡◌, ◌<◌, ◌+◌, ◌∙◌, ℕ, List, Bool, false, length, set, ap, sym, subst, arith}
+use Rattle.std.proofs.Common.{◌<◌, ◌+◌, ◌∙◌, List, Bool, false, length, set, ap, sym, subst, arith}
 use Rattle.mdp_desks.specs.Beside.{AreWithin, AreClear, marks_in}
 use Rattle.mdp_desks.proofs.Searching.{byte_cleared, clear_on, clear_within}
 use Rattle.mdp_desks.proofs.marked.Marked.clear_at.Goals as goal

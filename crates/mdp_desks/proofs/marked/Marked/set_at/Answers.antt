@@ -1,4 +1,4 @@
-use Rattle.std.proofs.Common.{◌≡◌, ◌<◌, length, set, true, ap, sym, ◌∙◌, subst, arith}
+use Rattle.std.proofs.Common.{◌<◌, length, set, true, ap, sym, ◌∙◌, subst}
 use Rattle.std.specs.Prelude.{List, Bool}
 use Rattle.mdp_desks.specs.Beside.{AreWithin, marks_in}
 use Rattle.mdp_desks.proofs.Searching.{byte_set, set_within}
