@@ -2,6 +2,7 @@ pub mod Appended
 pub mod Runs
 pub mod Places
 pub mod Standings
+pub mod Bases
 pub mod Renewals
 pub mod Jumps
 pub mod NoLoss

@@ -7,3 +7,4 @@ pub mod Packets
 pub mod Snapshots
 pub mod Moves
 pub mod Standing
+pub mod Bases

@@ -13,7 +13,8 @@ ghost use Rattle.mdp_arbiter.specs.Snapshots.{Renews};
 ghost use Rattle.mdp_arbiter.specs.Moves.{Answers, Moves, seen_move};
 ghost use Rattle.mdp_arbiter.specs.Standing.{HasPassed, StandsAt, StepsAs};
 
-use crate::newest::{are_all_fresh, copy_all, least_number, none_for, renews};
+use crate::base::{Base, no_bases, take_newest};
+use crate::newest::{are_all_fresh, least_number, none_for, renews};
 use crate::slots::Slots;
 use crate::start::Start;
 use crate::step::Step;
@@ -33,7 +34,7 @@ pub struct Arbiter<A: Allocator, W: Window<Packet<A>> + Drop> {
     slots: Slots<A>,
     start: Start,
     newest: Vec<Option<Snapshot>, A>,
-    bases: Vec<Option<Snapshot>, A>,
+    bases: Vec<Base, A>,
     next: u64,
     top: u64,
     joined: bool,
@@ -44,6 +45,7 @@ impl<A: Allocator, W: Window<Packet<A>> + Drop> Model for Arbiter<A, W> {
     ghost use Rattle.std.specs.Prelude.{◌≡◌, ◌≤◌, ◌<◌, ◌+◌, ◌-◌, ℕ, max, length, false, None};
     ghost use Rattle.std.specs.FinMap as map;
     ghost use Rattle.mdp_arbiter.specs.Arbiter.{View};
+    ghost use Rattle.mdp_arbiter.specs.Bases.{bases_of};
     ghost use Rattle.mdp_arbiter.specs.Codes.{view_code};
 
     ghost Value = { View };
@@ -57,7 +59,7 @@ impl<A: Allocator, W: Window<Packet<A>> + Drop> Model for Arbiter<A, W> {
       joined = a.joined;
       is_closed = a.is_closed;
       newest = a.newest.items;
-      bases = a.bases.items;
+      bases = bases_of a.newest.items a.bases.items;
       held = (W.view a.window).held;
     } };
 
@@ -88,7 +90,7 @@ impl<A: Allocator + Copy, W: Window<Packet<A>> + Drop> Arbiter<A, W> {
     {
         let slots = Slots::of(alloc, instruments)?;
         let newest = none_for(alloc, instruments)?;
-        let bases = none_for(alloc, instruments)?;
+        let bases = no_bases(alloc, instruments)?;
         let room = window.capacity();
         Ok(Arbiter {
             window,
@@ -128,14 +130,15 @@ impl<A: Allocator + Copy, W: Window<Packet<A>> + Drop> Arbiter<A, W> {
         requires { slot < length self.now.channel.ids }
         ensures { slice_get self.now.bases slot ≡ Some (option_copied result) }
     {
-        self.bases[slot].as_ref()
+        self.bases[slot].among(&self.newest[slot])
     }
 
-    /// Lends the snapshot of each listed security, in listed order, that the latest jump took, if there was a jump.
-    pub fn bases(&self) -> &[Option<Snapshot>]
-        ensures { result.now ≡ self.now.bases }
+    /// Lends the newest snapshot of each listed security, in listed order, where there is one. Right after a jump these are the ones
+    /// that it took.
+    pub fn newest(&self) -> &[Option<Snapshot>]
+        ensures { result.now ≡ self.now.newest }
     {
-        &self.bases
+        &self.newest
     }
 
     /// Closes the channel. From now on `step` is `None`, and every packet and snapshot is handed back.
@@ -246,7 +249,8 @@ impl<A: Allocator + Copy, W: Window<Packet<A>> + Drop> Arbiter<A, W> {
         if !renews(&self.newest[slot], &snapshot) {
             return Some(snapshot);
         }
-        self.newest[slot] = Some(snapshot);
+        let before = self.newest[slot].replace(snapshot);
+        self.bases[slot].keep(before);
         None
     }
 
@@ -272,7 +276,7 @@ impl<A: Allocator + Copy, W: Window<Packet<A>> + Drop> Arbiter<A, W> {
         self.joined = true;
         self.top = self.top.max(last);
         self.window.drop_below(last + 1);
-        copy_all(&self.newest, &mut self.bases);
+        take_newest(&mut self.bases);
         Some(Step::Jump { old, new: last + 1 })
     }
 }

@@ -2,6 +2,7 @@
 #![tactic(auto)]
 
 mod arbiter;
+mod base;
 mod laws;
 mod newest;
 mod slots;

@@ -1,6 +1,6 @@
 //! The newest snapshot of each listed security, where there is one.
 
-ghost use Rattle.std.specs.Prelude.{◌≡◌, ◌≤◌, length, IfOk, Some, None, map};
+ghost use Rattle.std.specs.Prelude.{◌≡◌, ◌≤◌, IfOk, Some, None, map};
 ghost use Rattle.mdp_arbiter.specs.Accepted.{is_newer};
 ghost use Rattle.mdp_arbiter.specs.Machine.{is_fresh, are_fresh, lesser, least_last, snapshots_of};
 
@@ -76,24 +76,4 @@ pub(crate) fn least_number(newest: &[Option<Snapshot>]) -> Option<u32>
         }
     }
     least
-}
-
-// Makes an equal snapshot.
-fn copy_of(snapshot: &Option<Snapshot>) -> Option<Snapshot>
-    ensures { result ≡ snapshot.now }
-{
-    match snapshot {
-        None => None,
-        Some(snapshot) => Some(snapshot.copy()),
-    }
-}
-
-/// Writes snapshots over others.
-pub(crate) fn copy_all(from: &[Option<Snapshot>], to: &mut [Option<Snapshot>])
-    requires { length from.now ≡ length to.old }
-    ensures { to.new ≡ from.now }
-{
-    for slot in 0..from.len() {
-        to[slot] = copy_of(&from[slot]);
-    }
 }

@@ -43,6 +43,12 @@ slot_under [] n id is = absurd cc
 slot_under (x ∷ ids) zero id is = omega arith
 slot_under (x ∷ ids) (suc n) id is = let less = slot_under ids n id is in omega (arith, less)
 
+-- a desk's id stands at its place
+pub id_at : (ds : List Desk) (n : ℕ) (here : Desk) → n < length ds → here ≡ get_or ds n here → slice_get (ids_in ds) n ≡ Some here.instrument.id
+id_at [] n here less at = absurd (omega (arith, less))
+id_at (d ∷ ds) zero here less at = ap (λ (t : Desk). Some t.instrument.id) (sym at)
+id_at (d ∷ ds) (suc n) here less at = id_at ds n here (omega (arith, less)) at
+
 pub none_heard : (place : Place) (entry : Entry) (ds : List Desk) → ((slot : ℕ) → slice_get (ids_in ds) slot ≡ Some entry.security → ⊥) → map (desk_heard place entry) ds ≡ ds
 none_heard place entry [] none = refl
 none_heard place entry (d ∷ ds) none =

@@ -36,11 +36,21 @@ impl<A: Allocator> Model for Desks<A> {
     ghost invariant = { λ d. AreBeside d.desks.items d.slots d.marked };
 }
 
-// Tells the place of the security that an entry names, if it is listed.
-fn slot_named<A: Allocator + Copy>(slots: &Slots<A>, entry: &Entry) -> Option<usize>
+// Tells the place of the security that an entry names, if it is listed. The place at hand is looked at first, since entries in a row
+// often name one security.
+fn slot_named<A: Allocator + Copy>(
+    slots: &Slots<A>,
+    desks: &[Desk],
+    at_hand: usize,
+    entry: &Entry,
+) -> Option<usize>
+    requires { slots.now ≡ ids_of (listed_in desks.now) }
     ensures some { IfSome result (λ slot. slice_get slots.now slot ≡ Some entry.now.security) }
     ensures none { IfNone result ((slot : ℕ) → slice_get slots.now slot ≡ Some entry.now.security → ⊥) }
 {
+    if at_hand < desks.len() && desks[at_hand].instrument.id == entry.security {
+        return Some(at_hand);
+    }
     slots.slot_of(entry.security)
 }
 
@@ -132,14 +142,16 @@ impl<A: Allocator + Copy> Desks<A> {
         &self.slots
     }
 
-    // Takes an entry, which is for one desk at most.
-    fn enter(&mut self, place: Place, entry: &Entry)
+    // Takes an entry, which is for one desk at most, and tells that desk's place, or where there is none the one at hand.
+    fn enter(&mut self, at_hand: usize, place: Place, entry: &Entry) -> usize
         ensures { self.new ≡ map (desk_heard place entry.now) self.old }
     {
-        if let Some(slot) = slot_named(&self.slots, entry) {
-            self.desks[slot].enter(place, entry);
-            self.marked.put(slot, self.desks[slot].marked);
-        }
+        let Some(slot) = slot_named(&self.slots, &self.desks, at_hand, entry) else {
+            return at_hand;
+        };
+        self.desks[slot].enter(place, entry);
+        self.marked.put(slot, self.desks[slot].marked);
+        slot
     }
 
     /// Takes the entries of message `message` of packet `packet`, at most 255, each at the desk of its security.
@@ -147,13 +159,14 @@ impl<A: Allocator + Copy> Desks<A> {
         requires { length entries.now ≤ 255 }
         ensures { self.new ≡ desks_through packet message 1 entries.now self.old }
     {
+        let mut slot = 0;
         for n in 0..entries.len() {
             let place = Place {
                 packet,
                 message,
                 entry: n as u8 + 1,
             };
-            self.enter(place, &entries[n]);
+            slot = self.enter(slot, place, &entries[n]);
         }
     }
 

@@ -100,11 +100,14 @@ impl<A: Allocator> Marked<A> {
         first_marked(&self.marks, from.max(self.low), self.high)
     }
 
-    // Sets the mark at a place.
+    // Sets the mark at a place, where it isn't set.
     fn set_at(&mut self, slot: usize)
         requires { slot < length self.old }
         ensures { self.new ≡ set self.old slot true }
     {
+        if self.is_set(slot) {
+            return;
+        }
         let (low, high) = widened(self.low, self.high, slot);
         self.low = low;
         self.high = high;

@@ -62,26 +62,26 @@ as_many listed ids es snapshots are newest =
 
 shown_step : {A : Type 0} (listed : List Instrument) (es : List Event) (moves : List Move) (drained : List ℕ) (now : View) (mid : ArbiterView) (desks : List Desk) (held : List ℕ) (step : Step A) (m : Option Move)
     → next_move now.arbiter.channel es (state now.arbiter) ≡ m → Answers m (Some step) → state mid ≡ after_move (state now.arbiter) m
-    → IsUnderWay listed es moves drained now → desks ≡ stepped_desks step mid.bases now.desks → held ≡ now.held ++ stepped_text step now.desks
-    → IsShown listed es moves drained now mid desks held
-shown_step listed es moves drained now mid desks held step None possible answers next under are more = elim answers [ ]
-shown_step listed es moves drained now mid desks held (Pass q) (Some (passed p)) possible answers next under are more =
+    → mid.newest ≡ newest_snapshots now.arbiter.channel.ids es → IsUnderWay listed es moves drained now
+    → desks ≡ stepped_desks step mid.newest now.desks → held ≡ now.held ++ stepped_text step now.desks → IsShown listed es moves drained now mid desks held
+shown_step listed es moves drained now mid desks held step None possible answers next newest under are more = elim answers [ ]
+shown_step listed es moves drained now mid desks held (Pass q) (Some (passed p)) possible answers next newest under are more =
     let same : desks ≡ passed_desks (sent_in p) now.desks = are ∙ ap (λ (x : PacketContent). passed_desks (sent_in x) now.desks) answers in
     let text : drained ++ held ≡ (drained ++ now.held) ++ passed_text (sent_in p) now.desks =
     ap (λ (t : List ℕ). drained ++ t) (more ∙ ap (λ (x : PacketContent). now.held ++ passed_text (sent_in x) now.desks) answers)
     ∙ sym (append_assoc drained now.held (passed_text (sent_in p) now.desks)) in
     record { move = passed p; possible = possible; state = next; shows = shows_passed listed moves p now.desks desks (drained ++ now.held) (drained ++ held) same text under.shows }
-shown_step listed es moves drained now mid desks held (Jump from to) (Some (jumped old new snapshots)) possible answers next under are more =
-    let bases : mid.bases ≡ map (λ (s : SnapshotContent). Some s) snapshots = ap (λ (s : State). s.bases) next in
+shown_step listed es moves drained now mid desks held (Jump from to) (Some (jumped old new snapshots)) possible answers next newest under are more =
     let recovery = law_of_jumps now.arbiter.channel es (state now.arbiter) old new snapshots possible in
+    let taken : mid.newest ≡ map (λ (s : SnapshotContent). Some s) snapshots = newest ∙ recovery.newest in
     let many : length snapshots ≡ length listed = as_many listed now.arbiter.channel.ids es snapshots under.ids recovery.newest in
-    let same : desks ≡ rebased_desks (map (λ (s : SnapshotContent). Some s) snapshots) now.desks = are ∙ ap (λ (b : List (Option SnapshotContent)). rebased_desks b now.desks) bases in
+    let same : desks ≡ rebased_desks (map (λ (s : SnapshotContent). Some s) snapshots) now.desks = are ∙ ap (λ (b : List (Option SnapshotContent)). rebased_desks b now.desks) taken in
     let line : jump_line from to ≡ jump_line old new = ap (λ (n : ℕ). jump_line n to) answers.0 ∙ ap (jump_line old) answers.1 in
     let text : drained ++ held ≡ (drained ++ now.held) ++ jump_line old new =
     ap (λ (t : List ℕ). drained ++ t) (more ∙ ap (λ (t : List ℕ). now.held ++ t) line) ∙ sym (append_assoc drained now.held (jump_line old new)) in
     record { move = jumped old new snapshots; possible = possible; state = next; shows = shows_jumped listed moves old new snapshots now.desks desks (drained ++ now.held) (drained ++ held) many same text under.shows }
-shown_step listed es moves drained now mid desks held (Pass q) (Some (jumped old new snapshots)) possible answers next under are more = elim answers [ ]
-shown_step listed es moves drained now mid desks held (Jump from to) (Some (passed p)) possible answers next under are more = elim answers [ ]
+shown_step listed es moves drained now mid desks held (Pass q) (Some (jumped old new snapshots)) possible answers next newest under are more = elim answers [ ]
+shown_step listed es moves drained now mid desks held (Jump from to) (Some (passed p)) possible answers next newest under are more = elim answers [ ]
 
 -- ---- moves so far
 
@@ -98,10 +98,11 @@ moves_nowhere v = λ listed es moves drained under. record { made = []; leads = 
 
 move_on : {A : Type 0} (old now new : View) (mid : ArbiterView) (step : Step A) (listed : List Instrument) (es : List Event) (moves : List Move) (drained : List ℕ)
     → now.arbiter.channel ≡ old.arbiter.channel → StepsAs es now.arbiter mid (Some step) → mid.channel ≡ now.arbiter.channel
-    → new.desks ≡ stepped_desks step mid.bases now.desks → new.held ≡ now.held ++ stepped_text step now.desks → new.arbiter ≡ mid
+    → new.desks ≡ stepped_desks step mid.newest now.desks → new.held ≡ now.held ++ stepped_text step now.desks → new.arbiter ≡ mid
     → HasMade listed es moves drained old now → HasMade listed es moves drained old new
 move_on old now new mid step listed es moves drained kept steps channel desks held arbiter so_far =
-    let s = shown_step listed es (moves ++ so_far.made) drained now mid new.desks new.held step (next_move now.arbiter.channel es (state now.arbiter)) refl steps.answer steps.state so_far.under_way desks held in
+    let newest : mid.newest ≡ newest_snapshots now.arbiter.channel.ids es = steps.stands.newest ∙ ap (λ (c : Channel). newest_snapshots c.ids es) channel in
+    let s = shown_step listed es (moves ++ so_far.made) drained now mid new.desks new.held step (next_move now.arbiter.channel es (state now.arbiter)) refl steps.answer steps.state newest so_far.under_way desks held in
     let possible : next_move old.arbiter.channel es (state now.arbiter) ≡ Some s.move =
     ap (λ (c : Channel). next_move c es (state now.arbiter)) (sym kept) ∙ s.possible in
     let next : state new.arbiter ≡ after (state now.arbiter) s.move = ap state arbiter ∙ s.state in
@@ -118,7 +119,7 @@ move_on old now new mid step listed es moves drained kept steps channel desks he
 -- a step more
 pub moves_further : {A : Type 0} (old now new : View) (mid : ArbiterView) (step : Step A) → MovesTo old now → now.arbiter.channel ≡ old.arbiter.channel
     → ((es : List Event) → StandsAt es now.arbiter → StepsAs es now.arbiter mid (Some step)) → mid.channel ≡ now.arbiter.channel
-    → new.desks ≡ stepped_desks step mid.bases now.desks → new.held ≡ now.held ++ stepped_text step now.desks → new.arbiter ≡ mid → MovesTo old new
+    → new.desks ≡ stepped_desks step mid.newest now.desks → new.held ≡ now.held ++ stepped_text step now.desks → new.arbiter ≡ mid → MovesTo old new
 moves_further old now new mid step so_far kept steps channel desks held arbiter listed es moves drained under =
     let made = so_far listed es moves drained under in
     move_on old now new mid step listed es moves drained kept (steps es made.under_way.stands) channel desks held arbiter made

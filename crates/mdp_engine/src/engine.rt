@@ -257,9 +257,9 @@ impl<A: Allocator + Copy, W: Window<Packet<A>> + Drop> Engine<A, W> {
         Ok(())
     }
 
-    // Shows a step: a packet that passes, or a jump to the snapshots that the arbiter took.
+    // Shows a step: a packet that passes, or a jump to the newest snapshots, which the arbiter took.
     fn take_step(&mut self, step: Step<A>) -> Result<(), Memory>
-        ensures desks { OnOk result (self.new.desks ≡ stepped_desks step self.old.arbiter.bases self.old.desks) }
+        ensures desks { OnOk result (self.new.desks ≡ stepped_desks step self.old.arbiter.newest self.old.desks) }
         ensures text { OnOk result (self.new.held ≡ self.old.held ++ stepped_text step self.old.desks) }
         ensures arbiter { OnOk result (self.new.arbiter ≡ self.old.arbiter) }
         ensures sound { OnOk result (self.new.has_failed ≡ self.old.has_failed) }
@@ -270,8 +270,8 @@ impl<A: Allocator + Copy, W: Window<Packet<A>> + Drop> Engine<A, W> {
                 Ok(())
             }
             Step::Jump { old, new } => {
-                let bases = self.arbiter.bases();
-                self.desks.jump(&mut self.held, old, new, bases)?;
+                let taken = self.arbiter.newest();
+                self.desks.jump(&mut self.held, old, new, taken)?;
                 Ok(())
             }
         }

@@ -4,7 +4,7 @@ use Rattle.std.specs.Prelude.{Option, Some, None, Result, Ok, Err, OnOk}
 use Rattle.std.proofs.lemmas.List.{append-nil}
 use Rattle.mdp_templates.specs.Snapshot.{SnapshotContent}
 use Rattle.mdp_templates.specs.declared.instrument.Instrument.{Instrument}
-use Rattle.mdp_arbiter.specs.Accepted.{Event}
+use Rattle.mdp_arbiter.specs.Accepted.{Event, newest_snapshots}
 use Rattle.mdp_arbiter.specs.Channel.{Channel}
 use Rattle.mdp_arbiter.specs.Machine.{State, Move, Settles, next_move, after, after_all, settle, snapshots_of, state_at, go_on}
 use Rattle.mdp_arbiter.specs.Machine.Move.{passed, jumped}
@@ -13,6 +13,7 @@ use Rattle.mdp_arbiter.specs.Moves.{Answers, after_move}
 use Rattle.mdp_arbiter.specs.Standing.{StandsAt, StepsAs}
 use Rattle.mdp_arbiter.specs.declared.step.Step.{Step}
 use Rattle.mdp_arbiter.specs.declared.step.Step.TheVariants.{Pass, Jump}
+use Rattle.mdp_arbiter.proofs.Jumps.{law_of_jumps}
 use Rattle.mdp_arbiter.proofs.Runs.{law_of_events, law_of_fronts, law_of_moves}
 use Rattle.mdp_engine.specs.Engine.{IsSettled}
 use Rattle.mdp_engine.proofs.Moving.{Leads, leads-push, no_move}
@@ -40,18 +41,19 @@ record IsMade (channel : Channel) (es : List Event) (old new : State) (move : Mo
   possible : next_move channel es old ≡ Some move
   state : new ≡ after old move
 
-one_made : {A : Type 0} (channel : Channel) (es : List Event) (old new : State) (step : Step A) (m : Option Move)
-    → next_move channel es old ≡ m → Answers m (Some step) → new ≡ after_move old m → IsMade channel es old new (stepped_move step new.bases)
-one_made channel es old new step None possible answers next = elim answers [ ]
-one_made channel es old new (Pass q) (Some (passed p)) possible answers next =
+one_made : {A : Type 0} (channel : Channel) (es : List Event) (old new : State) (newest : List (Option SnapshotContent)) (step : Step A) (m : Option Move)
+    → next_move channel es old ≡ m → Answers m (Some step) → new ≡ after_move old m → newest ≡ newest_snapshots channel.ids es
+    → IsMade channel es old new (stepped_move step newest)
+one_made channel es old new newest step None possible answers next are = elim answers [ ]
+one_made channel es old new newest (Pass q) (Some (passed p)) possible answers next are =
     record { possible = possible ∙ ap (λ x. Some (passed x)) (sym answers); state = next }
-one_made channel es old new (Jump from to) (Some (jumped f t snapshots)) possible answers next =
-    let bases : snapshots_of new.bases ≡ snapshots = ap (λ (s : State). snapshots_of s.bases) next ∙ all_there snapshots in
-    let same : jumped from to (snapshots_of new.bases) ≡ jumped f t snapshots =
-    ap (λ (n : ℕ). jumped n to (snapshots_of new.bases)) answers.0 ∙ ap (λ (n : ℕ). jumped f n (snapshots_of new.bases)) answers.1 ∙ ap (jumped f t) bases in
+one_made channel es old new newest (Jump from to) (Some (jumped f t snapshots)) possible answers next are =
+    let taken : snapshots_of newest ≡ snapshots = ap snapshots_of (are ∙ (law_of_jumps channel es old f t snapshots possible).newest) ∙ all_there snapshots in
+    let same : jumped from to (snapshots_of newest) ≡ jumped f t snapshots =
+    ap (λ (n : ℕ). jumped n to (snapshots_of newest)) answers.0 ∙ ap (λ (n : ℕ). jumped f n (snapshots_of newest)) answers.1 ∙ ap (jumped f t) taken in
     record { possible = possible ∙ ap (λ (x : Move). Some x) (sym same); state = next ∙ ap (after old) (sym same) }
-one_made channel es old new (Pass q) (Some (jumped f t snapshots)) possible answers next = elim answers [ ]
-one_made channel es old new (Jump from to) (Some (passed p)) possible answers next = elim answers [ ]
+one_made channel es old new newest (Pass q) (Some (jumped f t snapshots)) possible answers next are = elim answers [ ]
+one_made channel es old new newest (Jump from to) (Some (passed p)) possible answers next are = elim answers [ ]
 
 -- ---- moves so far
 
@@ -68,11 +70,12 @@ MovesTo old now turns turns' = (es : List Event) → StandsAt es old → HasMade
 -- a step more
 pub moves_further : {A : Type 0} (old now new : View) (turns so_far full : List Move) (step : Step A) (move : Move) → MovesTo old now turns so_far
     → ((es : List Event) → StandsAt es now → StepsAs es now new (Some step)) → new.channel ≡ now.channel
-    → move ≡ stepped_move step new.bases → full ≡ so_far ++ move ∷ [] → MovesTo old new turns full
+    → move ≡ stepped_move step new.newest → full ≡ so_far ++ move ∷ [] → MovesTo old new turns full
 moves_further old now new turns so_far full step move moves steps channel is more es stands =
     let has = moves es stands in
     let s = steps es has.stands in
-    let one = one_made now.channel es (state now) (state new) step (next_move now.channel es (state now)) refl s.answer s.state in
+    let newest : new.newest ≡ newest_snapshots now.channel.ids es = s.stands.newest ∙ ap (λ (c : Channel). newest_snapshots c.ids es) channel in
+    let one = one_made now.channel es (state now) (state new) new.newest step (next_move now.channel es (state now)) refl s.answer s.state newest in
     let possible : next_move old.channel es (state now) ≡ Some move =
     ap (λ (c : Channel). next_move c es (state now)) (sym has.channel) ∙ one.possible ∙ ap (λ (x : Move). Some x) (sym is) in
     record {

@@ -21,13 +21,13 @@ use std::alloc::Allocator;
 // Copies the snapshots that are there.
 fn snapshots_in<A: Allocator>(
     alloc: A,
-    bases: &[Option<Snapshot>],
+    newest: &[Option<Snapshot>],
 ) -> Result<Vec<Snapshot, A>, Memory>
-    ensures { IfOk result (λ snapshots. snapshots.items ≡ snapshots_of bases.now) }
+    ensures { IfOk result (λ snapshots. snapshots.items ≡ snapshots_of newest.now) }
 {
-    let mut snapshots = Vec::with_capacity(alloc, bases.len())?;
-    for base in bases {
-        match base {
+    let mut snapshots = Vec::with_capacity(alloc, newest.len())?;
+    for snapshot in newest {
+        match snapshot {
             Some(snapshot) => snapshots.push(snapshot.copy())?,
             None => {}
         }
@@ -39,16 +39,16 @@ fn snapshots_in<A: Allocator>(
 fn turn_of<A: Allocator>(
     alloc: A,
     step: Step<A>,
-    bases: &[Option<Snapshot>],
+    newest: &[Option<Snapshot>],
 ) -> Result<Turn<A>, Memory>
-    ensures { IfOk result (λ turn. move_of turn ≡ stepped_move step bases.now) }
+    ensures { IfOk result (λ turn. move_of turn ≡ stepped_move step newest.now) }
 {
     match step {
         Step::Pass(packet) => Ok(Turn::Passed(packet)),
         Step::Jump { old, new } => Ok(Turn::Jumped {
             old,
             new,
-            snapshots: snapshots_in(alloc, bases)?,
+            snapshots: snapshots_in(alloc, newest)?,
         }),
     }
 }
@@ -63,7 +63,7 @@ fn make_moves<A: Allocator + Copy, W: Window<Packet<A>> + Drop>(
         → MakesMoves events arbiter.old arbiter.new (map move_of turns.old.items) (map move_of turns.new.items) result }
 {
     while let Some(step) = arbiter.step() {
-        let turn = turn_of(alloc, step, arbiter.bases())?;
+        let turn = turn_of(alloc, step, arbiter.newest())?;
         turns.push(turn)?;
     }
     Ok(())

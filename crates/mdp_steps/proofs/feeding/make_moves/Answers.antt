@@ -14,7 +14,7 @@ pub loop-step-preserved : goal.loop-step-preserved
 loop-step-preserved g c =
     moves_further c.args.arbiter.now c.loop-step.arbiter c.step.new.self (map move_of c.args.turns.now.items) (map move_of c.loop-step.turns.items) (map move_of c.push.new.self.items) c.in-Some.step (move_of c.in_ok-turn.turn)
     c.loop-step.invariant c.in-Some.ensures.steps c.in-Some.ensures.channel
-    (c.in_ok-turn.ensures ∙ ap (stepped_move c.in-Some.step) c.bases.ensures)
+    (c.in_ok-turn.ensures ∙ ap (stepped_move c.in-Some.step) c.newest.ensures)
     (ap (map move_of) c.in_ok-push.ensures.items ∙ map-append move_of c.loop-step.turns.items (c.in_ok-turn.turn ∷ []))
 
 pub returns-in_err-push : goal.returns-in_err-push

@@ -1,6 +1,7 @@
 use Rattle.std.proofs.Common.{arith, refl, sym}
 use Rattle.std.specs.Ordering.{nat_cmp}
 use Rattle.std.specs.FinMap.{get-empty}
+use Rattle.mdp_arbiter.proofs.Bases.{as_many, none_at_first}
 use Rattle.mdp_arbiter.proofs.Renewals.{none_listed, none_each, none_either}
 use Rattle.mdp_arbiter.proofs.arbiter.Arbiter.new.Goals as goal
 
@@ -15,7 +16,7 @@ invariant_of-result g c = (
   omega arith,
   λ k above. rw (c.requires.empty, get-empty nat_cmp k) refl,
   none_each _ _ _ c.in_ok-slots.ensures c.in_ok-newest.ensures,
-  none_each _ _ _ c.in_ok-slots.ensures c.in_ok-bases.ensures,
+  as_many _ _ _ c.in_ok-slots.ensures c.in_ok-bases.ensures,
   λ waits. refl,
 )
 
@@ -32,4 +33,4 @@ returns-clause-stands g c = record {
 }
 
 pub returns-clause-start : goal.returns-clause-start
-returns-clause-start g c = rw (none_listed _ _ _ c.in_ok-slots.ensures c.in_ok-bases.ensures, c.has_joined.ensures) refl
+returns-clause-start g c = rw (none_at_first _ _ _ _ c.in_ok-slots.ensures c.in_ok-newest.ensures c.in_ok-bases.ensures, c.has_joined.ensures) refl

@@ -1,11 +1,15 @@
-use Rattle.std.proofs.Common.{◌≡◌, ℕ, ◌<◌, true, length, arith, refl, rules}
-use Rattle.std.specs.Prelude.{Some, slice_get}
+use Rattle.std.proofs.Common.{◌≡◌, ℕ, ◌<◌, ◌∙◌, true, length, get_or, set, arith, refl, rules, ap, subst, sym}
+use Rattle.std.specs.Prelude.{Option, Some, slice_get}
 use Rattle.std.proofs.lemmas.Grind.{common_steps}
 use Rattle.std.proofs.lemmas.Int.{to_z-of_z}
 use Rattle.std.proofs.lemmas.Option.{slice_get_within, slice_get_read}
 use mir.Val.{SFits}
 use mir.Syntax.{w32}
+use Rattle.mdp_templates.specs.Snapshot.{SnapshotContent}
 use Rattle.mdp_arbiter.specs.Accepted.{is_newer}
+use Rattle.mdp_arbiter.specs.Bases.{bases_of}
+use Rattle.mdp_arbiter.specs.declared.base.Base.{Base}
+use Rattle.mdp_arbiter.proofs.Bases.{bases_kept}
 use Rattle.mdp_arbiter.proofs.Renewals.{newest_after-set}
 use Rattle.mdp_arbiter.proofs.arbiter.Arbiter.renew.Goals as goal
 
@@ -17,6 +21,13 @@ returns g c =
     rw (to_z-of_z _ _ fits, c.security.ensures) at c.in-Some.ensures.only in
     let within : c.in-Some.slot < length c.self.inside.newest.items = omega (arith, slice_get_within c.self.inside.slots c.in-Some.slot c.args.snapshot.security at, c.self.invariant.8) in
     let there : slice_get c.self.inside.newest.items c.in-Some.slot ≡ Some c.index.result.now = slice_get_read c.self.inside.newest.items _ _ _ refl within c.index.ensures in
+    let inside = c.self.inside in
+    let was : c.replace-before.result ≡ get_or inside.newest.items c.in-Some.slot c.replace-before.result =
+    subst (λ (o : Option SnapshotContent). o ≡ get_or inside.newest.items c.in-Some.slot o) (sym c.replace-before.ensures.value) c.index_mut.ensures.value in
+    let slot = c.in-Some.slot in
+    let kept : bases_of (set inside.newest.items slot (Some c.args.snapshot)) (set inside.bases.items slot c.keep.new.self) ≡ bases_of inside.newest.items inside.bases.items =
+    ap (λ (b : Base). bases_of (set inside.newest.items slot (Some c.args.snapshot)) (set inside.bases.items slot b)) c.keep.ensures
+    ∙ bases_kept inside.newest.items inside.bases.items slot (Some c.args.snapshot) c.replace-before.result c.index_mut-2.result.now was c.index_mut-2.ensures.value in
     let newer : is_newer c.index.result.now c.args.snapshot ≡ true = grind (arith, common_steps, c.renews.ensures, c.if-not-renews.false) in
-    let set = newest_after-set c.self.inside.slots c.args.snapshot c.self.inside.newest.items c.in-Some.slot c.index.result.now at only there newer in
-    rw (← c.self.view_is) (c.if-self.false, (c.in-Some.slot, c.index.result.now, at, there, newer), rw set refl)
+    let renewed = newest_after-set c.self.inside.slots c.args.snapshot c.self.inside.newest.items c.in-Some.slot c.index.result.now at only there newer in
+    rw (← c.self.view_is) (c.if-self.false, (c.in-Some.slot, c.index.result.now, at, there, newer), rw (renewed, c.replace-before.ensures.after, kept) refl)

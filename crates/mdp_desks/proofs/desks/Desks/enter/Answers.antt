@@ -25,8 +25,8 @@ invariant_of-self g c =
       marks_are = marks_put inside.desks.items _ _ slot c.enter.new.self _ c.self.invariant.marks_are c.put.ensures same;
     }
 
-pub returns-in-Some : goal.returns-in-Some
-returns-in-Some g c =
+pub returns : goal.returns
+returns g c =
     let at : slice_get (ids_in c.self.inside.desks.items) c.in-Some.slot ≡ Some c.args.entry.now.security = ap (λ (ids : List ℤ). slice_get ids c.in-Some.slot) (sym c.self.invariant.same) ∙ c.in-Some.ensures.some in
     let differ = subst (λ (ids : List ℤ). AllPairs (λ a b. a ≢ b) ids) c.self.invariant.same c.self.invariant.differ in
     rw (← c.self.view_is, c.enter.ensures) (one_heard c.args.place c.args.entry.now c.self.inside.desks.items c.in-Some.slot c.index_mut.result.now differ at c.index_mut.ensures.value)
