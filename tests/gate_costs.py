@@ -1,0 +1,140 @@
+#!/usr/bin/env python3
+"""Runs a command of the gate and tells what each crate cost: tests/gate_costs.py [--table FILE] COMMAND ..
+
+As tests/gate_costs.py make test. It looks twice a second at the checks (processes of `rattle`) below the command, and adds up their
+processor time by crate: the crate's own proof, its tests' proof, its must-fail edits with the check that these begin with. After
+what the command prints come a table in processor minutes, the slowest edits in processor seconds, and both times of the whole run.
+With --table they go into FILE instead. What an earlier run kept costs nothing here, so a whole table is one of a run from nothing.
+The exit status is the command's.
+"""
+import collections
+import os
+import re
+import resource
+import subprocess
+import sys
+import time
+
+TICKS = os.sysconf("SC_CLK_TCK")
+SLOWEST = 12
+
+
+def read(path):
+    """Returns what a file of /proc has, or nothing where its process has ended."""
+    try:
+        with open(path, "rb") as file:
+            return file.read().decode(errors="replace")
+    except OSError:
+        return ""
+
+
+def processes_below(root):
+    """Returns the numbers of all processes that the process root started, directly or through others."""
+    children = collections.defaultdict(list)
+    for number in filter(str.isdigit, os.listdir("/proc")):
+        fields = read(f"/proc/{number}/stat").rpartition(")")[2].split()
+        if fields:
+            children[int(fields[1])].append(int(number))
+    found, todo = [], [root]
+    while todo:
+        below = children[todo.pop()]
+        found += below
+        todo += below
+    return found
+
+
+def edit_tried(crate, room, repository):
+    """Returns the name of the edit whose text stands in a copy of the crate, or None where it is the crate as it is."""
+    folder = f"{repository}/crates/{crate}/must-fail"
+    names = sorted(os.listdir(folder)) if os.path.isdir(folder) else []
+    for name in names:
+        pairs, path = [], ""
+        for line in read(f"{folder}/{name}").split("\n"):
+            if line.startswith("file: "):
+                path = line[len("file: "):].strip()
+            elif line.startswith("old: "):
+                pairs.append((path, line[len("old: "):]))
+        if pairs and all(old not in read(f"{room}/{path}") for path, old in pairs):
+            return name.removesuffix(".edit")
+    return None
+
+
+class Checks:
+    """The checks that were seen, each with its kind, its crate and the processor seconds that it had taken when it was seen last."""
+
+    def __init__(self, repository):
+        self.repository, self.seen = repository, {}
+
+    def look(self, root):
+        for number in processes_below(root):
+            words = read(f"/proc/{number}/cmdline").split("\0")
+            if len(words) < 2 or os.path.basename(words[0]) != "rattle" or "--crate-name" not in words:
+                continue
+            after_name = read(f"/proc/{number}/stat").rpartition(")")[2].split()
+            if not after_name:
+                continue
+            seconds = (int(after_name[11]) + int(after_name[12])) / TICKS
+            # A number is given again, but never with the same start.
+            key = number, after_name[19]
+            kind, crate, edit = self.seen.get(key, (None, None, None, 0))[:3]
+            if kind is None:
+                kind, crate, edit = self.kind_of(number, words)
+            self.seen[key] = kind, crate, edit, seconds
+
+    def kind_of(self, number, words):
+        crate = words[words.index("--crate-name") + 1].removesuffix("_tests")
+        try:
+            room = os.readlink(f"/proc/{number}/cwd")
+        except OSError:
+            room = ""
+        if re.search(r"/rt-edit-", room):
+            return "edits", crate, edit_tried(crate, room, self.repository)
+        return ("tests" if "--test" in words else "proof"), crate, None
+
+    def table(self):
+        """Returns the lines of both tables."""
+        by_crate = collections.defaultdict(lambda: collections.defaultdict(float))
+        edits = collections.defaultdict(float)
+        for kind, crate, edit, seconds in self.seen.values():
+            by_crate[crate][kind] += seconds
+            if edit:
+                edits[crate, edit] += seconds
+        minutes = lambda seconds: f"{seconds / 60:.1f}"
+        lines = ["| Crate | Proof | Tests | Edits | of these tried | All |", "|---|---|---|---|---|---|"]
+        whole = collections.defaultdict(float)
+        for crate, costs in sorted(by_crate.items(), key=lambda it: -sum(it[1].values())):
+            tried = sum(name == crate for name, _ in edits)
+            row = [costs["proof"], costs["tests"], costs["edits"]]
+            lines.append(f"| {crate} | " + " | ".join(map(minutes, row)) + f" | {tried} | {minutes(sum(row))} |")
+            for kind in costs:
+                whole[kind] += costs[kind]
+        row = [whole["proof"], whole["tests"], whole["edits"]]
+        lines.append("| all | " + " | ".join(map(minutes, row)) + f" | {len(edits)} | {minutes(sum(row))} |")
+        lines += ["", f"The {SLOWEST} slowest edits, in processor seconds:", ""]
+        slowest = sorted(edits.items(), key=lambda it: -it[1])[:SLOWEST]
+        lines += [f"- {crate}/{edit}: {seconds:.0f}" for (crate, edit), seconds in slowest]
+        return lines
+
+
+def main():
+    words = sys.argv[1:]
+    file = None
+    if words[:1] == ["--table"] and len(words) > 2:
+        file, words = words[1], words[2:]
+    if not words or words[0].startswith("-"):
+        sys.exit("usage: tests/gate_costs.py [--table FILE] COMMAND ..")
+    checks, begin = Checks(os.getcwd()), time.monotonic()
+    command = subprocess.Popen(words)
+    while command.poll() is None:
+        checks.look(command.pid)
+        time.sleep(0.5)
+    wall = (time.monotonic() - begin) / 60
+    used = resource.getrusage(resource.RUSAGE_CHILDREN)
+    lines = checks.table()
+    lines += ["", f"{wall:.0f} minutes of wall time, {(used.ru_utime + used.ru_stime) / 60:.0f} of processor time"]
+    with open(file, "w") if file else os.fdopen(os.dup(1), "w") as out:
+        print(*lines, sep="\n", file=out)
+    sys.exit(command.returncode if command.returncode >= 0 else 1)
+
+
+main()
