@@ -1,6 +1,5 @@
 -- What the moves of the first events show begins what the moves of all show, and so of the steps of a board.
-use Rattle.std.proofs.Common.{◌≡◌, ℕ, List, [], ◌∷◌, ◌++◌, map, sym, ap, ◌∙◌, append_assoc}
-use Rattle.std.proofs.lemmas.List.{append-nil}
+use Rattle.std.proofs.Common.{◌≡◌, ℕ, List, ◌++◌, map, ap, ◌∙◌, append_assoc}
 use Rattle.mdp_templates.specs.declared.instrument.Instrument.{Instrument}
 use Rattle.mdp_arbiter.specs.declared.start.Start.{Start}
 use Rattle.mdp_arbiter.specs.Accepted.{Event}
@@ -10,16 +9,8 @@ use Rattle.mdp_arbiter.proofs.Runs.{law_of_fronts}
 use Rattle.mdp_lanes.specs.declared.step.Step.{Step}
 use Rattle.mdp_reports.specs.BoardSteps.{board_steps, step_of_moment}
 use Rattle.mdp_reports.proofs.Boarding.{law_of_more_steps}
-use Rattle.mdp_desks.specs.Moments.{moments_after}
-use Rattle.mdp_desks.specs.Shown.{shown_lines, shown_lines_after, shown_lines_of_move}
-
-pub shown_lines_after-append : (listed : List Instrument) (before moves more : List Move) → shown_lines_after listed before (moves ++ more) ≡ shown_lines_after listed before moves ++ shown_lines_after listed (before ++ moves) more
-shown_lines_after-append listed before [] more = ap (λ (b : List Move). shown_lines_after listed b more) (sym (append-nil before))
-shown_lines_after-append listed before (m ∷ moves) more =
-    let now = before ++ m ∷ [] in
-    ap (λ (t : List ℕ). shown_lines_of_move listed before m ++ t) (shown_lines_after-append listed now moves more)
-    ∙ ap (λ (b : List Move). shown_lines_of_move listed before m ++ (shown_lines_after listed now moves ++ shown_lines_after listed b more)) (append_assoc before (m ∷ []) moves)
-    ∙ sym (append_assoc (shown_lines_of_move listed before m) (shown_lines_after listed now moves) (shown_lines_after listed (before ++ m ∷ moves) more))
+use Rattle.mdp_desks.specs.Moments.{moments_after, shown_lines, text_of_moments}
+use Rattle.mdp_desks.proofs.Moments.{shown_lines-append}
 
 -- where the moves of these events begin with those
 pub shown_first : (listed : List Instrument) (room : ℕ) (from : Start) (events more : List Event) (first rest : List Move) → trace (channel_of listed room from) events ≡ first ++ rest
@@ -29,7 +20,7 @@ shown_first listed room from events more first rest front =
     let behind = go_on channel events (state_at channel events) more in
     let all : trace channel (events ++ more) ≡ first ++ (rest ++ behind) =
     law_of_fronts channel events more ∙ ap (λ (l : List Move). l ++ behind) front ∙ append_assoc first rest behind in
-    (shown_lines_after listed first (rest ++ behind), ap (shown_lines listed) all ∙ shown_lines_after-append listed [] first (rest ++ behind))
+    (text_of_moments (moments_after listed first (rest ++ behind)), ap (shown_lines listed) all ∙ shown_lines-append listed first (rest ++ behind))
 
 pub published_first : (listed : List Instrument) (room : ℕ) (from : Start) (events more : List Event) (first rest : List Move) → trace (channel_of listed room from) events ≡ first ++ rest
     → (later : List Step) × (board_steps listed (trace (channel_of listed room from) (events ++ more)) ≡ board_steps listed first ++ later)

@@ -9,7 +9,7 @@ use Rattle.mdp_arbiter.specs.Machine.{Move}
 use Rattle.mdp_arbiter.specs.Machine.Move.{passed, jumped}
 use Rattle.mdp_desks.specs.Moments.{Moment, moments_by}
 use Rattle.mdp_desks.specs.Reports.{Report}
-use Rattle.mdp_desks.specs.Shown.{shown_lines}
+use Rattle.mdp_desks.specs.Moments.{shown_lines}
 use Rattle.mdp_engine.specs.RoundLaws.{Ascend}
 use Rattle.mdp_engine.specs.Rounds.{all_rounds_in, collected_text, kept_after_round, kept_at_start, round_of, round_text, rounds_in, text_from}
 use Rattle.mdp_engine.proofs.Batching.{law_of_batches, law_of_cuts}

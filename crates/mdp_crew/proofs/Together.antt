@@ -11,7 +11,7 @@ use Rattle.mdp_arbiter.specs.declared.start.Start.{Start}
 use Rattle.mdp_arbiter.specs.Accepted.{Event}
 use Rattle.mdp_arbiter.specs.Channel.{channel_of, ids_of}
 use Rattle.mdp_arbiter.specs.Machine.{Move, is_lost, state_at, trace}
-use Rattle.mdp_desks.specs.Shown.{shown_lines}
+use Rattle.mdp_desks.specs.Moments.{shown_lines}
 use Rattle.mdp_engine.specs.RoundLaws.{Ascend}
 use Rattle.mdp_engine.specs.Rounds.{kept_at_start}
 use Rattle.mdp_engine.proofs.Ascending.{law_of_ascent}

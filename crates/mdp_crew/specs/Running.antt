@@ -5,7 +5,7 @@ use Rattle.mdp_arbiter.specs.declared.start.Start.{Start}
 use Rattle.mdp_arbiter.specs.Accepted.{Event}
 use Rattle.mdp_arbiter.specs.Channel.{channel_of}
 use Rattle.mdp_arbiter.specs.Machine.{is_lost, state_at, trace}
-use Rattle.mdp_desks.specs.Shown.{shown_lines}
+use Rattle.mdp_desks.specs.Moments.{shown_lines}
 use Rattle.mdp_lanes.specs.Boards.{Published}
 use Rattle.mdp_lanes.specs.declared.step.Step.{Step}
 use Rattle.mdp_reports.specs.BoardSteps.{board_steps}

@@ -1,7 +1,7 @@
 -- An entry is for one desk at most, and a message is heard, shown and settled as one step.
 use Rattle.std.proofs.Common.{◌≡◌, ◌≢◌, ℕ, ℤ, zero, suc, ◌+◌, ◌<◌, Bool, true, false, cond, List, [], ◌∷◌, ◌++◌, length, take, drop, min, map, get_or, set, Option, Some, None, refl, sym, ap, subst, ◌∙◌, arith, inl, inr}
 use Rattle.std.specs.Prelude.{◌||◌, nat_lt, slice_get, All}
-use Rattle.std.specs.List.{list_any, AllPairs, flat_map}
+use Rattle.std.specs.List.{list_any, AllPairs}
 use Rattle.std.proofs.Math.Seq.{map-set_same}
 use Rattle.std.proofs.lemmas.Bool.{cases_Bool}
 use Rattle.std.proofs.lemmas.Bool.Decides.{Decides-int_eq}
@@ -14,8 +14,9 @@ use Rattle.mdp_books.specs.declared.book.Place.{Place}
 use Rattle.mdp_books.specs.Book.{after_entry}
 use Rattle.mdp_books.specs.Feed.{Sent, names, place_at, after_entries_from}
 use Rattle.mdp_desks.specs.declared.desk.Desk.{Desk}
-use Rattle.mdp_desks.specs.Lines.{Seen, text_of, audit_text, lines_as}
-use Rattle.mdp_desks.specs.Desks.{desk_at_start, desk_entered, desk_heard, desks_through, desk_settled, desk_standing, desk_seen, desks_after, desks_text, rebased_desks}
+use Rattle.mdp_desks.specs.Lines.{Seen}
+use Rattle.mdp_desks.specs.Moments.{ended}
+use Rattle.mdp_desks.specs.Desks.{desk_at_start, desk_entered, desk_heard, desks_through, desk_settled, desk_standing, desk_seen, desks_after, desks_moment, rebased_desks}
 use Rattle.mdp_arbiter.specs.Channel.{ids_of}
 use Rattle.mdp_desks.specs.Beside.{listed_in, marks_of, AreBeside}
 
@@ -227,11 +228,12 @@ pub ended_desks : (packet message : ℕ) (entries : List Entry) (ds : List Desk)
 ended_desks packet message entries ds end is =
     ap (map (desk_settled packet)) (all_through packet message 1 entries ds) ∙ all_settled packet message entries ds ∙ ap (λ (b : Bool). desks_after (sent_with packet message entries b) ds) (sym is)
 
-pub ended_text : (packet message : ℕ) (entries : List Entry) (ds : List Desk) (end : Bool) → end ≡ true → lines_as packet message (map (desk_standing packet) (desks_through packet message 1 entries ds)) ≡ desks_text (sent_with packet message entries end) ds
-ended_text packet message entries ds end is =
-    ap (λ (xs : List Desk). lines_as packet message (map (desk_standing packet) xs)) (all_through packet message 1 entries ds)
-    ∙ ap (lines_as packet message) (all_standing packet message entries ds)
-    ∙ ap (λ (b : Bool). desks_text (sent_with packet message entries b) ds) (sym is)
+pub ended_moment : (packet message : ℕ) (entries : List Entry) (ds : List Desk) (end : Bool) → end ≡ true
+    → ended packet message (map (desk_standing packet) (desks_through packet message 1 entries ds)) ∷ [] ≡ desks_moment (sent_with packet message entries end) ds
+ended_moment packet message entries ds end is =
+    ap (λ (xs : List Desk). ended packet message (map (desk_standing packet) xs) ∷ []) (all_through packet message 1 entries ds)
+    ∙ ap (λ (seen : List (Option Seen)). ended packet message seen ∷ []) (all_standing packet message entries ds)
+    ∙ ap (λ (b : Bool). desks_moment (sent_with packet message entries b) ds) (sym is)
 
 -- ---- where it ends none
 
@@ -242,19 +244,5 @@ all_open packet message entries (d ∷ ds) = ap (λ (t : List Desk). through pac
 pub open_desks : (packet message : ℕ) (entries : List Entry) (ds : List Desk) (end : Bool) → end ≡ false → desks_through packet message 1 entries ds ≡ desks_after (sent_with packet message entries end) ds
 open_desks packet message entries ds end is = all_through packet message 1 entries ds ∙ all_open packet message entries ds ∙ ap (λ (b : Bool). desks_after (sent_with packet message entries b) ds) (sym is)
 
-no_books : (packet message : ℕ) (entries : List Entry) (ds : List Desk) → flat_map (text_of packet message) (map (desk_seen (sent_with packet message entries false)) ds) ≡ []
-no_books packet message entries [] = refl
-no_books packet message entries (d ∷ ds) = no_books packet message entries ds
-
-no_audits : (packet message : ℕ) (entries : List Entry) (seen : List (Option Seen)) (ds : List Desk) → flat_map (audit_text packet message seen) (map (desk_seen (sent_with packet message entries false)) ds) ≡ []
-no_audits packet message entries seen [] = refl
-no_audits packet message entries seen (d ∷ ds) = no_audits packet message entries seen ds
-
-no_text : (packet message : ℕ) (entries : List Entry) (ds : List Desk) → desks_text (sent_with packet message entries false) ds ≡ []
-unfolding lines_as
-no_text packet message entries ds =
-    let seen = map (desk_seen (sent_with packet message entries false)) ds in
-    ap (λ (t : List ℕ). t ++ flat_map (audit_text packet message seen) seen) (no_books packet message entries ds) ∙ no_audits packet message entries seen ds
-
-pub open_text : (packet message : ℕ) (entries : List Entry) (ds : List Desk) (end : Bool) → end ≡ false → desks_text (sent_with packet message entries end) ds ≡ []
-open_text packet message entries ds end is = ap (λ (b : Bool). desks_text (sent_with packet message entries b) ds) is ∙ no_text packet message entries ds
+pub open_moment : (packet message : ℕ) (entries : List Entry) (ds : List Desk) (end : Bool) → end ≡ false → desks_moment (sent_with packet message entries end) ds ≡ []
+open_moment packet message entries ds end is = ap (λ (b : Bool). desks_moment (sent_with packet message entries b) ds) is

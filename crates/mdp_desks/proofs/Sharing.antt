@@ -124,7 +124,7 @@ told_own mine packet message slot (i ∷ listed) (s ∷ seen) within = by_mine (
 -- ---- moment by moment
 
 reported : (mine : ℕ → Bool) (listed : List Instrument) (starts : List Start) (since : List Sent) (m : Sent) → length starts ≤ length listed
-    → map (report_by (own_slots mine 0 listed)) (moment_at (own_part mine 0 starts) since m) ≡ map (report_of mine) (moment_at starts since m)
+    → map (report_by (own_slots mine 0 listed)) (moment_at m (map (start_seen since m) (own_part mine 0 starts))) ≡ map (report_of mine) (moment_at m (map (start_seen since m) starts))
 reported mine listed starts since m within = by_end m.end
   where
     long : length (map (start_seen since m) starts) ≤ length listed
@@ -142,10 +142,10 @@ from_reported : (mine : ℕ → Bool) (listed : List Instrument) (starts : List 
     → map (report_by (own_slots mine 0 listed)) (moments_from (own_part mine 0 starts) since ms) ≡ map (report_of mine) (moments_from starts since ms)
 from_reported mine listed starts since [] within = refl
 from_reported mine listed starts since (m ∷ ms) within =
-    map-append (report_by (own_slots mine 0 listed)) (moment_at (own_part mine 0 starts) since m) (moments_from (own_part mine 0 starts) (since ++ m ∷ []) ms)
+    map-append (report_by (own_slots mine 0 listed)) (moment_at m (map (start_seen since m) (own_part mine 0 starts))) (moments_from (own_part mine 0 starts) (since ++ m ∷ []) ms)
     ∙ ap (λ (t : List Report). t ++ map (report_by (own_slots mine 0 listed)) (moments_from (own_part mine 0 starts) (since ++ m ∷ []) ms)) (reported mine listed starts since m within)
-    ∙ ap (λ (t : List Report). map (report_of mine) (moment_at starts since m) ++ t) (from_reported mine listed starts (since ++ m ∷ []) ms within)
-    ∙ sym (map-append (report_of mine) (moment_at starts since m) (moments_from starts (since ++ m ∷ []) ms))
+    ∙ ap (λ (t : List Report). map (report_of mine) (moment_at m (map (start_seen since m) starts)) ++ t) (from_reported mine listed starts (since ++ m ∷ []) ms within)
+    ∙ sym (map-append (report_of mine) (moment_at m (map (start_seen since m) starts)) (moments_from starts (since ++ m ∷ []) ms))
 
 of_reported : (mine : ℕ → Bool) (listed : List Instrument) (before : List Move) (move : Move)
     → map (report_by (own_slots mine 0 listed)) (moments_of (own_part mine 0 listed) (own_moves mine before) (own_move mine move)) ≡ map (report_of mine) (moments_of listed before move)

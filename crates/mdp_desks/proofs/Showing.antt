@@ -1,7 +1,7 @@
 -- What the desks show, move by move.
 use Rattle.std.proofs.Common.{◌≡◌, ℕ, Bool, true, false, cond, List, [], ◌∷◌, ◌++◌, map, length, refl, sym, ap, subst, ◌∙◌, append_assoc, arith}
-use Rattle.std.specs.Prelude.{Option, Some, None, ◌||◌, ◌&&◌, not, nat_lt}
-use Rattle.std.specs.List.{AllZip}
+use Rattle.std.specs.Prelude.{Option, Some, None, ◌||◌, ◌&&◌, not, nat_lt, ⊤}
+use Rattle.std.specs.List.{AllZip, AllByRecursion}
 use Rattle.std.proofs.lemmas.List.{append-nil, length-map}
 use Rattle.std.proofs.lemmas.List.Sums.{fold_push}
 use Rattle.mdp_templates.specs.Packet.{PacketContent}
@@ -12,12 +12,14 @@ use Rattle.mdp_books.specs.Feed.{Sent, sent_in, is_named_in, book_after, book_fr
 use Rattle.mdp_books.proofs.Feeds.{book_from-push, behind-push}
 use Rattle.mdp_print.specs.Texts.{jump_line}
 use Rattle.mdp_desks.specs.declared.desk.Desk.{Desk}
-use Rattle.mdp_desks.specs.Lines.{Seen, lines_of}
+use Rattle.mdp_desks.specs.Lines.{Seen}
 use Rattle.mdp_arbiter.specs.Machine.{Move}
-use Rattle.mdp_desks.specs.Shown.{Start, Standing, starts_before_jump, standing_after, standing_through, starts_at_jump, book_since, start_seen, shown_lines_at, shown_lines_from, shown_lines_of_move, shown_lines_after, shown_lines}
+use Rattle.mdp_desks.specs.Shown.{Start, Standing, starts_before_jump, standing_after, standing_through, starts_at_jump, book_since, start_seen}
+use Rattle.mdp_desks.specs.Moments.{and_then, moments_from, moments_of, text_of_moments, shown_lines}
+use Rattle.mdp_desks.proofs.Moments.{same_moments, shown_lines-push}
 use Rattle.mdp_desks.specs.Due.{is_due, is_printed}
 use Rattle.mdp_arbiter.specs.Machine.Move.{passed, jumped}
-use Rattle.mdp_desks.specs.Desks.{desk_at_start, desk_with_message, desk_after, desk_seen, desks_after, desks_text, passed_desks, passed_text, desk_jumped, rebased_desks}
+use Rattle.mdp_desks.specs.Desks.{desk_at_start, desk_with_message, desk_after, desk_seen, desks_after, passed_desks, passed_moments, desk_jumped, rebased_desks}
 use Rattle.mdp_desks.specs.Standing.{DeskShows, Shows}
 use Rattle.mdp_desks.specs.Beside.{listed_in}
 use Rattle.mdp_desks.proofs.Marks.{is_due-push}
@@ -94,19 +96,22 @@ all_seen since m (i ∷ starts) (d ∷ ds) is =
     ap (λ (s : Option Seen). s ∷ map (desk_seen m) ds) (seen_same since i m d is.0)
     ∙ ap (λ (t : List (Option Seen)). start_seen since m i ∷ t) (all_seen since m starts ds is.1)
 
-text_same : (since : List Sent) (m : Sent) (starts : List Start) (ds : List Desk) → AllZip (DeskShows since) starts ds → desks_text m ds ≡ shown_lines_at starts since m
-text_same since m starts ds is = ap (lines_of m) (all_seen since m starts ds is)
-
 pass_shows : (ms since : List Sent) (starts : List Start) (ds : List Desk) → AllZip (DeskShows since) starts ds → AllZip (DeskShows (since ++ ms)) starts (passed_desks ms ds)
 pass_shows [] since starts ds is = subst (λ (s : List Sent). AllZip (DeskShows s) starts ds) (sym (append-nil since)) is
 pass_shows (m ∷ ms) since starts ds is =
     subst (λ (s : List Sent). AllZip (DeskShows s) starts (passed_desks ms (desks_after m ds))) (append_assoc since (m ∷ []) ms) (pass_shows ms (since ++ m ∷ []) starts (desks_after m ds) (all_show since m starts ds is))
 
-pass_text : (ms since : List Sent) (starts : List Start) (ds : List Desk) → AllZip (DeskShows since) starts ds → passed_text ms ds ≡ shown_lines_from starts since ms
-pass_text [] since starts ds is = refl
-pass_text (m ∷ ms) since starts ds is =
-    ap (λ (t : List ℕ). t ++ passed_text ms (desks_after m ds)) (text_same since m starts ds is)
-    ∙ ap (λ (t : List ℕ). shown_lines_at starts since m ++ t) (pass_text ms (since ++ m ∷ []) starts (desks_after m ds) (all_show since m starts ds is))
+-- what the desks show of messages is what the starts do
+all_any : (ms : List Sent) → AllByRecursion (λ (m : Sent). ⊤) ms
+all_any [] = tt
+all_any (m ∷ ms) = (tt, all_any ms)
+
+pub pass_moments : (ms since : List Sent) (starts : List Start) (ds : List Desk) → AllZip (DeskShows since) starts ds → passed_moments ms ds ≡ moments_from starts since ms
+pass_moments ms since starts ds is =
+    same_moments (λ (m : Sent). ⊤) (λ (desks : List Desk) (before : List Sent). AllZip (DeskShows before) starts desks)
+    (λ m desks. map (desk_seen m) desks) desks_after (λ m before. map (start_seen before m) starts) and_then
+    (record { same = λ m desks before _ are. all_seen before m starts desks are; on = λ m desks before _ are. all_show before m starts desks are })
+    ds since ms (all_any ms) is
 
 -- ---- the listed securities stay
 
@@ -150,23 +155,12 @@ jump_shows (s ∷ snapshots) (d ∷ ds) long = (record { instrument = refl; base
 pub standing_after-push : (listed : List Instrument) (moves : List Move) (move : Move) → standing_after listed (moves ++ move ∷ []) ≡ standing_through listed (standing_after listed moves) move
 standing_after-push listed moves move = fold_push (standing_through listed) (standing_after listed []) moves move
 
-shown_lines_after-push : (listed : List Instrument) (before moves : List Move) (move : Move) → shown_lines_after listed before (moves ++ move ∷ []) ≡ shown_lines_after listed before moves ++ shown_lines_of_move listed (before ++ moves) move
-shown_lines_after-push listed before [] move = append-nil (shown_lines_of_move listed before move) ∙ ap (λ (b : List Move). shown_lines_of_move listed b move) (sym (append-nil before))
-shown_lines_after-push listed before (x ∷ moves) move =
-    ap (λ (t : List ℕ). shown_lines_of_move listed before x ++ t) (shown_lines_after-push listed (before ++ x ∷ []) moves move)
-    ∙ sym (append_assoc (shown_lines_of_move listed before x) (shown_lines_after listed (before ++ x ∷ []) moves) (shown_lines_of_move listed ((before ++ x ∷ []) ++ moves) move))
-    ∙ ap (λ (b : List Move). (shown_lines_of_move listed before x ++ shown_lines_after listed (before ++ x ∷ []) moves) ++ shown_lines_of_move listed b move) (append_assoc before (x ∷ []) moves)
-
--- the text of moves begins the text of more moves
-pub shown_lines-push : (listed : List Instrument) (moves : List Move) (move : Move) → shown_lines listed (moves ++ move ∷ []) ≡ shown_lines listed moves ++ shown_lines_of_move listed moves move
-shown_lines-push listed moves move = shown_lines_after-push listed [] moves move
-
-text_grows : (listed : List Instrument) (moves : List Move) (move : Move) (text more after : List ℕ) → text ≡ shown_lines listed moves → after ≡ text ++ more → more ≡ shown_lines_of_move listed moves move → after ≡ shown_lines listed (moves ++ move ∷ [])
+text_grows : (listed : List Instrument) (moves : List Move) (move : Move) (text more after : List ℕ) → text ≡ shown_lines listed moves → after ≡ text ++ more → more ≡ text_of_moments (moments_of listed moves move) → after ≡ shown_lines listed (moves ++ move ∷ [])
 text_grows listed moves move text more after so_far grown says =
     grown ∙ ap (λ (t : List ℕ). t ++ more) so_far ∙ ap (λ (t : List ℕ). shown_lines listed moves ++ t) says ∙ sym (shown_lines-push listed moves move)
 
 -- a packet passes
-pub shows_passed : (listed : List Instrument) (moves : List Move) (packet : PacketContent) (old new : List Desk) (text after : List ℕ) → new ≡ passed_desks (sent_in packet) old → after ≡ text ++ passed_text (sent_in packet) old → Shows listed moves old text → Shows listed (moves ++ passed packet ∷ []) new after
+pub shows_passed : (listed : List Instrument) (moves : List Move) (packet : PacketContent) (old new : List Desk) (text after : List ℕ) → new ≡ passed_desks (sent_in packet) old → after ≡ text ++ text_of_moments (passed_moments (sent_in packet) old) → Shows listed moves old text → Shows listed (moves ++ passed packet ∷ []) new after
 shows_passed listed moves packet old new text after desks grown so_far =
     let sh = standing_after listed moves in
     let stands = pass_shows (sent_in packet) sh.since sh.starts old so_far.each in
@@ -175,7 +169,7 @@ shows_passed listed moves packet old new text after desks grown so_far =
       each =
           subst (λ (s : Standing). AllZip (DeskShows s.since) s.starts new) (sym (standing_after-push listed moves (passed packet)))
           (subst (λ (ds : List Desk). AllZip (DeskShows (sh.since ++ sent_in packet)) sh.starts ds) (sym desks) stands);
-      text_is = text_grows listed moves (passed packet) text (passed_text (sent_in packet) old) after so_far.text_is grown (pass_text (sent_in packet) sh.since sh.starts old so_far.each);
+      text_is = text_grows listed moves (passed packet) text (text_of_moments (passed_moments (sent_in packet) old)) after so_far.text_is grown (ap text_of_moments (pass_moments (sent_in packet) sh.since sh.starts old so_far.each));
     }
 
 -- a jump
@@ -189,7 +183,7 @@ shows_jumped listed moves from to snapshots old new text after long desks grown 
       each =
           subst (λ (s : Standing). AllZip (DeskShows s.since) s.starts new) (sym (standing_after-push listed moves (jumped from to snapshots)))
           (subst (λ (ds : List Desk). AllZip (DeskShows []) (starts_at_jump listed snapshots) ds) (sym desks) stands);
-      text_is = text_grows listed moves (jumped from to snapshots) text (jump_line from to) after so_far.text_is grown refl;
+      text_is = text_grows listed moves (jumped from to snapshots) text (jump_line from to) after so_far.text_is grown (sym (append-nil (jump_line from to)));
     }
 
 -- before any move

@@ -1,4 +1,4 @@
--- What the code does to a security's desk, as a function. The lines are defined elsewhere, with no desk.
+-- What the code does to a security's desk, as a function. What the moves show is defined elsewhere, with no desk.
 use Rattle.std.specs.Prelude.{Option, Some, None, false, ℕ, List, [], ◌∷◌, ◌++◌, true, not, ◌+◌, ◌&&◌, ◌||◌, if◌then◌else◌, map, nat_lt}
 use Rattle.mdp_templates.specs.Snapshot.{SnapshotContent}
 use Rattle.mdp_templates.specs.declared.entry.Entry.{Entry}
@@ -7,7 +7,8 @@ use Rattle.mdp_books.specs.declared.book.Place.{Place}
 use Rattle.mdp_books.specs.Book.{empty_book, book_of_snapshot, after_entry}
 use Rattle.mdp_books.specs.Feed.{Sent, names, place_at, book_after, is_named_in}
 use Rattle.mdp_desks.specs.declared.desk.Desk.{Desk}
-use Rattle.mdp_desks.specs.Lines.{Seen, lines_of}
+use Rattle.mdp_desks.specs.Lines.{Seen}
+use Rattle.mdp_desks.specs.Moments.{Moment, moment_at, moments_through}
 
 -- before any packet
 abbrev pub desk_at_start : Instrument → Desk
@@ -69,17 +70,17 @@ desk_seen m d =
 abbrev pub desks_after : Sent → List Desk → List Desk
 desks_after m ds = map (desk_after m) ds
 
-abbrev pub desks_text : Sent → List Desk → List ℕ
-desks_text m ds = lines_of m (map (desk_seen m) ds)
-
 -- message by message
 abbrev pub passed_desks : List Sent → List Desk → List Desk
 passed_desks [] ds = ds
 passed_desks (m ∷ ms) ds = passed_desks ms (desks_after m ds)
 
-abbrev pub passed_text : List Sent → List Desk → List ℕ
-passed_text [] ds = []
-passed_text (m ∷ ms) ds = desks_text m ds ++ passed_text ms (desks_after m ds)
+-- the moments of a message, and message by message
+abbrev pub desks_moment : Sent → List Desk → List Moment
+desks_moment m ds = moment_at m (map (desk_seen m) ds)
+
+abbrev pub passed_moments : List Sent → List Desk → List Moment
+passed_moments ms ds = moments_through (λ m desks. map (desk_seen m) desks) desks_after ds ms
 
 -- a jump: the snapshot is the base and the book, and the security is due at the first event end behind it
 abbrev pub desk_rebased : SnapshotContent → Desk → Desk

@@ -8,7 +8,6 @@ use Rattle.mdp_templates.specs.declared.instrument.InstrumentKind.TheVariants.{O
 use Rattle.mdp_books.specs.declared.book.Book.{Book}
 use Rattle.mdp_books.specs.declared.book.Sides.{Sides}
 use Rattle.mdp_books.specs.declared.book.Book.TheVariants.{Good, Fault}
-use Rattle.mdp_books.specs.Feed.{Sent}
 use Rattle.mdp_quotes.specs.declared.best.Best.{Best}
 use Rattle.mdp_quotes.specs.Best.{best_of}
 use Rattle.mdp_quotes.specs.Consolidation.{quotes_of}
@@ -65,6 +64,3 @@ audit_text packet message seen (Some s) = legs_text packet message seen s s.inst
 -- the lines of an event end, in listed order: the books of the securities that are printed, and then the spreads
 unfoldable pub lines_as : ℕ → ℕ → List (Option Seen) → List ℕ
 lines_as packet message seen = flat_map (text_of packet message) seen ++ flat_map (audit_text packet message seen) seen
-
-abbrev pub lines_of : Sent → List (Option Seen) → List ℕ
-lines_of m seen = lines_as m.packet m.message seen

@@ -1,5 +1,7 @@
--- What the moves show, moment by moment: at each event end what it shows of each listed security, and each jump.
+-- What the moves show, moment by moment: at each event end what it shows of each listed security, and each jump. The lines that
+-- are printed, the steps of a board and the reports of a worker are all read off these moments.
 use Rattle.std.specs.Prelude.{Option, ℕ, List, [], ◌∷◌, ◌++◌, if◌then◌else◌, map}
+use Rattle.std.specs.List.{flat_map}
 use Rattle.mdp_templates.specs.declared.instrument.Instrument.{Instrument}
 use Rattle.mdp_books.specs.Feed.{Sent, sent_in}
 use Rattle.mdp_print.specs.Texts.{jump_line}
@@ -13,18 +15,22 @@ pub data Moment : Type 0 where
   ended : ℕ → ℕ → List (Option Seen) → Moment
   leapt : ℕ → ℕ → Moment
 
--- all lines of a moment
-abbrev pub moment_text : Moment → List ℕ
-moment_text (ended packet message seen) = lines_as packet message seen
-moment_text (leapt old new) = jump_line old new
+-- the one of a message that ends an event, which shows this of the listed securities; none where it ends none
+abbrev pub moment_at : Sent → List (Option Seen) → List Moment
+moment_at m seen = if m.end then ended m.packet m.message seen ∷ [] else []
 
-abbrev pub moment_at : List Start → List Sent → Sent → List Moment
-moment_at starts since m = if m.end then ended m.packet m.message (map (start_seen since m) starts) ∷ [] else []
+-- at each message in turn: what it shows where things stand so, and where they stand behind it
+abbrev pub moments_through : {S : Type 0} → (Sent → S → List (Option Seen)) → (Sent → S → S) → S → List Sent → List Moment
+moments_through shows goes s [] = []
+moments_through shows goes s (m ∷ ms) = moment_at m (shows m s) ++ moments_through shows goes (goes m s) ms
 
--- at each message in turn
+-- one message more
+abbrev pub and_then : Sent → List Sent → List Sent
+and_then m before = before ++ m ∷ []
+
+-- from the last jump's starts on, behind the messages passed since
 abbrev pub moments_from : List Start → List Sent → List Sent → List Moment
-moments_from starts since [] = []
-moments_from starts since (m ∷ ms) = moment_at starts since m ++ moments_from starts (since ++ m ∷ []) ms
+moments_from starts since ms = moments_through (λ m before. map (start_seen before m) starts) and_then since ms
 
 -- those of a move that comes after these ones
 abbrev pub moments_of : List Instrument → List Move → Move → List Moment
@@ -42,3 +48,18 @@ moments listed moves = moments_after listed [] moves
 abbrev pub moments_by : List Instrument → List Move → List (List Move) → List (List Moment)
 moments_by listed before [] = []
 moments_by listed before (batch ∷ batches) = moments_after listed before batch ∷ moments_by listed (before ++ batch) batches
+
+-- ---- the lines
+
+-- all lines of a moment
+abbrev pub moment_text : Moment → List ℕ
+moment_text (ended packet message seen) = lines_as packet message seen
+moment_text (leapt old new) = jump_line old new
+
+-- of one moment after another
+abbrev pub text_of_moments : List Moment → List ℕ
+text_of_moments ms = flat_map moment_text ms
+
+-- the lines that these moves show
+abbrev pub shown_lines : List Instrument → List Move → List ℕ
+shown_lines listed moves = text_of_moments (moments listed moves)

@@ -1,16 +1,10 @@
--- The laws of moments and of shares.
+-- The law of shares.
 use Rattle.std.specs.Prelude.{◌≡◌, ℕ, Bool, List, map}
-use Rattle.std.specs.List.{flat_map}
 use Rattle.mdp_templates.specs.declared.instrument.Instrument.{Instrument}
 use Rattle.mdp_arbiter.specs.Machine.{Move}
-use Rattle.mdp_desks.specs.Shown.{shown_lines}
-use Rattle.mdp_desks.specs.Moments.{moment_text, moments, moments_after}
+use Rattle.mdp_desks.specs.Moments.{moments_after}
 use Rattle.mdp_desks.specs.Shares.{own_part, own_slots, own_moves}
 use Rattle.mdp_desks.specs.Reports.{report_by, report_of}
-
--- the moments' lines are what the moves show
-abbrev pub LawOfMoments : Type 0
-LawOfMoments = (listed : List Instrument) (moves : List Move) → flat_map moment_text (moments listed moves) ≡ shown_lines listed moves
 
 -- a worker that has only its own securities and their snapshots reports its part of each moment of these moves, whatever came before
 abbrev pub LawOfShares : Type 0

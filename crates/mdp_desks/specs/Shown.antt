@@ -1,12 +1,11 @@
--- What the moves themselves show, with no complete feed: a packet that passes bears its messages, a jump its snapshots.
+-- What the moves themselves show of each listed security, with no complete feed: a packet that passes bears its messages, a jump its snapshots.
 use Rattle.std.specs.Prelude.{Option, Some, None, ℕ, List, [], ◌∷◌, ◌++◌, Bool, true, false, ◌&&◌, if◌then◌else◌, fold, map, nat_lt}
 use Rattle.mdp_templates.specs.Snapshot.{SnapshotContent}
 use Rattle.mdp_templates.specs.declared.instrument.Instrument.{Instrument}
 use Rattle.mdp_books.specs.declared.book.Book.{Book}
 use Rattle.mdp_books.specs.Book.{empty_book, book_of_snapshot}
 use Rattle.mdp_books.specs.Feed.{Sent, sent_in, book_from, behind}
-use Rattle.mdp_print.specs.Texts.{jump_line}
-use Rattle.mdp_desks.specs.Lines.{Seen, lines_of}
+use Rattle.mdp_desks.specs.Lines.{Seen}
 use Rattle.mdp_desks.specs.Due.{is_printed}
 use Rattle.mdp_arbiter.specs.Machine.{Move}
 use Rattle.mdp_arbiter.specs.Machine.Move.{passed, jumped}
@@ -48,22 +47,3 @@ book_since i since = book_from i.instrument i.book (behind i.base since)
 
 abbrev pub start_seen : List Sent → Sent → Start → Option Seen
 start_seen since m i = if m.end && nat_lt i.base m.packet then Some (record { instrument = i.instrument; printed = is_printed i.instrument.id i.jumped (behind i.base since) m; book = book_since i (since ++ m ∷ []) }) else None
-
-abbrev pub shown_lines_at : List Start → List Sent → Sent → List ℕ
-shown_lines_at starts since m = lines_of m (map (start_seen since m) starts)
-
-abbrev pub shown_lines_from : List Start → List Sent → List Sent → List ℕ
-shown_lines_from starts since [] = []
-shown_lines_from starts since (m ∷ ms) = shown_lines_at starts since m ++ shown_lines_from starts (since ++ m ∷ []) ms
-
--- what a move shows that comes after these ones
-abbrev pub shown_lines_of_move : List Instrument → List Move → Move → List ℕ
-shown_lines_of_move listed before (passed packet) = shown_lines_from (standing_after listed before).starts (standing_after listed before).since (sent_in packet)
-shown_lines_of_move listed before (jumped old new snapshots) = jump_line old new
-
-abbrev pub shown_lines_after : List Instrument → List Move → List Move → List ℕ
-shown_lines_after listed before [] = []
-shown_lines_after listed before (m ∷ moves) = shown_lines_of_move listed before m ++ shown_lines_after listed (before ++ m ∷ []) moves
-
-abbrev pub shown_lines : List Instrument → List Move → List ℕ
-shown_lines listed moves = shown_lines_after listed [] moves

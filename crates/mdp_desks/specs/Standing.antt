@@ -5,7 +5,8 @@ use Rattle.mdp_templates.specs.declared.instrument.Instrument.{Instrument}
 use Rattle.mdp_books.specs.Feed.{Sent, behind}
 use Rattle.mdp_desks.specs.declared.desk.Desk.{Desk}
 use Rattle.mdp_arbiter.specs.Machine.{Move}
-use Rattle.mdp_desks.specs.Shown.{Start, standing_after, shown_lines, book_since}
+use Rattle.mdp_desks.specs.Shown.{Start, standing_after, book_since}
+use Rattle.mdp_desks.specs.Moments.{shown_lines}
 use Rattle.mdp_desks.specs.Due.{is_due}
 
 -- a desk stands where the moves show it

@@ -1,11 +1,6 @@
-//! What the definitions of moments and of shares say of all moves, as functions that only carry a proof.
+//! What the definitions of shares say of all moves, as a function that only carries a proof.
 
-ghost use Rattle.mdp_desks.specs.ShareLaws.{LawOfMoments, LawOfShares};
-
-/// Proves that the lines of the moments, one moment after another, are the lines that the moves show.
-pub fn law_of_moments()
-    ensures { LawOfMoments }
-{}
+ghost use Rattle.mdp_desks.specs.ShareLaws.{LawOfShares};
 
 /// Proves that a worker that has its own securities alone, and of each jump their snapshots alone, reports its part
 /// of each moment, whatever came before.

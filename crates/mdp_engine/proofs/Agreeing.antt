@@ -1,4 +1,4 @@
--- The moves show what the complete feed owes.
+-- The moves have the moments that the complete feed owes.
 use Rattle.std.proofs.Common.{Bool, ◌≡◌, ◌≤◌, ℕ, suc, zero, ◌+◌, ◌-◌, true, cond, List, [], ◌∷◌, ◌++◌, map, take, drop, refl, sym, ap, subst, ◌∙◌, arith}
 use Rattle.std.specs.Prelude.{Option, Some, None, ◌&&◌, nat_lt, slice_get}
 use Rattle.std.specs.List.{AllZip, AllByRecursion}
@@ -6,25 +6,27 @@ use Rattle.std.proofs.lemmas.List.{append-nil, map-append}
 use Rattle.std.proofs.lemmas.List.Sums.{fold_push}
 use Rattle.std.proofs.lemmas.List.Concat.{flat_map-append}
 use Rattle.std.proofs.lemmas.Bool.Decides.{nat_tests}
-use Rattle.mdp_templates.specs.Packet.{PacketContent}
+use Rattle.mdp_templates.specs.Packet.{PacketContent, MessageContent}
 use Rattle.mdp_templates.specs.Snapshot.{SnapshotContent}
 use Rattle.mdp_templates.specs.declared.instrument.Instrument.{Instrument}
 use Rattle.mdp_books.specs.declared.book.Book.{Book}
-use Rattle.mdp_books.specs.Feed.{Sent, sent_in, sent_by, behind, book_from, book_at}
+use Rattle.mdp_books.specs.Feed.{Sent, sent_from, sent_in, sent_by, behind, book_from, book_at}
 use Rattle.mdp_books.proofs.Feeds.{behind-append}
-use Rattle.mdp_print.specs.Texts.{jump_line}
 use Rattle.mdp_engine.specs.Feed.{IsFeed, IsIn, IsJumpedTo}
-use Rattle.mdp_desks.specs.Lines.{Seen, lines_of}
-use Rattle.mdp_engine.specs.Owed.{Step, Footing, footings_at_jump, footings_before_jump, footings_through, footings, lines_from, lines_of_step, lines_after}
+use Rattle.mdp_desks.specs.Lines.{Seen}
+use Rattle.mdp_engine.specs.Owed.{Step, Footing, footings_at_jump, footings_before_jump, footings_through, footings, seen_at, owed_moments_from, owed_moments_of, owed_moments_after}
 use Rattle.mdp_engine.specs.Owed.Step.{pass}
 use Rattle.mdp_arbiter.specs.Machine.{Move}
-use Rattle.mdp_desks.specs.Shown.{Start, Standing, starts_at_jump, standing_after, standing_through, start_seen, shown_lines_at, shown_lines_from, shown_lines_of_move, shown_lines_after, starts_before_jump}
+use Rattle.mdp_desks.specs.Shown.{Start, Standing, starts_at_jump, standing_after, standing_through, start_seen, starts_before_jump}
+use Rattle.mdp_desks.specs.Moments.{Moment, leapt, and_then, moments_from, moments_of, moments_after}
+use Rattle.mdp_desks.proofs.Moments.{Alike, same_moments}
 use Rattle.mdp_desks.specs.Due.{is_printed}
 use Rattle.mdp_engine.specs.Owed.{step_of, steps_of}
 use Rattle.mdp_arbiter.specs.Machine.Move.{passed, jumped}
-use Rattle.mdp_engine.specs.Agreed.{start_of, AreOf, ShowsWhatIsOwed}
+use Rattle.mdp_engine.specs.Agreed.{start_of, AreOf}
+use Rattle.mdp_engine.specs.MomentLaws.{LawOfOwedMoments}
 use Rattle.mdp_desks.proofs.Showing.{standing_after-push}
-use Rattle.mdp_engine.proofs.Fronts.{Heard, sent_by-split, behind-front, lines_shown}
+use Rattle.mdp_engine.proofs.Fronts.{Heard, sent_by-split, behind-front, all_seen, heard_more as feed_heard_more}
 
 -- ---- what the listed securities hear
 
@@ -76,18 +78,9 @@ all_same a b m (i ∷ starts) is =
     ap (λ (s : Option Seen). s ∷ map (start_seen a m) starts) (same_seen a b m i is.0)
     ∙ ap (λ (t : List (Option Seen)). start_seen b m i ∷ t) (all_same a b m starts is.1)
 
-same_at : (a b : List Sent) (m : Sent) (starts : List Start) → AllByRecursion (SameHeard a b) starts → shown_lines_at starts a m ≡ shown_lines_at starts b m
-same_at a b m starts is = ap (lines_of m) (all_same a b m starts is)
-
 pub same_more : (a b more : List Sent) (starts : List Start) → AllByRecursion (SameHeard a b) starts → AllByRecursion (SameHeard (a ++ more) (b ++ more)) starts
 same_more a b more [] is = tt
 same_more a b more (i ∷ starts) is = (heard_more a b more i is.0, same_more a b more starts is.1)
-
-same_from : (ms a b : List Sent) (starts : List Start) → AllByRecursion (SameHeard a b) starts → shown_lines_from starts a ms ≡ shown_lines_from starts b ms
-same_from [] a b starts is = refl
-same_from (m ∷ ms) a b starts is =
-    ap (λ (t : List ℕ). t ++ shown_lines_from starts (a ++ m ∷ []) ms) (same_at a b m starts is)
-    ∙ ap (λ (t : List ℕ). shown_lines_at starts b m ++ t) (same_from ms (a ++ m ∷ []) (b ++ m ∷ []) starts (same_more a b (m ∷ []) starts is))
 
 -- ---- what the moves show, and the front of the feed below `next`
 
@@ -130,16 +123,36 @@ steps_of-push moves move = map-append step_of moves (move ∷ [])
 footings-push : (listed : List Instrument) (moves : List Move) (move : Move) → footings listed (steps_of (moves ++ move ∷ [])) ≡ footings_through listed (footings listed (steps_of moves)) (step_of move)
 footings-push listed moves move = ap (footings listed) (steps_of-push moves move) ∙ fold_push (footings_through listed) (footings_before_jump listed) (steps_of moves) (step_of move)
 
-pass_owed : (listed : List Instrument) (feed : List PacketContent) (before : List Move) (p : PacketContent) → IsFeed feed → IsIn feed p → Agrees feed p.number (footings listed (steps_of before)) (standing_after listed before) → shown_lines_of_move listed before (passed p) ≡ lines_of_step listed feed (steps_of before) (pass p.number)
+-- ---- the moments of one packet: the securities heard the same since their bases as the feed has behind them
+
+record HearAlike (feed : List PacketContent) (fs : List Footing) (k : ℕ) (since before : List Sent) : Type 0 where
+  same : AllByRecursion (SameHeard since before) (map (start_of feed) fs)
+  heard : AllByRecursion (Heard feed k before) fs
+
+alike : (feed : List PacketContent) (fs : List Footing) (k : ℕ) → Alike (λ (m : Sent). m.packet ≡ k) (HearAlike feed fs k) (λ m since. map (start_seen since m) (map (start_of feed) fs)) and_then (λ m before. map (seen_at before m) fs) and_then
+alike feed fs k = record {
+  same = λ m since before is both. all_same since before m (map (start_of feed) fs) both.same ∙ sym (all_seen feed before m fs (subst (λ (n : ℕ). AllByRecursion (Heard feed n before) fs) (sym is) both.heard));
+  on = λ m since before is both. record {
+    same = same_more since before (m ∷ []) (map (start_of feed) fs) both.same;
+    heard = subst (λ (n : ℕ). AllByRecursion (Heard feed n (before ++ m ∷ [])) fs) is (feed_heard_more feed before m fs (subst (λ (n : ℕ). AllByRecursion (Heard feed n before) fs) (sym is) both.heard));
+  };
+}
+
+of_packet : (k j : ℕ) (ms : List MessageContent) → AllByRecursion (λ (m : Sent). m.packet ≡ k) (sent_from k j ms)
+of_packet k j [] = tt
+of_packet k j (m ∷ ms) = (refl, of_packet k (j + 1) ms)
+
+pass_owed : (listed : List Instrument) (feed : List PacketContent) (before : List Move) (p : PacketContent) → IsFeed feed → IsIn feed p → Agrees feed p.number (footings listed (steps_of before)) (standing_after listed before) → moments_of listed before (passed p) ≡ owed_moments_of listed feed (steps_of before) (pass p.number)
 pass_owed listed feed before p fed at agrees =
     let k = p.number in
     let fs = footings listed (steps_of before) in
     let front = sent_by (take (k - 1) feed) in
+    let since = (standing_after listed before).since in
     let here : sent_by (take 1 (drop (k - 1) feed)) ≡ sent_in p = ap sent_by (one_at feed (k - 1) p at.place) ∙ append-nil (sent_in p) in
-    same_from (sent_in p) (standing_after listed before).since front (standing_after listed before).starts agrees.same
-    ∙ ap (λ (starts : List Start). shown_lines_from starts front (sent_in p)) agrees.starts
-    ∙ sym (lines_shown feed fs k 1 front p.messages (all_heard feed k fs at.first fed))
-    ∙ ap (lines_from fs front) (sym here)
+    let both : HearAlike feed fs k since front = record { same = subst (AllByRecursion (SameHeard since front)) agrees.starts agrees.same; heard = all_heard feed k fs at.first fed } in
+    ap (λ (starts : List Start). moments_from starts since (sent_in p)) agrees.starts
+    ∙ same_moments (λ (m : Sent). m.packet ≡ k) (HearAlike feed fs k) (λ m since. map (start_seen since m) (map (start_of feed) fs)) and_then (λ m before. map (seen_at before m) fs) and_then (alike feed fs k) since front (sent_in p) (of_packet k 1 p.messages) both
+    ∙ ap (owed_moments_from fs front) (sym here)
 
 pub pass_agrees : (listed : List Instrument) (feed : List PacketContent) (before : List Move) (p : PacketContent) → IsIn feed p → Agrees feed p.number (footings listed (steps_of before)) (standing_after listed before) → Agrees feed (p.number + 1) (footings listed (steps_of (before ++ passed p ∷ []))) (standing_after listed (before ++ passed p ∷ []))
 pass_agrees listed feed before p at agrees =
@@ -158,18 +171,18 @@ jump_agrees listed feed before from to snapshots fed is =
     subst (λ (fs : List Footing). Agrees feed to fs (standing_after listed (before ++ move ∷ []))) (sym (footings-push listed before move))
     (subst (λ (s : Standing). Agrees feed to (footings_at_jump listed (lasts snapshots)) s) (sym (standing_after-push listed before move)) there)
 
-owed_after : (listed : List Instrument) (feed : List PacketContent) (next : ℕ) (before moves : List Move) → IsFeed feed → Agrees feed next (footings listed (steps_of before)) (standing_after listed before) → AreOf listed feed next moves → shown_lines_after listed before moves ≡ lines_after listed feed (steps_of before) (steps_of moves)
+owed_after : (listed : List Instrument) (feed : List PacketContent) (next : ℕ) (before moves : List Move) → IsFeed feed → Agrees feed next (footings listed (steps_of before)) (standing_after listed before) → AreOf listed feed next moves → moments_after listed before moves ≡ owed_moments_after listed feed (steps_of before) (steps_of moves)
 owed_after listed feed next before [] fed agrees are = refl
 owed_after listed feed next before (passed p ∷ moves) fed agrees (number, at, later) =
     let here : Agrees feed p.number (footings listed (steps_of before)) (standing_after listed before) = subst (λ (k : ℕ). Agrees feed k (footings listed (steps_of before)) (standing_after listed before)) (sym number) agrees in
     let rest : AreOf listed feed (p.number + 1) moves = subst (λ (k : ℕ). AreOf listed feed (k + 1) moves) (sym number) later in
-    ap (λ (t : List ℕ). t ++ shown_lines_after listed (before ++ passed p ∷ []) moves) (pass_owed listed feed before p fed at here)
-    ∙ ap (λ (t : List ℕ). lines_of_step listed feed (steps_of before) (pass p.number) ++ t) (owed_after listed feed (p.number + 1) (before ++ passed p ∷ []) moves fed (pass_agrees listed feed before p at here) rest)
-    ∙ ap (λ (b : List Step). lines_of_step listed feed (steps_of before) (pass p.number) ++ lines_after listed feed b (steps_of moves)) (steps_of-push before (passed p))
+    ap (λ (t : List Moment). t ++ moments_after listed (before ++ passed p ∷ []) moves) (pass_owed listed feed before p fed at here)
+    ∙ ap (λ (t : List Moment). owed_moments_of listed feed (steps_of before) (pass p.number) ++ t) (owed_after listed feed (p.number + 1) (before ++ passed p ∷ []) moves fed (pass_agrees listed feed before p at here) rest)
+    ∙ ap (λ (b : List Step). owed_moments_of listed feed (steps_of before) (pass p.number) ++ owed_moments_after listed feed b (steps_of moves)) (steps_of-push before (passed p))
 owed_after listed feed next before (jumped from to snapshots ∷ moves) fed agrees (is, later) =
-    ap (λ (t : List ℕ). jump_line from to ++ t) (owed_after listed feed to (before ++ jumped from to snapshots ∷ []) moves fed (jump_agrees listed feed before from to snapshots fed is) later)
-    ∙ ap (λ (b : List Step). jump_line from to ++ lines_after listed feed b (steps_of moves)) (steps_of-push before (jumped from to snapshots))
+    ap (λ (t : List Moment). leapt from to ∷ t) (owed_after listed feed to (before ++ jumped from to snapshots ∷ []) moves fed (jump_agrees listed feed before from to snapshots fed is) later)
+    ∙ ap (λ (b : List Step). leapt from to ∷ owed_moments_after listed feed b (steps_of moves)) (steps_of-push before (jumped from to snapshots))
 
-pub shows_what_is_owed : ShowsWhatIsOwed
-shows_what_is_owed listed feed moves fed are =
+pub law_of_owed_moments : LawOfOwedMoments
+law_of_owed_moments listed feed moves fed are =
     owed_after listed feed 1 [] moves fed (record { starts = start_starts feed listed; same = start_same (starts_before_jump listed) }) are

@@ -16,7 +16,8 @@ use Rattle.mdp_arbiter.specs.Channel.{Channel, ids_of, channel_of}
 use Rattle.mdp_desks.specs.declared.desk.Desk.{Desk}
 use Rattle.mdp_engine.specs.Feed.{IsFeed, IsJumpedTo}
 use Rattle.mdp_engine.specs.Owed.{Footing, footings_at_jump, footings_before_jump, footings_through, footings, lines}
-use Rattle.mdp_desks.specs.Shown.{Start, standing_after, shown_lines, starts_before_jump, book_since}
+use Rattle.mdp_desks.specs.Shown.{Start, standing_after, starts_before_jump, book_since}
+use Rattle.mdp_desks.specs.Moments.{shown_lines}
 use Rattle.mdp_desks.specs.Due.{is_due}
 use Rattle.mdp_engine.specs.Owed.{steps_of}
 use Rattle.mdp_engine.specs.Agreed.{start_of, AreOf}
@@ -24,7 +25,8 @@ use Rattle.mdp_desks.specs.Standing.{DeskShows}
 use Rattle.mdp_engine.specs.Honest.{IsHonest}
 use Rattle.mdp_engine.specs.Engine.{View, IsSettled, Stands, DeskStands, StandsUnder, StandsAlike}
 use Rattle.mdp_engine.proofs.Fronts.{sent_by-split, behind-front}
-use Rattle.mdp_engine.proofs.Agreeing.{SameHeard, Agrees, pass_agrees, jump_agrees, start_starts, start_same, shows_what_is_owed}
+use Rattle.mdp_engine.proofs.Agreeing.{SameHeard, Agrees, pass_agrees, jump_agrees, start_starts, start_same}
+use Rattle.mdp_engine.proofs.Owing.{owed_lines}
 use Rattle.mdp_engine.proofs.Honesty.{honest_moves_agree}
 
 -- ---- the end of the moves
@@ -155,7 +157,7 @@ ends listed feed es v honest settled =
       agrees = agrees;
       same = subst (λ (starts : List Start). AllByRecursion (SameHeard (standing_after listed moves).since (sent_by (take (v.arbiter.next - 1) feed))) starts) agrees.starts agrees.same;
       listed_are = listed_on listed feed 1 (footings_before_jump listed) moves (start_listed listed) are;
-      text = shows_what_is_owed listed feed moves honest.complete are;
+      text = owed_lines listed feed moves honest.complete are;
     }
 
 stands_under : (listed : List Instrument) (feed : List PacketContent) (es : List Event) (drained : List ℕ) (v : View) → IsHonest listed feed es → Stands listed es drained v → StandsUnder listed feed es drained v

@@ -7,9 +7,9 @@ use Rattle.std.specs.Prelude.{Option}
 use Rattle.mdp_templates.specs.declared.instrument.Instrument.{Instrument}
 use Rattle.mdp_arbiter.specs.Machine.{Move, trace}
 use Rattle.mdp_arbiter.specs.Channel.{channel_of}
-use Rattle.mdp_engine.proofs.Agreeing.{shows_what_is_owed}
-use Rattle.mdp_engine.proofs.Honesty.{honest_moves_agree}
-use Rattle.mdp_desks.specs.Moments.{Moment, moments_of, moments_after, moments_by}
+use Rattle.mdp_engine.proofs.Owing.{law_of_honest_moments}
+use Rattle.mdp_desks.proofs.Moments.{moments-append}
+use Rattle.mdp_desks.specs.Moments.{Moment, moments_after, moments_by, text_of_moments}
 use Rattle.mdp_desks.specs.Shares.{is_kept_by}
 use Rattle.mdp_desks.specs.Reports.{Report, report_of}
 use Rattle.mdp_engine.specs.Rounds.{numbers_from, round_of, round_text, kept_after_round, collected_text, text_from, kept_at_start}
@@ -60,14 +60,7 @@ pub law_of_runs : LawOfRuns
 law_of_runs n listed feed room from es batches some differ honest cut =
     ap (collected_text listed) (law_of_batches n batches some ∙ ap (map (round_of n)) (sym cut))
     ∙ law_of_workers n listed (trace (channel_of listed room from) es) some differ (law_of_ascent listed room from es)
-    ∙ shows_what_is_owed listed feed (trace (channel_of listed room from) es) honest.complete (honest_moves_agree listed feed room from es honest)
-
-pub moments-append : (listed : List Instrument) (before moves more : List Move) → moments_after listed before (moves ++ more) ≡ moments_after listed before moves ++ moments_after listed (before ++ moves) more
-moments-append listed before [] more = ap (λ (b : List Move). moments_after listed b more) (sym (append-nil before))
-moments-append listed before (m ∷ moves) more =
-    ap (λ (l : List Moment). moments_of listed before m ++ l)
-    (moments-append listed (before ++ m ∷ []) moves more ∙ ap (λ (b : List Move). moments_after listed (before ++ m ∷ []) moves ++ moments_after listed b more) (append_assoc before (m ∷ []) moves))
-    ∙ sym (append_assoc (moments_of listed before m) (moments_after listed (before ++ m ∷ []) moves) (moments_after listed (before ++ m ∷ moves) more))
+    ∙ ap text_of_moments (law_of_honest_moments listed feed room from es honest)
 
 cuts : (listed : List Instrument) (before : List Move) (batches : List (List Move)) → flat_map (λ (ms : List Moment). ms) (moments_by listed before batches) ≡ moments_after listed before (flat_map (λ (ms : List Move). ms) batches)
 cuts listed before [] = refl

@@ -2,6 +2,7 @@
 use Rattle.std.proofs.Common.{◌≡◌, ◌≢◌, ◌≤◌, ℕ, ◌+◌, zero, suc, Bool, true, false, cond, List, [], ◌∷◌, ◌++◌, length, map, Option, None, refl, sym, ap, ◌∙◌, subst, append_assoc, arith}
 use Rattle.std.specs.List.{AllPairs, AllByRecursion, AllZip}
 use Rattle.std.proofs.lemmas.List.{append-nil, length-map}
+use Rattle.std.proofs.lemmas.List.Concat.{flat_map-append}
 use Rattle.mdp_templates.specs.Packet.{MessageContent}
 use Rattle.mdp_templates.specs.Snapshot.{SnapshotContent}
 use Rattle.mdp_templates.specs.declared.instrument.Instrument.{Instrument}
@@ -11,14 +12,13 @@ use Rattle.mdp_print.specs.Texts.{jump_line}
 use Rattle.mdp_arbiter.specs.Machine.{Move}
 use Rattle.mdp_arbiter.specs.Machine.Move.{passed, jumped}
 use Rattle.mdp_arbiter.specs.Channel.{ids_of}
-use Rattle.mdp_desks.specs.Lines.{Seen}
-use Rattle.mdp_desks.specs.Shown.{Start, Standing, standing_after, starts_at_jump, starts_before_jump, standing_through, start_seen, shown_lines_at, shown_lines_from, shown_lines_after}
+use Rattle.mdp_desks.specs.Shown.{Start, Standing, standing_after, starts_at_jump, starts_before_jump, standing_through, start_seen}
 use Rattle.mdp_desks.proofs.Showing.{standing_after-push}
-use Rattle.mdp_desks.specs.Moments.{Moment, ended, moment_at, moments_from, moments_after}
+use Rattle.mdp_desks.specs.Lines.{Seen, lines_as}
+use Rattle.mdp_desks.specs.Moments.{Moment, ended, moment_at, moments_from, moments_after, text_of_moments, moment_text}
 use Rattle.mdp_desks.specs.Reports.{Told, told_from}
 use Rattle.mdp_engine.specs.Rounds.{kept_after, kept_at_start, told_text, round_of, round_text, kept_after_round, text_from}
 use Rattle.mdp_engine.specs.RoundLaws.{Ascend, LawOfWorkers}
-use Rattle.mdp_desks.proofs.Moments.{no_text}
 use Rattle.mdp_engine.proofs.Merging.{round_whole}
 use Rattle.mdp_engine.proofs.Keeping.{KeptShows, Rooted, UpTo, kept_zip, kept_told, kept_behind, all_agree, all_keep}
 use Rattle.mdp_engine.proofs.Telling.{IsNamed, end_text, all_named}
@@ -50,7 +50,7 @@ told_kept listed starts since m kept stand =
     kept_told m.packet m.message (map (start_seen since m) starts) kept (omega (arith, long, mapped))
 
 end_round : (n : ℕ) (listed : List Instrument) (starts : List Start) (since : List Sent) (m : Sent) (kept : List (Option Best)) → m.end ≡ true → 1 ≤ m.packet → UpTo m.packet since → AllPairs (λ a b. a ≢ b) (ids_of listed) → Stand listed since starts kept
-    → round_text listed kept (round_of (suc n) (ended m.packet m.message (map (start_seen since m) starts))) ≡ shown_lines_at starts since m
+    → round_text listed kept (round_of (suc n) (ended m.packet m.message (map (start_seen since m) starts))) ≡ lines_as m.packet m.message (map (start_seen since m) starts)
 end_round n listed starts since m kept is first late differ stand =
     let k : ℕ = m.packet in
     let j : ℕ = m.message in
@@ -69,19 +69,20 @@ end_kept n listed starts since m kept stand =
 abbrev rest_text : ℕ → List Instrument → List Moment → List (Option Best) → List ℕ
 rest_text n listed rest kept = text_from listed kept (map (round_of (suc n)) rest)
 
+abbrev at : List Start → List Sent → Sent → List Moment
+at starts since m = moment_at m (map (start_seen since m) starts)
+
 one_message : (n : ℕ) (listed : List Instrument) (starts : List Start) (since : List Sent) (m : Sent) (kept : List (Option Best)) (rest : List Moment) → 1 ≤ m.packet → UpTo m.packet since → AllPairs (λ a b. a ≢ b) (ids_of listed) → Stand listed since starts kept
-    → rest_text n listed (moment_at starts since m ++ rest) kept ≡ shown_lines_at starts since m ++ rest_text n listed rest (kept_behind since m starts kept)
+    → rest_text n listed (at starts since m ++ rest) kept ≡ text_of_moments (at starts since m) ++ rest_text n listed rest (kept_behind since m starts kept)
 one_message n listed starts since m kept rest first late differ stand = by_end m.end refl
   where
-    seen : List (Option Seen)
-    seen = map (start_seen since m) starts
-
     by_end : (e : Bool) → m.end ≡ e → rest_text n listed (cond e (ended m.packet m.message (map (start_seen since m) starts) ∷ []) [] ++ rest) kept
-        ≡ shown_lines_at starts since m ++ rest_text n listed rest (cond e (kept_zip (map (start_seen since m) starts) kept) kept)
+        ≡ text_of_moments (cond e (ended m.packet m.message (map (start_seen since m) starts) ∷ []) []) ++ rest_text n listed rest (cond e (kept_zip (map (start_seen since m) starts) kept) kept)
     by_end true is =
-        ap (λ (t : List ℕ). t ++ rest_text n listed rest (kept_after_round kept (round_of (suc n) (ended m.packet m.message (map (start_seen since m) starts))))) (end_round n listed starts since m kept is first late differ stand)
-        ∙ ap (λ (b : List (Option Best)). shown_lines_at starts since m ++ rest_text n listed rest b) (end_kept n listed starts since m kept stand)
-    by_end false is = ap (λ (t : List ℕ). t ++ rest_text n listed rest kept) (sym (no_text starts since m is))
+        ap (λ (t : List ℕ). t ++ rest_text n listed rest (kept_after_round kept (round_of (suc n) (ended m.packet m.message (map (start_seen since m) starts)))))
+        (end_round n listed starts since m kept is first late differ stand ∙ sym (append-nil (lines_as m.packet m.message (map (start_seen since m) starts))))
+        ∙ ap (λ (b : List (Option Best)). text_of_moments (ended m.packet m.message (map (start_seen since m) starts) ∷ []) ++ rest_text n listed rest b) (end_kept n listed starts since m kept stand)
+    by_end false is = refl
 
 -- ---- the messages of a packet
 
@@ -100,17 +101,20 @@ stand_on : (listed : List Instrument) (starts : List Start) (since : List Sent) 
 stand_on listed starts since m kept stand = record { footed = stand.footed; rooted = stand.rooted; kept_are = all_keep since m starts kept stand.kept_are }
 
 all_messages : (n k : ℕ) (listed : List Instrument) (starts : List Start) (since ms : List Sent) (kept : List (Option Best)) (rest : List Moment) → 1 ≤ k → Are k ms → UpTo k since → AllPairs (λ a b. a ≢ b) (ids_of listed) → Stand listed since starts kept
-    → rest_text n listed (moments_from starts since ms ++ rest) kept ≡ shown_lines_from starts since ms ++ rest_text n listed rest (kept_passed starts since ms kept)
+    → rest_text n listed (moments_from starts since ms ++ rest) kept ≡ text_of_moments (moments_from starts since ms) ++ rest_text n listed rest (kept_passed starts since ms kept)
 all_messages n k listed starts since [] kept rest first are late differ stand = refl
 all_messages n k listed starts since (m ∷ ms) kept rest first are late differ stand =
     let same : m.packet ≡ k = are.0 in
     let here : 1 ≤ m.packet = omega (arith, first, same) in
     let before : UpTo m.packet since = subst (λ (p : ℕ). UpTo p since) (sym same) late in
-    ap (λ (l : List Moment). rest_text n listed l kept) (append_assoc (moment_at starts since m) (moments_from starts (since ++ m ∷ []) ms) rest)
-    ∙ one_message n listed starts since m kept (moments_from starts (since ++ m ∷ []) ms ++ rest) here before differ stand
-    ∙ ap (λ (t : List ℕ). shown_lines_at starts since m ++ t)
+    let later = moments_from starts (since ++ m ∷ []) ms in
+    let left = rest_text n listed rest (kept_passed starts since (m ∷ ms) kept) in
+    ap (λ (l : List Moment). rest_text n listed l kept) (append_assoc (at starts since m) later rest)
+    ∙ one_message n listed starts since m kept (later ++ rest) here before differ stand
+    ∙ ap (λ (t : List ℕ). text_of_moments (at starts since m) ++ t)
     (all_messages n k listed starts (since ++ m ∷ []) ms (kept_behind since m starts kept) rest first are.1 (up_to-more k since m late (omega (arith, same))) differ (stand_on listed starts since m kept stand))
-    ∙ sym (append_assoc (shown_lines_at starts since m) (shown_lines_from starts (since ++ m ∷ []) ms) (rest_text n listed rest (kept_passed starts since (m ∷ ms) kept)))
+    ∙ sym (append_assoc (text_of_moments (at starts since m)) (text_of_moments later) left)
+    ∙ ap (λ (t : List ℕ). t ++ left) (sym (flat_map-append moment_text (at starts since m) later))
 
 stand_passed : (listed : List Instrument) (starts : List Start) (since ms : List Sent) (kept : List (Option Best)) → Stand listed since starts kept → Stand listed (since ++ ms) starts (kept_passed starts since ms kept)
 stand_passed listed starts since [] kept stand = subst (λ (s : List Sent). Stand listed s starts kept) (sym (append-nil since)) stand
@@ -162,7 +166,7 @@ record Ready (listed : List Instrument) (next : ℕ) (s : Standing) (kept : List
   stand : Stand listed s.since s.starts kept
 
 by_moves : (n : ℕ) (listed : List Instrument) (next : ℕ) (before moves : List Move) (kept : List (Option Best)) → AllPairs (λ a b. a ≢ b) (ids_of listed) → Ascend listed next moves → Ready listed next (standing_after listed before) kept
-    → rest_text n listed (moments_after listed before moves) kept ≡ shown_lines_after listed before moves
+    → rest_text n listed (moments_after listed before moves) kept ≡ text_of_moments (moments_after listed before moves)
 by_moves n listed next before [] kept differ ascend ready = refl
 by_moves n listed next before (passed packet ∷ moves) kept differ ascend ready =
     let s : Standing = standing_after listed before in
@@ -173,9 +177,10 @@ by_moves n listed next before (passed packet ∷ moves) kept differ ascend ready
       stand = stand_passed listed s.starts s.since (sent_in packet) kept ready.stand;
     } in
     all_messages n next listed s.starts s.since (sent_in packet) kept (moments_after listed (before ++ passed packet ∷ []) moves) ascend.1 are ready.late differ ready.stand
-    ∙ ap (λ (t : List ℕ). shown_lines_from s.starts s.since (sent_in packet) ++ t)
+    ∙ ap (λ (t : List ℕ). text_of_moments (moments_from s.starts s.since (sent_in packet)) ++ t)
     (by_moves n listed (next + 1) (before ++ passed packet ∷ []) moves (kept_passed s.starts s.since (sent_in packet) kept) differ ascend.2
     (subst (λ (z : Standing). Ready listed (next + 1) z (kept_passed s.starts s.since (sent_in packet) kept)) (sym (standing_after-push listed before (passed packet))) behind))
+    ∙ sym (flat_map-append moment_text (moments_from s.starts s.since (sent_in packet)) (moments_after listed (before ++ passed packet ∷ []) moves))
 by_moves n listed next before (jumped old new ss ∷ moves) kept differ ascend ready =
     let s : Standing = standing_after listed before in
     let behind : Ready listed new (standing_through listed s (jumped old new ss)) (map (λ _. None) kept) = record {

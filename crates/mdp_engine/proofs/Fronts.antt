@@ -9,9 +9,9 @@ use Rattle.mdp_books.specs.declared.book.Book.{Book}
 use Rattle.mdp_books.specs.Feed.{Sent, sent_as, sent_from, sent_in, sent_by, book_from, book_at, behind}
 use Rattle.mdp_books.proofs.Feeds.{behind-append, behind-push, book_at-append}
 use Rattle.mdp_engine.specs.Feed.{NumberedFrom, IsFeed}
-use Rattle.mdp_desks.specs.Lines.{Seen, lines_of}
-use Rattle.mdp_engine.specs.Owed.{Footing, seen_at, lines_at, lines_from}
-use Rattle.mdp_desks.specs.Shown.{book_since, start_seen, shown_lines_at, shown_lines_from}
+use Rattle.mdp_desks.specs.Lines.{Seen}
+use Rattle.mdp_engine.specs.Owed.{Footing, seen_at}
+use Rattle.mdp_desks.specs.Shown.{book_since, start_seen}
 use Rattle.mdp_desks.specs.Due.{is_printed}
 use Rattle.mdp_engine.specs.Agreed.{start_of}
 
@@ -81,7 +81,7 @@ behind-front feed base n is le =
     let same : 0 + base ≡ base = omega arith in
     ap (λ (z : ℕ). behind z (sent_by (take n feed))) (sym same) ∙ front_none feed 0 base n is.numbered le
 
--- ---- the lines of one packet
+-- ---- what one packet shows
 
 -- a security that hears a packet has heard all that stands behind its base
 abbrev pub Heard : List PacketContent → ℕ → List Sent → Footing → Type 0
@@ -115,9 +115,6 @@ all_seen feed before m (i ∷ fs) is =
     ap (λ (s : Option Seen). s ∷ map (seen_at before m) fs) (seen_case feed before m i m.end (nat_lt i.base m.packet) refl is.0)
     ∙ ap (λ (t : List (Option Seen)). start_seen before m (start_of feed i) ∷ t) (all_seen feed before m fs is.1)
 
-lines_case : (feed : List PacketContent) (before : List Sent) (m : Sent) (fs : List Footing) → AllByRecursion (Heard feed m.packet before) fs → lines_at fs before m ≡ shown_lines_at (map (start_of feed) fs) before m
-lines_case feed before m fs is = ap (lines_of m) (all_seen feed before m fs is)
-
 pub heard_more : (feed : List PacketContent) (before : List Sent) (m : Sent) (fs : List Footing) → AllByRecursion (Heard feed m.packet before) fs → AllByRecursion (Heard feed m.packet (before ++ m ∷ [])) fs
 heard_more feed before m [] is = tt
 heard_more feed before m (i ∷ fs) is =
@@ -126,10 +123,3 @@ heard_more feed before m (i ∷ fs) is =
     ∙ append_assoc (sent_by (take i.base feed)) (behind i.base before) (m ∷ [])
     ∙ ap (λ (t : List Sent). sent_by (take i.base feed) ++ t) (sym (behind-heard i.base before m over)) in
     (more, heard_more feed before m fs is.1)
-
-pub lines_shown : (feed : List PacketContent) (fs : List Footing) (k j : ℕ) (before : List Sent) (ms : List MessageContent) → AllByRecursion (Heard feed k before) fs → lines_from fs before (sent_from k j ms) ≡ shown_lines_from (map (start_of feed) fs) before (sent_from k j ms)
-lines_shown feed fs k j before [] is = refl
-lines_shown feed fs k j before (m ∷ ms) is =
-    let x = sent_as k j m in
-    ap (λ (t : List ℕ). t ++ lines_from fs (before ++ x ∷ []) (sent_from k (j + 1) ms)) (lines_case feed before x fs is)
-    ∙ ap (λ (t : List ℕ). shown_lines_at (map (start_of feed) fs) before x ++ t) (lines_shown feed fs k (j + 1) (before ++ x ∷ []) ms (heard_more feed before x fs is))

@@ -14,4 +14,5 @@ pub mod Ascending
 pub mod Batching
 pub mod Marking
 pub mod Noting
+pub mod Owing
 mod Repeating

@@ -19,7 +19,8 @@ use Rattle.mdp_arbiter.specs.declared.step.Step.TheVariants.{Pass, Jump}
 use Rattle.mdp_arbiter.proofs.Jumps.{law_of_jumps}
 use Rattle.mdp_arbiter.proofs.Runs.{law_of_events}
 use Rattle.mdp_desks.specs.declared.desk.Desk.{Desk}
-use Rattle.mdp_desks.specs.Desks.{desk_at_start, passed_desks, passed_text, rebased_desks}
+use Rattle.mdp_desks.specs.Desks.{desk_at_start, passed_desks, passed_moments, rebased_desks}
+use Rattle.mdp_desks.specs.Moments.{text_of_moments}
 use Rattle.mdp_desks.specs.Standing.{Shows}
 use Rattle.mdp_engine.specs.Steps.{stepped_desks, stepped_text}
 use Rattle.mdp_engine.specs.Engine.{View, Stands, IsUnderWay, Advances}
@@ -67,9 +68,9 @@ shown_step : {A : Type 0} (listed : List Instrument) (es : List Event) (moves : 
 shown_step listed es moves drained now mid desks held step None possible answers next newest under are more = elim answers [ ]
 shown_step listed es moves drained now mid desks held (Pass q) (Some (passed p)) possible answers next newest under are more =
     let same : desks ≡ passed_desks (sent_in p) now.desks = are ∙ ap (λ (x : PacketContent). passed_desks (sent_in x) now.desks) answers in
-    let text : drained ++ held ≡ (drained ++ now.held) ++ passed_text (sent_in p) now.desks =
-    ap (λ (t : List ℕ). drained ++ t) (more ∙ ap (λ (x : PacketContent). now.held ++ passed_text (sent_in x) now.desks) answers)
-    ∙ sym (append_assoc drained now.held (passed_text (sent_in p) now.desks)) in
+    let text : drained ++ held ≡ (drained ++ now.held) ++ text_of_moments (passed_moments (sent_in p) now.desks) =
+    ap (λ (t : List ℕ). drained ++ t) (more ∙ ap (λ (x : PacketContent). now.held ++ text_of_moments (passed_moments (sent_in x) now.desks)) answers)
+    ∙ sym (append_assoc drained now.held (text_of_moments (passed_moments (sent_in p) now.desks))) in
     record { move = passed p; possible = possible; state = next; shows = shows_passed listed moves p now.desks desks (drained ++ now.held) (drained ++ held) same text under.shows }
 shown_step listed es moves drained now mid desks held (Jump from to) (Some (jumped old new snapshots)) possible answers next newest under are more =
     let recovery = law_of_jumps now.arbiter.channel es (state now.arbiter) old new snapshots possible in
@@ -188,7 +189,7 @@ stands_further listed es e drained old mid new taken keeps channel desks held ke
 -- a packet that passed at once and was shown
 pub stands_passed : (listed : List Instrument) (es : List Event) (p : PacketContent) (drained : List ℕ) (old new : View)
     → HasPassed p (es ++ came p ∷ []) old.arbiter new.arbiter → new.arbiter.channel ≡ old.arbiter.channel
-    → new.desks ≡ passed_desks (sent_in p) old.desks → new.held ≡ old.held ++ passed_text (sent_in p) old.desks
+    → new.desks ≡ passed_desks (sent_in p) old.desks → new.held ≡ old.held ++ text_of_moments (passed_moments (sent_in p) old.desks)
     → Stands listed es drained old → Stands listed (es ++ came p ∷ []) drained new
 stands_passed listed es p drained old new has same desks held stands =
     let all = es ++ came p ∷ [] in
@@ -198,8 +199,8 @@ stands_passed listed es p drained old new has same desks held stands =
     let settles : Settles channel all (state_at channel es) one =
     subst (λ (s : State). Settles channel all s one) from (has.possible, ap (next_move channel all) (sym has.state) ∙ has.settled) in
     let law = law_of_events channel es (came p) one settles in
-    let text : drained ++ new.held ≡ (drained ++ old.held) ++ passed_text (sent_in p) old.desks =
-    ap (λ (t : List ℕ). drained ++ t) held ∙ sym (append_assoc drained old.held (passed_text (sent_in p) old.desks)) in
+    let text : drained ++ new.held ≡ (drained ++ old.held) ++ text_of_moments (passed_moments (sent_in p) old.desks) =
+    ap (λ (t : List ℕ). drained ++ t) held ∙ sym (append_assoc drained old.held (text_of_moments (passed_moments (sent_in p) old.desks))) in
     let shown : Shows listed (trace channel es ++ one) new.desks (drained ++ new.held) =
     shows_passed listed (trace channel es) p old.desks new.desks (drained ++ old.held) (drained ++ new.held) desks text stands.shows in
     record {

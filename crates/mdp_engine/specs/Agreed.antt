@@ -6,10 +6,9 @@ use Rattle.mdp_templates.specs.Snapshot.{SnapshotContent}
 use Rattle.mdp_templates.specs.declared.instrument.Instrument.{Instrument}
 use Rattle.mdp_books.specs.Feed.{sent_by, book_at}
 use Rattle.mdp_engine.specs.Feed.{IsFeed, IsIn, IsJumpedTo}
-use Rattle.mdp_engine.specs.Owed.{Footing, lines}
+use Rattle.mdp_engine.specs.Owed.{Footing}
 use Rattle.mdp_arbiter.specs.Machine.{Move}
-use Rattle.mdp_desks.specs.Shown.{Start, shown_lines}
-use Rattle.mdp_engine.specs.Owed.{steps_of}
+use Rattle.mdp_desks.specs.Shown.{Start}
 use Rattle.mdp_arbiter.specs.Machine.Move.{passed, jumped}
 
 -- From packet `next` on, each packet that passes is the feed's next, and a jump's snapshots are books of the feed that
@@ -22,7 +21,3 @@ AreOf listed feed next (jumped old new snapshots ∷ moves) = AllZip (λ (i : In
 -- a listed security as the complete feed has it: its book after the packet that is its base
 abbrev pub start_of : List PacketContent → Footing → Start
 start_of feed i = record { instrument = i.instrument; base = i.base; jumped = i.jumped; book = book_at i.instrument (sent_by (take i.base feed)) }
-
--- The moves show what the complete feed owes.
-abbrev pub ShowsWhatIsOwed : Type 0
-ShowsWhatIsOwed = (listed : List Instrument) (feed : List PacketContent) (moves : List Move) → IsFeed feed → AreOf listed feed 1 moves → shown_lines listed moves ≡ lines listed feed (steps_of moves)

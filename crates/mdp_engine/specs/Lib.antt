@@ -9,3 +9,4 @@ pub mod Steps
 pub mod Rounds
 pub mod RoundLaws
 pub mod Marks
+pub mod MomentLaws

@@ -1,14 +1,14 @@
--- Which lines a run owes, read off the complete feed: at each event end the books of the securities that it names, and the
--- verdicts on their calendar spreads.
+-- Which moments a run owes, read off the complete feed: at each event end what it shows of each listed security, and each jump;
+-- and the lines of these.
 use Rattle.std.specs.Prelude.{ℕ, ◌-◌, List, [], ◌∷◌, ◌++◌, Bool, true, false, ◌&&◌, if◌then◌else◌, fold, map, take, drop, nat_lt, Option, Some, None}
 use Rattle.mdp_templates.specs.Packet.{PacketContent}
 use Rattle.mdp_templates.specs.Snapshot.{SnapshotContent}
 use Rattle.mdp_templates.specs.declared.instrument.Instrument.{Instrument}
 use Rattle.mdp_books.specs.Feed.{Sent, sent_by, book_at, behind}
-use Rattle.mdp_print.specs.Texts.{jump_line}
 use Rattle.mdp_arbiter.specs.Machine.{Move}
 use Rattle.mdp_arbiter.specs.Machine.Move.{passed, jumped}
-use Rattle.mdp_desks.specs.Lines.{Seen, lines_of}
+use Rattle.mdp_desks.specs.Lines.{Seen}
+use Rattle.mdp_desks.specs.Moments.{Moment, leapt, moments_through, and_then, text_of_moments}
 use Rattle.mdp_desks.specs.Due.{is_printed}
 
 -- a step of a run: a packet passes, or recovery jumps from one number to a later one and sets each listed security's base
@@ -43,26 +43,26 @@ footings listed steps = fold (footings_through listed) (footings_before_jump lis
 abbrev pub seen_at : List Sent → Sent → Footing → Option Seen
 seen_at before m i = if m.end && nat_lt i.base m.packet then Some (record { instrument = i.instrument; printed = is_printed i.instrument.id i.jumped (behind i.base before) m; book = book_at i.instrument (before ++ m ∷ []) }) else None
 
-abbrev pub lines_at : List Footing → List Sent → Sent → List ℕ
-lines_at listed before m = lines_of m (map (seen_at before m) listed)
+-- at each message in turn, behind these ones
+abbrev pub owed_moments_from : List Footing → List Sent → List Sent → List Moment
+owed_moments_from fs before ms = moments_through (λ m so_far. map (seen_at so_far m) fs) and_then before ms
 
--- at each message in turn
-abbrev pub lines_from : List Footing → List Sent → List Sent → List ℕ
-lines_from listed before [] = []
-lines_from listed before (m ∷ ms) = lines_at listed before m ++ lines_from listed (before ++ m ∷ []) ms
+-- those of a step that comes after these ones
+abbrev pub owed_moments_of : List Instrument → List PacketContent → List Step → Step → List Moment
+owed_moments_of listed feed before (pass k) = owed_moments_from (footings listed before) (sent_by (take (k - 1) feed)) (sent_by (take 1 (drop (k - 1) feed)))
+owed_moments_of listed feed before (jump old new bases) = leapt old new ∷ []
 
--- what a step owes that comes after these ones
-abbrev pub lines_of_step : List Instrument → List PacketContent → List Step → Step → List ℕ
-lines_of_step listed feed before (pass k) = lines_from (footings listed before) (sent_by (take (k - 1) feed)) (sent_by (take 1 (drop (k - 1) feed)))
-lines_of_step listed feed before (jump old new bases) = jump_line old new
+abbrev pub owed_moments_after : List Instrument → List PacketContent → List Step → List Step → List Moment
+owed_moments_after listed feed before [] = []
+owed_moments_after listed feed before (s ∷ steps) = owed_moments_of listed feed before s ++ owed_moments_after listed feed (before ++ s ∷ []) steps
 
-abbrev pub lines_after : List Instrument → List PacketContent → List Step → List Step → List ℕ
-lines_after listed feed before [] = []
-lines_after listed feed before (s ∷ steps) = lines_of_step listed feed before s ++ lines_after listed feed (before ++ s ∷ []) steps
+-- the moments that these steps owe under a complete feed
+abbrev pub owed_moments : List Instrument → List PacketContent → List Step → List Moment
+owed_moments listed feed steps = owed_moments_after listed feed [] steps
 
--- the lines that these steps owe under a complete feed
+-- and the lines
 abbrev pub lines : List Instrument → List PacketContent → List Step → List ℕ
-lines listed feed steps = lines_after listed feed [] steps
+lines listed feed steps = text_of_moments (owed_moments listed feed steps)
 
 -- ---- the steps of the recovery machine's moves
 

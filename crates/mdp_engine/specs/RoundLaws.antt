@@ -8,11 +8,10 @@ use Rattle.mdp_arbiter.specs.Accepted.{Event}
 use Rattle.mdp_arbiter.specs.Machine.{Move, trace}
 use Rattle.mdp_arbiter.specs.Machine.Move.{passed, jumped}
 use Rattle.mdp_arbiter.specs.Channel.{ids_of, channel_of}
-use Rattle.mdp_desks.specs.Shown.{shown_lines}
 use Rattle.mdp_engine.specs.Owed.{steps_of}
 use Rattle.mdp_engine.specs.Owed.{lines}
 use Rattle.mdp_engine.specs.Honest.{IsHonest}
-use Rattle.mdp_desks.specs.Moments.{Moment, moments, moments_by}
+use Rattle.mdp_desks.specs.Moments.{Moment, moments, moments_by, shown_lines}
 use Rattle.mdp_desks.specs.Reports.{Report}
 use Rattle.mdp_engine.specs.Rounds.{collected_text, round_of}
 use Rattle.mdp_engine.specs.Rounds.{batch_of, all_rounds_in}

@@ -10,7 +10,8 @@ use Rattle.mdp_arbiter.specs.declared.step.Step.TheVariants.{Pass, Jump}
 use Rattle.mdp_desks.specs.declared.desk.Desk.{Desk}
 use Rattle.mdp_engine.specs.declared.event.Event.{Event}
 use Rattle.mdp_engine.specs.declared.event.Event.TheVariants.{Packet, Snapshot, Close}
-use Rattle.mdp_desks.specs.Desks.{passed_desks, passed_text, rebased_desks}
+use Rattle.mdp_desks.specs.Desks.{passed_desks, passed_moments, rebased_desks}
+use Rattle.mdp_desks.specs.Moments.{text_of_moments}
 
 -- the event of the recovery machine that came
 abbrev pub event_of : {A : Type 0} → Event A → Accepted
@@ -25,5 +26,5 @@ stepped_desks (Jump old new) bases desks = rebased_desks bases desks
 
 -- the lines that a step adds
 abbrev pub stepped_text : {A : Type 0} → Step A → List Desk → List ℕ
-stepped_text (Pass packet) desks = passed_text (sent_in packet) desks
+stepped_text (Pass packet) desks = text_of_moments (passed_moments (sent_in packet) desks)
 stepped_text (Jump old new) desks = jump_line old new

@@ -5,8 +5,9 @@ ghost use Rattle.std.specs.List.{flat_map};
 ghost use Rattle.mdp_templates.specs.Instrument.{AreFit};
 ghost use Rattle.mdp_books.specs.Feed.{sent_as, sent_in};
 ghost use Rattle.mdp_print.specs.Texts.{jump_line};
-ghost use Rattle.mdp_desks.specs.Desks.{desk_at_start, desk_settled, desk_standing, desks_after, desks_text, desks_through, passed_desks, passed_text, rebased_desks};
+ghost use Rattle.mdp_desks.specs.Desks.{desk_at_start, desk_settled, desk_standing, desks_after, desks_moment, desks_through, passed_desks, passed_moments, rebased_desks};
 ghost use Rattle.mdp_desks.specs.Lines.{audit_text, lines_as};
+ghost use Rattle.mdp_desks.specs.Moments.{text_of_moments};
 
 use crate::audits::put_audits;
 use crate::parts::{mark_spreads, parts_of};
@@ -109,7 +110,7 @@ impl<A: Allocator + Copy> AuditedDesks<A> {
         taken: &Message<'_>,
     ) -> Result<(), Memory>
         ensures desks { OnOk result (self.new ≡ desks_after (sent_as packet message taken.now) self.old) }
-        ensures text { OnOk result (out.new.items ≡ out.old.items ++ desks_text (sent_as packet message taken.now) self.old) }
+        ensures text { OnOk result (out.new.items ≡ out.old.items ++ text_of_moments (desks_moment (sent_as packet message taken.now) self.old)) }
     {
         self.hear(packet, message, taken.entries());
         if taken.is_end() {
@@ -123,7 +124,7 @@ impl<A: Allocator + Copy> AuditedDesks<A> {
     /// the desks are of no more use.
     pub fn pass(&mut self, out: &mut Vec<u8, A>, packet: &Packet<A>) -> Result<(), Memory>
         ensures desks { OnOk result (self.new ≡ passed_desks (sent_in packet.now) self.old) }
-        ensures text { OnOk result (out.new.items ≡ out.old.items ++ passed_text (sent_in packet.now) self.old) }
+        ensures text { OnOk result (out.new.items ≡ out.old.items ++ text_of_moments (passed_moments (sent_in packet.now) self.old)) }
     {
         let number = packet.number();
         for n in 0..packet.len() {

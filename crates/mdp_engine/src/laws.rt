@@ -1,15 +1,10 @@
 //! What the definitions of the lines say of every complete feed, as functions that only carry a proof.
 
-ghost use Rattle.mdp_engine.specs.Agreed.{ShowsWhatIsOwed};
 ghost use Rattle.mdp_engine.specs.Engine.{StandsAlike};
 ghost use Rattle.mdp_engine.specs.Honest.{HonestMovesAgree, LawOfHonestFeeds};
 ghost use Rattle.mdp_engine.specs.Marks.{LawOfMarks};
+ghost use Rattle.mdp_engine.specs.MomentLaws.{LawOfHonestMoments, LawOfOwedMoments};
 ghost use Rattle.mdp_engine.specs.RoundLaws.{LawOfAscent, LawOfBatches, LawOfCuts, LawOfFirstRounds, LawOfRuns, LawOfWorkers};
-
-/// Proves that moves that are a complete feed's show exactly the lines that the feed owes.
-pub fn shows_what_is_owed()
-    ensures { ShowsWhatIsOwed }
-{}
 
 /// Proves that the moves of events that agree with a complete feed are that feed's: each packet that passes is the
 /// feed's next, and each jump's snapshots are its books.
@@ -65,4 +60,14 @@ pub fn law_of_cuts()
 /// is the one that a complete feed owes which agrees with the events.
 pub fn law_of_runs()
     ensures { LawOfRuns }
+{}
+
+/// Proves that moves that are a complete feed's have exactly the moments that the feed owes.
+pub fn law_of_owed_moments()
+    ensures { LawOfOwedMoments }
+{}
+
+/// Proves that the moves of events that agree with a complete feed have exactly the moments that the feed owes.
+pub fn law_of_honest_moments()
+    ensures { LawOfHonestMoments }
 {}

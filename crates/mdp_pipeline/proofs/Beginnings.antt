@@ -19,14 +19,14 @@ use Rattle.mdp_arbiter.specs.Machine.{state_at, trace, go_on}
 use Rattle.mdp_arbiter.specs.Channel.{Channel, channel_of}
 use Rattle.mdp_arbiter.proofs.Runs.{law_of_fronts}
 use Rattle.mdp_engine.specs.Engine.{View}
-use Rattle.mdp_desks.specs.Shown.{shown_lines_after, shown_lines}
+use Rattle.mdp_desks.specs.Moments.{moments_after, shown_lines, text_of_moments}
 use Rattle.mdp_pipeline.specs.declared.progress.Run.{Run}
 use Rattle.mdp_pipeline.specs.Merge.{Arrival, in_order}
 use Rattle.mdp_pipeline.specs.Reading.{Reading, Said, Says, brings, refused, IsReading, AreReadings, brought_by, by_feed, events_of, kind_of, refusals_text}
 use Rattle.mdp_pipeline.specs.Output.{end_lines, is_lost_after, moves_of, next_after, shown_output}
 use Rattle.mdp_pipeline.specs.RefusalTexts.{RefusalTexts}
 use Rattle.mdp_pipeline.specs.Running.{BeginsAll, PrintsAll, TakesAs, Writes}
-use Rattle.mdp_crew.proofs.Fronts.{shown_lines_after-append}
+use Rattle.mdp_desks.proofs.Moments.{shown_lines-append}
 use Rattle.mdp_pipeline.proofs.Written.{HasTaken, taken_more}
 
 -- ---- what records say that were not reached
@@ -83,7 +83,7 @@ text_prints listed room from arrivals readings are = record { readings = reading
 abbrev shown_later : List Instrument → ℕ → Start → List Reading → List Reading → List ℕ
 shown_later listed room from readings more =
     let moves = moves_of listed room from (events_of readings) in
-    shown_lines_after listed moves (go_on (channel_of listed room from) (events_of readings) (state_at (channel_of listed room from) (events_of readings)) (events_of more))
+    text_of_moments (moments_after listed moves (go_on (channel_of listed room from) (events_of readings) (state_at (channel_of listed room from) (events_of readings)) (events_of more)))
 
 shown-front : (listed : List Instrument) (room : ℕ) (from : Start) (readings more : List Reading) → shown_lines listed (moves_of listed room from (events_of (readings ++ more))) ≡ shown_lines listed (moves_of listed room from (events_of readings)) ++ shown_later listed room from readings more
 shown-front listed room from readings more =
@@ -91,7 +91,7 @@ shown-front listed room from readings more =
     let later = go_on (channel_of listed room from) es (state_at (channel_of listed room from) es) (events_of more) in
     ap (λ (t : List Event). shown_lines listed (trace (channel_of listed room from) t)) (flat_map-append (λ (r : Reading). brought_by r.said) readings more)
     ∙ ap (shown_lines listed) (law_of_fronts (channel_of listed room from) es (events_of more))
-    ∙ shown_lines_after-append listed [] (moves_of listed room from (events_of readings)) later
+    ∙ shown_lines-append listed (moves_of listed room from (events_of readings)) later
 
 -- ---- a beginning
 

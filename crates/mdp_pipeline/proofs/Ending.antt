@@ -9,12 +9,12 @@ use Rattle.mdp_arbiter.specs.Accepted.{Event}
 use Rattle.mdp_arbiter.specs.Channel.{Channel, channel_of}
 use Rattle.mdp_arbiter.specs.Machine.{go_on, is_lost, state_at, trace}
 use Rattle.mdp_arbiter.proofs.Runs.{law_of_fronts}
-use Rattle.mdp_desks.specs.Shown.{shown_lines_after, shown_lines}
+use Rattle.mdp_desks.specs.Moments.{moments_after, shown_lines, text_of_moments}
 use Rattle.mdp_engine.specs.Engine.{View, Stands}
 use Rattle.mdp_crew.specs.declared.arbiter.Standing.{Standing}
 use Rattle.mdp_crew.specs.declared.stop.Stop.{Stop}
 use Rattle.mdp_crew.specs.Running.{HasShown as HasShownOf, HasShownAll, HasShownSome}
-use Rattle.mdp_crew.proofs.Fronts.{shown_lines_after-append}
+use Rattle.mdp_desks.proofs.Moments.{shown_lines-append}
 use Rattle.mdp_pipeline.specs.declared.progress.Run.{Run}
 use Rattle.mdp_pipeline.specs.declared.summary.RunFault.{RunFault}
 use Rattle.mdp_pipeline.specs.declared.summary.Summary.{Summary}
@@ -35,13 +35,13 @@ shown_so_far listed room from events start taken engine so_far =
 abbrev shown_later : List Instrument → ℕ → Start → List Event → List Event → List ℕ
 shown_later listed room from events more =
     let channel = channel_of listed room from in
-    shown_lines_after listed (moves_of listed room from events) (go_on channel events (state_at channel events) more)
+    text_of_moments (moments_after listed (moves_of listed room from events) (go_on channel events (state_at channel events) more))
 
 shown_front : (listed : List Instrument) (room : ℕ) (from : Start) (events more : List Event) → shown_lines listed (moves_of listed room from (events ++ more)) ≡ shown_lines listed (moves_of listed room from events) ++ shown_later listed room from events more
 shown_front listed room from events more =
     let channel = channel_of listed room from in
     ap (shown_lines listed) (law_of_fronts channel events more)
-    ∙ shown_lines_after-append listed [] (moves_of listed room from events) (go_on channel events (state_at channel events) more)
+    ∙ shown_lines-append listed (moves_of listed room from events) (go_on channel events (state_at channel events) more)
 
 -- of the text that is held so many bytes went out; whatever comes behind these events, it is a beginning of the whole
 pub early : (listed : List Instrument) (room : ℕ) (from : Start) (events more : List Event) (refusals start taken taken' : List ℕ) (engine : View) (n : ℕ) → taken' ≡ taken ++ take n engine.held

@@ -11,8 +11,8 @@ use Rattle.mdp_templates.specs.declared.instrument.Instrument.{Instrument}
 use Rattle.mdp_capture.specs.Record.{RecordContent}
 use Rattle.mdp_arbiter.specs.declared.start.Start.{Start}
 use Rattle.mdp_arbiter.specs.Accepted.{Event}
-use Rattle.mdp_engine.proofs.Agreeing.{shows_what_is_owed}
-use Rattle.mdp_engine.proofs.Honesty.{honest_moves_agree}
+use Rattle.mdp_engine.proofs.Owing.{law_of_honest_moments}
+use Rattle.mdp_desks.specs.Moments.{text_of_moments}
 use Rattle.mdp_lanes.specs.Boards.{Published}
 use Rattle.mdp_lanes.specs.declared.step.Step.{Step}
 use Rattle.mdp_reports.specs.BoardSteps.{board_steps}
@@ -145,7 +145,7 @@ begins_nothing listed room from a b s start board =
             next_is = refl;
             lost_is = refl;
             shown = refl;
-            owed = λ feed honest. ap (λ (t : List ℕ). t ++ end_lines listed room from (refusals_text readings) (events_in merge)) (shows_what_is_owed listed feed (moves_of listed room from (events_in merge)) honest.complete (honest_moves_agree listed feed room from (events_in merge) honest));
+            owed = λ feed honest. ap (λ (t : List ℕ). t ++ end_lines listed room from (refusals_text readings) (events_in merge)) (ap text_of_moments (law_of_honest_moments listed feed room from (events_in merge) honest));
           };
           sent = [];
           rest = text;
@@ -266,7 +266,7 @@ module _ {A : Type 0} where
         next_is = refl;
         lost_is = refl;
         shown = refl;
-        owed = λ feed honest. ap (λ (t : List ℕ). t ++ end_lines listed room from (refusals_text (readings_in joined)) es) (shows_what_is_owed listed feed (moves_of listed room from es) honest.complete (honest_moves_agree listed feed room from es honest));
+        owed = λ feed honest. ap (λ (t : List ℕ). t ++ end_lines listed room from (refusals_text (readings_in joined)) es) (ap text_of_moments (law_of_honest_moments listed feed room from es honest));
       }
 
   pub begins_merge : (receiver : IntakeReceiverView (Batch A)) (a b s : List RecordContent) (left_a left_b left_s : ReaderOutcome A) (joined : Joined receiver a b s left_a left_b left_s) (listed : List Instrument) (room : ℕ) (from : Start) (start taken : List ℕ) (was now : Option Published)

@@ -11,8 +11,8 @@ use Rattle.mdp_templates.specs.Feed.{feed_letter}
 use Rattle.mdp_capture.specs.Record.{RecordContent}
 use Rattle.mdp_arbiter.specs.declared.start.Start.{Start}
 use Rattle.mdp_arbiter.specs.Accepted.{Event}
-use Rattle.mdp_engine.proofs.Agreeing.{shows_what_is_owed}
-use Rattle.mdp_engine.proofs.Honesty.{honest_moves_agree}
+use Rattle.mdp_engine.proofs.Owing.{law_of_honest_moments}
+use Rattle.mdp_desks.specs.Moments.{text_of_moments}
 use Rattle.mdp_pipeline.specs.declared.summary.Summary.{Summary}
 use Rattle.mdp_pipeline.specs.declared.summary.RunFault.{RunFault}
 use Rattle.mdp_pipeline.specs.Merge.{Arrival, arrivals, by_line, in_order}
@@ -191,7 +191,7 @@ prints_merge listed room from a b s text next lost all =
           let es : List Event = events_in (flat_map tagged_by readings) in
           all.shown
           ∙ ap (λ (es : List Event). shown_output listed room from (refusals_text (by_feed readings)) es) same
-          ∙ ap (λ (t : List ℕ). t ++ end_lines listed room from (refusals_text (by_feed readings)) es) (shows_what_is_owed listed feed (moves_of listed room from es) honest.complete (honest_moves_agree listed feed room from es honest));
+          ∙ ap (λ (t : List ℕ). t ++ end_lines listed room from (refusals_text (by_feed readings)) es) (ap text_of_moments (law_of_honest_moments listed feed room from es honest));
     }
 
 pub prints_by_line : (listed : List Instrument) (room : ℕ) (from : Start) (a b s : List RecordContent) (text : List ℕ) (next : ℕ) (lost : Bool) → PrintsAll listed room from (in_order a b s) text next lost → PrintsByLine listed room from a b s text next lost

@@ -1,5 +1,5 @@
 -- What a run has published of the events that it took.
-use Rattle.std.proofs.Common.{◌≡◌, ℕ, List, ◌++◌, refl, sym, ap, ◌∙◌}
+use Rattle.std.proofs.Common.{◌≡◌, ℕ, List, ◌++◌, map, refl, sym, ap, ◌∙◌}
 use Rattle.std.specs.Prelude.{Option, Some, None, Result, Ok, Err, IfOk, IfErr}
 use Rattle.mdp_templates.specs.declared.instrument.Instrument.{Instrument}
 use Rattle.mdp_capture.specs.Record.{RecordContent}
@@ -7,8 +7,9 @@ use Rattle.mdp_arbiter.specs.declared.start.Start.{Start}
 use Rattle.mdp_arbiter.specs.Accepted.{Event}
 use Rattle.mdp_lanes.specs.Boards.{Published}
 use Rattle.mdp_lanes.specs.declared.step.Step.{Step}
-use Rattle.mdp_reports.specs.BoardSteps.{board_steps}
-use Rattle.mdp_reports.proofs.Boarding.{law_of_honest_steps, law_of_step_fronts}
+use Rattle.mdp_reports.specs.BoardSteps.{board_steps, step_of_moment}
+use Rattle.mdp_reports.proofs.Boarding.{law_of_step_fronts}
+use Rattle.mdp_engine.proofs.Owing.{law_of_honest_moments}
 use Rattle.mdp_crew.specs.Publishing.{published_on}
 use Rattle.mdp_crew.specs.Running.{HasPublished, HasPublishedSome}
 use Rattle.mdp_crew.specs.declared.arbiter.Standing.{Standing}
@@ -18,7 +19,7 @@ use Rattle.mdp_pipeline.specs.declared.summary.Summary.{Summary}
 use Rattle.mdp_pipeline.specs.Output.{BeginsMerge, BeginsToPublish, BeginsToPublishMerge, PrintsMerge, Publishes, PublishesMerge, moves_of}
 
 pub publishes : (listed : List Instrument) (room : ℕ) (from : Start) (events : List Event) → Publishes listed room from events (board_steps listed (moves_of listed room from events))
-publishes listed room from events = record { shown = refl; owed = λ feed honest. law_of_honest_steps listed feed room from events honest }
+publishes listed room from events = record { shown = refl; owed = λ feed honest. ap (map step_of_moment) (law_of_honest_moments listed feed room from events honest) }
 
 -- whatever the crew came to, a beginning was published
 pub some_on_board : (listed : List Instrument) (room : ℕ) (from : Start) (events : List Event) (was now : Option Published) (outcome : Result Standing Stop) → HasPublished listed room from events was now outcome → HasPublishedSome listed room from events was now

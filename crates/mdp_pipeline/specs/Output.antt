@@ -8,7 +8,7 @@ use Rattle.mdp_arbiter.specs.declared.start.Start.{Start}
 use Rattle.mdp_arbiter.specs.Accepted.{Event}
 use Rattle.mdp_arbiter.specs.Machine.{Move, is_lost, state_at, trace}
 use Rattle.mdp_arbiter.specs.Channel.{channel_of}
-use Rattle.mdp_desks.specs.Shown.{shown_lines}
+use Rattle.mdp_desks.specs.Moments.{shown_lines}
 use Rattle.mdp_engine.specs.Honest.{IsHonest}
 use Rattle.mdp_engine.specs.Owed.{lines, steps_of}
 use Rattle.mdp_lanes.specs.declared.step.Step.{Step}

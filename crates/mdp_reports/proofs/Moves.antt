@@ -9,32 +9,17 @@ use Rattle.mdp_books.specs.Feed.{Sent, sent_in}
 use Rattle.mdp_arbiter.specs.Machine.{Move}
 use Rattle.mdp_arbiter.specs.Machine.Move.{passed, jumped}
 use Rattle.mdp_desks.specs.declared.desk.Desk.{Desk}
-use Rattle.mdp_desks.specs.Lines.{Seen}
-use Rattle.mdp_desks.specs.Shown.{Start, standing_after, shown_lines, start_seen}
-use Rattle.mdp_desks.specs.Desks.{desk_after, desk_seen, desks_after, passed_desks, rebased_desks}
-use Rattle.mdp_desks.specs.Standing.{DeskShows, Shows}
-use Rattle.mdp_desks.specs.Moments.{ended, moment_at, moments_from, moments_of, moments_after}
-use Rattle.mdp_desks.specs.Reports.{Report, tells, leaps, told_by, report_by}
+use Rattle.mdp_desks.specs.Shown.{Start, standing_after}
+use Rattle.mdp_desks.specs.Desks.{desk_after, desks_after, passed_desks, rebased_desks}
+use Rattle.mdp_desks.specs.Standing.{Shows}
+use Rattle.mdp_desks.specs.Moments.{moments_of, moments_after, shown_lines}
+use Rattle.mdp_desks.specs.Reports.{Report, leaps, report_by}
 use Rattle.mdp_desks.specs.Shares.{own_part, own_slots, own_move, own_moves}
 use Rattle.mdp_desks.proofs.Hearing.{length_rebased}
 use Rattle.mdp_desks.proofs.Sharing.{law_of_shares}
-use Rattle.mdp_desks.proofs.Showing.{all_seen, all_show, shows_jumped, shows_passed}
+use Rattle.mdp_desks.proofs.Showing.{pass_moments, shows_jumped, shows_passed}
 use Rattle.mdp_reports.specs.ReportLaw.{AreFull, LawOfReports, StandBehind}
-use Rattle.mdp_reports.specs.Reporting.{reports_at, reports_passed, snapshots_at, desks_after_move, reports_of_move, desks_after_moves, reports_of_moves}
-
-one_report : (slots : List ℕ) (since : List Sent) (m : Sent) (starts : List Start) (ds : List Desk) → AllZip (DeskShows since) starts ds → reports_at slots m ds ≡ map (report_by slots) (moment_at starts since m)
-one_report slots since m starts ds is = by_end m.end
-  where
-    by_end : (e : Bool) → cond e (tells m.packet m.message (told_by m.packet m.message slots (map (desk_seen m) ds)) ∷ []) [] ≡ map (report_by slots) (cond e (ended m.packet m.message (map (start_seen since m) starts) ∷ []) [])
-    by_end true = ap (λ (seen : List (Option Seen)). tells m.packet m.message (told_by m.packet m.message slots seen) ∷ []) (all_seen since m starts ds is)
-    by_end false = refl
-
-all_reports : (slots : List ℕ) (ms since : List Sent) (starts : List Start) (ds : List Desk) → AllZip (DeskShows since) starts ds → reports_passed slots ms ds ≡ map (report_by slots) (moments_from starts since ms)
-all_reports slots [] since starts ds is = refl
-all_reports slots (m ∷ ms) since starts ds is =
-    ap (λ (l : List Report). l ++ reports_passed slots ms (desks_after m ds)) (one_report slots since m starts ds is)
-    ∙ ap (λ (l : List Report). map (report_by slots) (moment_at starts since m) ++ l) (all_reports slots ms (since ++ m ∷ []) starts (desks_after m ds) (all_show since m starts ds is))
-    ∙ sym (map-append (report_by slots) (moment_at starts since m) (moments_from starts (since ++ m ∷ []) ms))
+use Rattle.mdp_reports.specs.Reporting.{snapshots_at, desks_after_move, reports_of_move, desks_after_moves, reports_of_moves}
 
 -- ---- one's own snapshots
 
@@ -90,7 +75,7 @@ reported mine listed before (passed p ∷ moves) ds full is =
     let after = passed_desks (sent_in p) ds in
     let next = stands mine_listed (before ++ passed p ∷ []) after _ (shows_passed mine_listed before p ds after (shown_lines mine_listed before) _ refl refl is) in
     let rest = reported mine listed (before ++ passed p ∷ []) moves after full next in (
-      ap (λ (l : List Report). l ++ reports_of_moves slots moves after) (all_reports slots (sent_in p) (standing_after mine_listed before).since (standing_after mine_listed before).starts ds is.each)
+      ap (λ (l : List Report). l ++ reports_of_moves slots moves after) (ap (map (report_by slots)) (pass_moments (sent_in p) (standing_after mine_listed before).since (standing_after mine_listed before).starts ds is.each))
           ∙ ap (λ (l : List Report). map (report_by slots) (moments_of mine_listed before (passed p)) ++ l) rest.0
           ∙ sym (map-append (report_by slots) (moments_of mine_listed before (passed p)) (moments_after mine_listed (before ++ passed p ∷ []) (own_moves mine moves))),
       subst (λ (b : List Move). StandBehind mine_listed b (desks_after_moves slots moves after)) (append_assoc before (passed p ∷ []) (own_moves mine moves)) rest.1,

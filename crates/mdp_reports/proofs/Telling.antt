@@ -1,36 +1,19 @@
 -- What desks tell at an event end: the marked alone.
-use Rattle.std.proofs.Common.{◌≡◌, ℕ, zero, suc, ◌+◌, ◌<◌, ◌≤◌, append-nil, append_assoc, Bool, true, false, cond, List, [], ◌∷◌, ◌++◌, length, drop, map, get_or, refl, sym, ap, ◌∙◌, arith}
+use Rattle.std.proofs.Common.{◌≡◌, ℕ, zero, suc, ◌+◌, ◌<◌, ◌≤◌, append-nil, append_assoc, Bool, true, false, List, [], ◌∷◌, ◌++◌, length, drop, map, get_or, refl, sym, ap, ◌∙◌, arith}
 use Rattle.std.specs.Prelude.{nat_lt}
 use Rattle.std.proofs.lemmas.List.{length-map, drop_all}
 use Rattle.mdp_templates.specs.declared.entry.Entry.{Entry}
 use Rattle.mdp_desks.specs.declared.desk.Desk.{Desk}
 use Rattle.mdp_desks.specs.Beside.{AreClear, marks_of}
-use Rattle.mdp_desks.specs.Desks.{desks_through, desk_standing, desk_seen}
+use Rattle.mdp_desks.specs.Desks.{desks_through, desk_standing}
 use Rattle.mdp_desks.specs.Reports.{Told, Report, tells, told_there, told_by}
-use Rattle.mdp_desks.proofs.Hearing.{sent_with, through, all_through, all_standing}
+use Rattle.mdp_desks.proofs.Hearing.{through, all_through}
 use Rattle.mdp_reports.specs.Flat.{reports_with}
-use Rattle.mdp_reports.specs.Reporting.{reports_with_all, reports_at}
+use Rattle.mdp_reports.specs.Reporting.{reports_with_all}
 use Rattle.mdp_reports.proofs.Flatting.{reports_with-push}
-
--- ---- where a message ends an event
-
-pub ended_seen : (packet message : ℕ) (entries : List Entry) (ds : List Desk) (end : Bool) → end ≡ true → map (desk_standing packet) (desks_through packet message 1 entries ds) ≡ map (desk_seen (sent_with packet message entries end)) ds
-ended_seen packet message entries ds end is =
-    ap (map (desk_standing packet)) (all_through packet message 1 entries ds)
-    ∙ all_standing packet message entries ds
-    ∙ ap (λ (b : Bool). map (desk_seen (sent_with packet message entries b)) ds) (sym is)
 
 pub through_long : (packet message : ℕ) (entries : List Entry) (ds : List Desk) → length (desks_through packet message 1 entries ds) ≡ length ds
 through_long packet message entries ds = ap length (all_through packet message 1 entries ds) ∙ length-map ds (through packet message 1 entries)
-
-pub told_ended : (slots : List ℕ) (packet message : ℕ) (entries : List Entry) (ds : List Desk) (end : Bool) → end ≡ true
-    → tells packet message (told_by packet message slots (map (desk_standing packet) (desks_through packet message 1 entries ds))) ∷ [] ≡ reports_at slots (sent_with packet message entries end) ds
-told_ended slots packet message entries ds end is =
-    ap (λ seen. tells packet message (told_by packet message slots seen) ∷ []) (ended_seen packet message entries ds end is)
-    ∙ ap (λ (b : Bool). cond b (tells packet message (told_by packet message slots (map (desk_seen (sent_with packet message entries end)) ds)) ∷ []) []) (sym is)
-
-pub told_open : (slots : List ℕ) (packet message : ℕ) (entries : List Entry) (ds : List Desk) (end : Bool) → end ≡ false → reports_at slots (sent_with packet message entries end) ds ≡ []
-told_open slots packet message entries ds end is = ap (λ (b : Bool). cond b (tells packet message (told_by packet message slots (map (desk_seen (sent_with packet message entries end)) ds)) ∷ []) []) is
 
 -- ---- the marked alone
 

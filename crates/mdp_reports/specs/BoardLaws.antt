@@ -1,7 +1,6 @@
--- The laws of what is published: whatever the number of workers, it is what the moves show, and what a complete feed owes.
+-- The laws of what is published: whatever the number of workers, it is what the moves show.
 use Rattle.std.specs.Prelude.{◌≡◌, ◌≤◌, ℕ, List, ◌++◌, map}
 use Rattle.std.specs.List.{flat_map}
-use Rattle.mdp_templates.specs.Packet.{PacketContent}
 use Rattle.mdp_templates.specs.declared.instrument.Instrument.{Instrument}
 use Rattle.mdp_lanes.specs.declared.step.Step.{Step}
 use Rattle.mdp_arbiter.specs.declared.start.Start.{Start}
@@ -10,12 +9,8 @@ use Rattle.mdp_arbiter.specs.Channel.{channel_of}
 use Rattle.mdp_arbiter.specs.Machine.{Move, trace}
 use Rattle.mdp_desks.specs.Moments.{Moment, moments, moments_after}
 use Rattle.mdp_desks.specs.Reports.{Report}
-use Rattle.mdp_engine.specs.Agreed.{AreOf}
-use Rattle.mdp_engine.specs.Feed.{IsFeed}
-use Rattle.mdp_engine.specs.Honest.{IsHonest}
-use Rattle.mdp_engine.specs.Owed.{steps_of}
 use Rattle.mdp_engine.specs.Rounds.{all_rounds_in, batch_of}
-use Rattle.mdp_reports.specs.BoardSteps.{board_steps, owed_board_steps, step_of_moment, steps_in}
+use Rattle.mdp_reports.specs.BoardSteps.{board_steps, step_of_moment, steps_in}
 
 -- whatever the number of workers, and however their reports are cut into batches, their reports give the steps that the moves show
 abbrev pub LawOfBoards : Type 0
@@ -37,14 +32,3 @@ LawOfStepFronts = (listed : List Instrument) (room : ℕ) (from : Start) (front 
     → (later : List Step)
     × (board_steps listed (trace (channel_of listed room from) (front ++ rest))
     ≡ board_steps listed (trace (channel_of listed room from) front) ++ later)
-
--- moves that are a complete feed's show the steps that the feed owes
-abbrev pub LawOfOwedSteps : Type 0
-LawOfOwedSteps = (listed : List Instrument) (feed : List PacketContent) (moves : List Move) → IsFeed feed → AreOf listed feed 1 moves → board_steps listed moves ≡ owed_board_steps listed feed (steps_of moves)
-
--- and so do the moves of events that agree with a complete feed
-abbrev pub LawOfHonestSteps : Type 0
-LawOfHonestSteps =
-    (listed : List Instrument) (feed : List PacketContent) (room : ℕ) (from : Start) (es : List Event) → IsHonest listed feed es
-    → board_steps listed (trace (channel_of listed room from) es)
-    ≡ owed_board_steps listed feed (steps_of (trace (channel_of listed room from) es))

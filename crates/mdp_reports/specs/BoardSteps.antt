@@ -1,9 +1,8 @@
 -- What is published on a board of all listed securities, step by step: each event end with the rows of what it tells, also where
 -- that is nothing, and each jump.
-use Rattle.std.specs.Prelude.{ℕ, ◌-◌, List, [], ◌∷◌, ◌++◌, Option, Some, None, if◌then◌else◌, map, take, drop}
+use Rattle.std.specs.Prelude.{ℕ, List, [], ◌∷◌, ◌++◌, Option, Some, None, map}
 use Rattle.mdp_templates.specs.Packet.{PacketContent}
 use Rattle.mdp_templates.specs.declared.instrument.Instrument.{Instrument}
-use Rattle.mdp_books.specs.Feed.{Sent, sent_by}
 use Rattle.mdp_quotes.specs.declared.top.TopOfBook.{TopOfBook}
 use Rattle.mdp_lanes.specs.declared.row.Row.{Row}
 use Rattle.mdp_lanes.specs.declared.row.Row.TheVariants.{Top, Fault}
@@ -12,8 +11,7 @@ use Rattle.mdp_lanes.specs.declared.step.Step.TheVariants.{Jump, Event}
 use Rattle.mdp_arbiter.specs.Machine.{Move}
 use Rattle.mdp_desks.specs.Moments.{Moment, ended, leapt, moments}
 use Rattle.mdp_desks.specs.Reports.{Told, Report, tells, leaps, told_from}
-use Rattle.mdp_engine.specs.Owed.{Footing, Step as RunStep, footings, seen_at}
-use Rattle.mdp_engine.specs.Owed.Step.{pass, jump}
+use Rattle.mdp_engine.specs.Owed.{Step as RunStep, owed_moments}
 use Rattle.mdp_engine.specs.Rounds.{all_by_slot, told_in}
 
 -- the row of a security whose book has this top where message `message` of packet `packet` ends an event; a fault has none
@@ -50,24 +48,7 @@ abbrev pub steps_in : List (List Report) → List Step
 steps_in [] = []
 steps_in (round ∷ rounds) = step_of_round round ++ steps_in rounds
 
--- ---- what a complete feed owes, as it owes lines
-
-abbrev pub owed_steps_at : List Footing → List Sent → Sent → List Step
-owed_steps_at fs before m = if m.end then step_telling m.packet m.message (told_from m.packet m.message 0 (map (seen_at before m) fs)) ∷ [] else []
-
--- at each message in turn
-abbrev pub owed_steps_from : List Footing → List Sent → List Sent → List Step
-owed_steps_from fs before [] = []
-owed_steps_from fs before (m ∷ ms) = owed_steps_at fs before m ++ owed_steps_from fs (before ++ m ∷ []) ms
-
--- in a step of a run that comes after these ones
-abbrev pub owed_steps_of_step : List Instrument → List PacketContent → List RunStep → RunStep → List Step
-owed_steps_of_step listed feed before (pass k) = owed_steps_from (footings listed before) (sent_by (take (k - 1) feed)) (sent_by (take 1 (drop (k - 1) feed)))
-owed_steps_of_step listed feed before (jump old new bases) = Jump ∷ []
-
-abbrev pub owed_steps_after : List Instrument → List PacketContent → List RunStep → List RunStep → List Step
-owed_steps_after listed feed before [] = []
-owed_steps_after listed feed before (s ∷ steps) = owed_steps_of_step listed feed before s ++ owed_steps_after listed feed (before ++ s ∷ []) steps
+-- ---- what a complete feed owes
 
 abbrev pub owed_board_steps : List Instrument → List PacketContent → List RunStep → List Step
-owed_board_steps listed feed steps = owed_steps_after listed feed [] steps
+owed_board_steps listed feed steps = map step_of_moment (owed_moments listed feed steps)

@@ -5,10 +5,9 @@ use Rattle.mdp_arbiter.specs.Machine.{Move}
 use Rattle.mdp_arbiter.specs.Machine.Move.{passed, jumped}
 use Rattle.mdp_desks.specs.declared.desk.Desk.{Desk}
 use Rattle.mdp_desks.specs.Desks.{desk_at_start}
-use Rattle.mdp_desks.specs.Moments.{moments_after}
+use Rattle.mdp_desks.specs.Moments.{moments_after, shown_lines}
 use Rattle.mdp_desks.specs.Reports.{report_of}
 use Rattle.mdp_desks.specs.Shares.{own_part, own_slots, own_moves}
-use Rattle.mdp_desks.specs.Shown.{shown_lines}
 use Rattle.mdp_desks.specs.Standing.{Shows}
 use Rattle.mdp_engine.specs.RoundLaws.{Ascend}
 use Rattle.mdp_reports.specs.Reporting.{desks_after_moves, reports_of_moves}

@@ -1,13 +1,13 @@
 -- What the desks of a worker's securities report of moves: each jump, and at each event end the securities at its slots that are
 -- printed there.
-use Rattle.std.specs.Prelude.{ℕ, List, [], ◌∷◌, ◌++◌, fold, map, if◌then◌else◌, slice_get, Option}
+use Rattle.std.specs.Prelude.{ℕ, List, [], ◌∷◌, ◌++◌, fold, map, slice_get, Option}
 use Rattle.mdp_templates.specs.Snapshot.{SnapshotContent}
 use Rattle.mdp_books.specs.Feed.{Sent, sent_in}
 use Rattle.mdp_arbiter.specs.Machine.{Move}
 use Rattle.mdp_arbiter.specs.Machine.Move.{passed, jumped}
 use Rattle.mdp_desks.specs.declared.desk.Desk.{Desk}
-use Rattle.mdp_desks.specs.Desks.{desk_seen, desks_after, passed_desks, rebased_desks}
-use Rattle.mdp_desks.specs.Reports.{Told, Report, tells, leaps, told_by}
+use Rattle.mdp_desks.specs.Desks.{desks_moment, passed_moments, passed_desks, rebased_desks}
+use Rattle.mdp_desks.specs.Reports.{Told, Report, leaps, report_by}
 use Rattle.mdp_reports.specs.Flat.{reports_with}
 
 -- the last report, where it is of an event end, tells of these too
@@ -16,11 +16,10 @@ reports_with_all ts reports = fold (λ (rs : List Report) (t : Told). reports_wi
 
 -- of a message, and message by message
 abbrev pub reports_at : List ℕ → Sent → List Desk → List Report
-reports_at slots m ds = if m.end then tells m.packet m.message (told_by m.packet m.message slots (map (desk_seen m) ds)) ∷ [] else []
+reports_at slots m ds = map (report_by slots) (desks_moment m ds)
 
 abbrev pub reports_passed : List ℕ → List Sent → List Desk → List Report
-reports_passed slots [] ds = []
-reports_passed slots (m ∷ ms) ds = reports_at slots m ds ++ reports_passed slots ms (desks_after m ds)
+reports_passed slots ms ds = map (report_by slots) (passed_moments ms ds)
 
 -- the snapshots at these slots, of those of all listed securities
 abbrev pub snapshots_at : List ℕ → List SnapshotContent → List (Option SnapshotContent)

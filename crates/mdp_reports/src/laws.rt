@@ -1,6 +1,6 @@
 //! What the definitions of reports and of the steps of a board say of all moves, as functions that only carry a proof.
 
-ghost use Rattle.mdp_reports.specs.BoardLaws.{LawOfBoards, LawOfFirstSteps, LawOfHonestSteps, LawOfMoreSteps, LawOfOwedSteps, LawOfStepFronts};
+ghost use Rattle.mdp_reports.specs.BoardLaws.{LawOfBoards, LawOfFirstSteps, LawOfMoreSteps, LawOfStepFronts};
 ghost use Rattle.mdp_reports.specs.ReportLaw.{LawOfFirstDesks, LawOfFullJumps, LawOfReports};
 
 /// Proves that a worker whose desks stand behind the moves before reports its part of each moment of the moves that
@@ -39,14 +39,4 @@ pub fn law_of_more_steps()
 /// Proves that the steps of a front of the events begin the steps of all.
 pub fn law_of_step_fronts()
     ensures { LawOfStepFronts }
-{}
-
-/// Proves that moves that are a complete feed's show exactly the steps that the feed owes.
-pub fn law_of_owed_steps()
-    ensures { LawOfOwedSteps }
-{}
-
-/// Proves that the moves of events that agree with a complete feed show exactly the steps that the feed owes.
-pub fn law_of_honest_steps()
-    ensures { LawOfHonestSteps }
 {}

@@ -3,9 +3,9 @@ use Rattle.std.proofs.Common.{List, [], ◌∷◌, ◌++◌, length, map, ap, sy
 use Rattle.mdp_templates.specs.declared.entry.Entry.{Entry}
 use Rattle.mdp_desks.specs.declared.desk.Desk.{Desk}
 use Rattle.mdp_desks.specs.Desks.{desks_through, desk_settled}
-use Rattle.mdp_desks.specs.Reports.{Report, tells}
-use Rattle.mdp_desks.proofs.Hearing.{ended_desks, open_desks}
-use Rattle.mdp_reports.proofs.Telling.{told_of, told_ended, through_long}
+use Rattle.mdp_desks.specs.Reports.{Report, tells, report_by}
+use Rattle.mdp_desks.proofs.Hearing.{ended_desks, ended_moment, open_desks}
+use Rattle.mdp_reports.proofs.Telling.{told_of, through_long}
 use Rattle.mdp_reports.proofs.reporting.report_message.Goals as goal
 
 pub report_event_end-requires : goal.report_event_end-requires
@@ -25,7 +25,7 @@ returns-in_ok-report_event_end-clause-reports g c =
     let j = c.args.message in
     c.in_ok-report_event_end.ensures
     ∙ ap (λ (ds : List Desk). c.args.out.now ++ tells k j (told_of k j c.args.slots.now ds) ∷ []) (c.hear.ensures ∙ ap (λ (es : List Entry). desks_through k j 1 es c.args.desks.now) c.entries.ensures.items)
-    ∙ ap (λ (t : List Report). c.args.out.now ++ t) (told_ended c.args.slots.now k j c.args.taken.now.entries c.args.desks.now c.args.taken.now.end (sym c.is_end.ensures ∙ c.if-is_end.true))
+    ∙ ap (λ (t : List Report). c.args.out.now ++ t) (ap (map (report_by c.args.slots.now)) (ended_moment k j c.args.taken.now.entries c.args.desks.now c.args.taken.now.end (sym c.is_end.ensures ∙ c.if-is_end.true)))
 
 pub returns-else-is_end-clause-desks : goal.returns-else-is_end-clause-desks
 returns-else-is_end-clause-desks g c =

@@ -3,7 +3,9 @@ use Rattle.mdp_templates.specs.Packet.{MessageContent}
 use Rattle.mdp_templates.proofs.Spanning.{left_from}
 use Rattle.mdp_books.specs.Feed.{sent_as, sent_from}
 use Rattle.mdp_desks.specs.declared.desk.Desk.{Desk}
-use Rattle.mdp_desks.specs.Desks.{desks_text, passed_desks, passed_text}
+use Rattle.mdp_desks.specs.Desks.{desks_after, desks_moment, passed_desks, passed_moments}
+use Rattle.mdp_desks.specs.Moments.{moment_text, text_of_moments}
+use Rattle.std.proofs.lemmas.List.Concat.{flat_map-append}
 use Rattle.mdp_engine.proofs.audited_desks.AuditedDesks.pass.Goals as goal
 
 pub loop-n-preserved : goal.loop-n-preserved
@@ -14,7 +16,8 @@ loop-n-preserved g c =
     let m = c.message.result in
     let desks = c.loop-n.self in
     let out = c.loop-n.out.items in
-    let text = desks_text (sent_as k (n + 1) m) desks in
+    let here = desks_moment (sent_as k (n + 1) m) desks in
+    let text = text_of_moments here in
     let later = sent_from k (n + 1 + 1) (drop (n + 1) ms) in
     let left : drop n ms ≡ m ∷ drop (n + 1) ms = left_from ms n m c.message.ensures in
     record {
@@ -23,9 +26,10 @@ loop-n-preserved g c =
           ∙ sym (ap (λ (l : List MessageContent). passed_desks (sent_from k (n + 1) l) desks) left)
           ∙ c.loop-n.invariant.desks;
       text =
-          ap (λ (t : List ℕ). t ++ passed_text later c.take.new.self) c.in_ok-take.ensures.text
-          ∙ append_assoc out text (passed_text later c.take.new.self)
-          ∙ ap (λ (ds : List Desk). out ++ (text ++ passed_text later ds)) c.in_ok-take.ensures.desks
-          ∙ sym (ap (λ (l : List MessageContent). out ++ passed_text (sent_from k (n + 1) l) desks) left)
+          ap (λ (t : List ℕ). t ++ text_of_moments (passed_moments later c.take.new.self)) c.in_ok-take.ensures.text
+          ∙ append_assoc out text (text_of_moments (passed_moments later c.take.new.self))
+          ∙ ap (λ (ds : List Desk). out ++ (text ++ text_of_moments (passed_moments later ds))) c.in_ok-take.ensures.desks
+          ∙ ap (λ (t : List ℕ). out ++ t) (sym (flat_map-append moment_text here (passed_moments later (desks_after (sent_as k (n + 1) m) desks))))
+          ∙ sym (ap (λ (l : List MessageContent). out ++ text_of_moments (passed_moments (sent_from k (n + 1) l) desks)) left)
           ∙ c.loop-n.invariant.text;
     }

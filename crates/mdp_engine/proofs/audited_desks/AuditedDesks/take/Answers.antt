@@ -4,7 +4,8 @@ use Rattle.mdp_templates.specs.declared.entry.Entry.{Entry}
 use Rattle.mdp_desks.specs.declared.desk.Desk.{Desk}
 use Rattle.mdp_desks.specs.Desks.{desks_through, desk_settled, desk_standing}
 use Rattle.mdp_desks.specs.Lines.{lines_as}
-use Rattle.mdp_desks.proofs.Hearing.{ended_desks, ended_text, open_desks, open_text}
+use Rattle.mdp_desks.specs.Moments.{Moment, text_of_moments}
+use Rattle.mdp_desks.proofs.Hearing.{ended_desks, ended_moment, open_desks, open_moment}
 use Rattle.mdp_engine.proofs.audited_desks.AuditedDesks.take.Goals as goal
 
 pub returns-in_ok-put-clause-desks : goal.returns-in_ok-put-clause-desks
@@ -16,9 +17,12 @@ returns-in_ok-put-clause-desks g c =
 pub returns-in_ok-put-clause-text : goal.returns-in_ok-put-clause-text
 returns-in_ok-put-clause-text g c =
     let k = c.args.packet in
+    let j = c.args.message in
+    let heard = desks_through k j 1 c.args.taken.now.entries c.args.self.now in
     c.in_ok-put.ensures.text
-    ∙ ap (λ (ds : List Desk). c.args.out.now.items ++ lines_as k c.args.message (map (desk_standing k) ds)) (c.hear.ensures ∙ ap (λ (es : List Entry). desks_through k c.args.message 1 es c.args.self.now) c.entries.ensures.items)
-    ∙ ap (λ (t : List ℕ). c.args.out.now.items ++ t) (ended_text k c.args.message c.args.taken.now.entries c.args.self.now c.args.taken.now.end (sym c.is_end.ensures ∙ c.if-is_end.true))
+    ∙ ap (λ (ds : List Desk). c.args.out.now.items ++ lines_as k j (map (desk_standing k) ds)) (c.hear.ensures ∙ ap (λ (es : List Entry). desks_through k j 1 es c.args.self.now) c.entries.ensures.items)
+    ∙ ap (λ (t : List ℕ). c.args.out.now.items ++ t) (sym (append-nil (lines_as k j (map (desk_standing k) heard))))
+    ∙ ap (λ (ms : List Moment). c.args.out.now.items ++ text_of_moments ms) (ended_moment k j c.args.taken.now.entries c.args.self.now c.args.taken.now.end (sym c.is_end.ensures ∙ c.if-is_end.true))
 
 pub returns-else-is_end-clause-desks : goal.returns-else-is_end-clause-desks
 returns-else-is_end-clause-desks g c =
@@ -29,4 +33,4 @@ returns-else-is_end-clause-desks g c =
 pub returns-else-is_end-clause-text : goal.returns-else-is_end-clause-text
 returns-else-is_end-clause-text g c =
     sym (append-nil c.args.out.now.items)
-    ∙ ap (λ (t : List ℕ). c.args.out.now.items ++ t) (sym (open_text c.args.packet c.args.message c.args.taken.now.entries c.args.self.now c.args.taken.now.end (sym c.is_end.ensures ∙ c.if-is_end.false)))
+    ∙ ap (λ (ms : List Moment). c.args.out.now.items ++ text_of_moments ms) (sym (open_moment c.args.packet c.args.message c.args.taken.now.entries c.args.self.now c.args.taken.now.end (sym c.is_end.ensures ∙ c.if-is_end.false)))
