@@ -1,14 +1,16 @@
 -- The moves of honest events have the moments that the complete feed owes, and so its lines.
-use Rattle.std.proofs.Common.{◌≡◌, List, ap}
-use Rattle.mdp_templates.specs.Packet.{PacketContent}
+use Rattle.std.proofs.Common.{◌≡◌, ◌<◌, ℤ, ℕ, ◌+◌, List, [], ◌∷◌, ◌++◌, map, take, length, get_or, sym, ap, subst, ◌∙◌}
+use Rattle.std.proofs.lemmas.List.{map-append, take_more}
 use Rattle.mdp_templates.specs.declared.instrument.Instrument.{Instrument}
-use Rattle.mdp_arbiter.specs.Channel.{channel_of}
-use Rattle.mdp_arbiter.specs.Machine.{Move, trace}
+use Rattle.mdp_arbiter.specs.Accepted.{Event}
+use Rattle.mdp_arbiter.specs.Channel.{Channel, channel_of, ids_of}
+use Rattle.mdp_arbiter.specs.Machine.{trace}
 use Rattle.mdp_desks.specs.Moments.{shown_lines, text_of_moments}
-use Rattle.mdp_engine.specs.Agreed.{AreOf}
-use Rattle.mdp_engine.specs.Feed.{IsFeed}
 use Rattle.mdp_engine.specs.Owed.{steps_of, lines}
+use Rattle.mdp_engine.specs.Engine.{StandsOwed}
 use Rattle.mdp_engine.specs.MomentLaws.{LawOfHonestMoments}
+use Rattle.mdp_engine.specs.Steps.{event_of}
+use Rattle.mdp_engine.specs.declared.event.Event.{Event as Taken}
 use Rattle.mdp_engine.proofs.Agreeing.{law_of_owed_moments}
 use Rattle.mdp_engine.proofs.Honesty.{honest_moves_agree}
 
@@ -16,5 +18,23 @@ pub law_of_honest_moments : LawOfHonestMoments
 law_of_honest_moments listed feed room from es honest =
     law_of_owed_moments listed feed (trace (channel_of listed room from) es) honest.complete (honest_moves_agree listed feed room from es honest)
 
-pub owed_lines : (listed : List Instrument) (feed : List PacketContent) (moves : List Move) → IsFeed feed → AreOf listed feed 1 moves → shown_lines listed moves ≡ lines listed feed (steps_of moves)
-owed_lines listed feed moves fed are = ap text_of_moments (law_of_owed_moments listed feed moves fed are)
+-- ---- an engine
+
+listed_channel : (listed : List Instrument) (channel : Channel) → channel.ids ≡ ids_of listed → channel ≡ channel_of listed channel.room channel.start
+listed_channel listed channel is = ap (λ (ids : List ℤ). record { room = channel.room; ids = ids; start = channel.start }) is
+
+pub stands_owed : StandsOwed
+stands_owed listed feed es drained v honest stands =
+    let is = listed_channel listed v.arbiter.channel stands.settled.ids in
+    stands.shows.text_is
+    ∙ subst (λ (c : Channel). shown_lines listed (trace c es) ≡ lines listed feed (steps_of (trace c es))) (sym is)
+    (ap text_of_moments (law_of_honest_moments listed feed v.arbiter.channel.room v.arbiter.channel.start es honest))
+
+-- ---- a list of events
+
+pub taken_more : {A : Type 0} (events : List (Taken A)) (i : ℕ) (event : Taken A) (e : Event) → i < length events → event ≡ get_or events i event → e ≡ event_of event
+    → map event_of (take i events) ++ e ∷ [] ≡ map event_of (take (i + 1) events)
+taken_more events i event e within at is =
+    ap (λ (x : Event). map event_of (take i events) ++ x ∷ []) (is ∙ ap event_of at)
+    ∙ sym (map-append event_of (take i events) (get_or events i event ∷ []))
+    ∙ ap (map event_of) (sym (take_more events i event within))

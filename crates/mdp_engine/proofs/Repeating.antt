@@ -24,8 +24,7 @@ use Rattle.mdp_arbiter.proofs.Appended.{closed-came, first-apart, highest-more, 
 use Rattle.mdp_arbiter.proofs.Runs.{law_of_events, settle_settles}
 use Rattle.mdp_arbiter.proofs.Standings.{receives_stands}
 use Rattle.mdp_desks.specs.Standing.{Shows}
-use Rattle.mdp_engine.specs.Engine.{DeskStands, IsSettled, Stands, StandsUnder, View}
-use Rattle.mdp_engine.specs.Owed.{footings, lines, steps_of}
+use Rattle.mdp_engine.specs.Engine.{View, IsSettled, Stands}
 
 -- ---- once settled, no move is possible
 
@@ -138,14 +137,3 @@ pub old_stands : (listed : List Instrument) (es : List Event) (drained : List �
 old_stands listed es drained p v old is =
     let more = adds_nothing listed es p v.arbiter is.settled old in
     record { settled = more.settled; shows = subst (λ (ms : List Move). Shows listed ms v.desks (drained ++ v.held)) (sym more.moves) is.shows }
-
-pub old_stands_under :
-    (listed : List Instrument) (feed : List PacketContent) (es : List Event) (drained : List ℕ) (p : PacketContent) (v : View) → p.number < v.arbiter.next
-    → StandsUnder listed feed es drained v → StandsUnder listed feed (es ++ came p ∷ []) drained v
-old_stands_under listed feed es drained p v old is =
-    let more = adds_nothing listed es p v.arbiter is.settled old in
-    record {
-      settled = more.settled;
-      desks = subst (λ (ms : List Move). AllZip (DeskStands feed v.arbiter.next) (footings listed (steps_of ms)) v.desks) (sym more.moves) is.desks;
-      text = is.text ∙ ap (λ (ms : List Move). lines listed feed (steps_of ms)) (sym more.moves);
-    }

@@ -1,10 +1,8 @@
 -- What an engine holds, and what that says of the events that came and the text that was drained.
-use Rattle.std.specs.Prelude.{◌≡◌, ℕ, ◌-◌, ◌++◌, Bool, max, take, List, refl}
-use Rattle.std.specs.List.{AllZip}
+use Rattle.std.specs.Prelude.{◌≡◌, ℕ, ◌++◌, Bool, List, refl}
 use Rattle.std.specs.Coded.{Coded, code_by, coded×, coded_ℕ, coded_bool, coded_list}
 use Rattle.mdp_templates.specs.Packet.{PacketContent}
 use Rattle.mdp_templates.specs.declared.instrument.Instrument.{Instrument}
-use Rattle.mdp_books.specs.Feed.{sent_by, book_at, behind}
 use Rattle.mdp_arbiter.specs.Accepted.{Event}
 use Rattle.mdp_arbiter.specs.Machine.{Move, Settles, after_all, trace, state_at}
 use Rattle.mdp_arbiter.specs.Channel.{ids_of}
@@ -13,9 +11,7 @@ use Rattle.mdp_arbiter.specs.Codes.{view_code as arbiter_code}
 use Rattle.mdp_arbiter.specs.Standing.{StandsAt}
 use Rattle.mdp_desks.specs.declared.desk.Desk.{Desk}
 use Rattle.mdp_desks.specs.contracts.desk.Desk as desk
-use Rattle.mdp_engine.specs.Owed.{Footing, footings, lines}
-use Rattle.mdp_engine.specs.Owed.{steps_of}
-use Rattle.mdp_desks.specs.Due.{is_due}
+use Rattle.mdp_engine.specs.Owed.{lines, steps_of}
 use Rattle.mdp_desks.specs.Standing.{Shows}
 use Rattle.mdp_engine.specs.Honest.{IsHonest}
 
@@ -46,25 +42,10 @@ pub record Stands (listed : List Instrument) (es : List Event) (drained : List �
   pub settled : IsSettled listed es v.arbiter
   pub shows : Shows listed (trace v.arbiter.channel es) v.desks (drained ++ v.held)
 
--- A desk has its security's book of the complete feed, before packet `next` or at its base, whichever is later, and is
--- marked if the security is due.
-pub record DeskStands (feed : List PacketContent) (next : ℕ) (i : Footing) (desk : Desk) : Type 0 where
-  pub instrument : desk.instrument ≡ i.instrument
-  pub base : desk.base ≡ i.base
-  pub book : desk.book ≡ book_at i.instrument (sent_by (take (max (next - 1) i.base) feed))
-  pub marked : desk.marked ≡ is_due i.instrument.id i.jumped (behind i.base (sent_by (take (next - 1) feed)))
-
--- An engine stands at these events under a complete feed, of which this text was drained: its desks are the feed's,
--- and its text is the lines that the feed owes for the moves so far.
-pub record StandsUnder (listed : List Instrument) (feed : List PacketContent) (es : List Event) (drained : List ℕ) (v : View) : Type 0 where
-  pub settled : IsSettled listed es v.arbiter
-  pub desks : AllZip (DeskStands feed v.arbiter.next) (footings listed (steps_of (trace v.arbiter.channel es))) v.desks
-  pub text : drained ++ v.held ≡ lines listed feed (steps_of (trace v.arbiter.channel es))
-
--- Under a complete feed that the events agree with, what the moves show is what the feed has, and the other way round.
-abbrev pub StandsAlike : Type 0
-StandsAlike = (listed : List Instrument) (feed : List PacketContent) (es : List Event) (drained : List ℕ) (v : View) → IsHonest listed feed es
-    → (Stands listed es drained v → StandsUnder listed feed es drained v) × (StandsUnder listed feed es drained v → Stands listed es drained v)
+-- Under a complete feed that the events agree with, the text is the lines that the feed owes.
+abbrev pub StandsOwed : Type 0
+StandsOwed = (listed : List Instrument) (feed : List PacketContent) (es : List Event) (drained : List ℕ) (v : View) → IsHonest listed feed es
+    → Stands listed es drained v → drained ++ v.held ≡ lines listed feed (steps_of (trace v.arbiter.channel es))
 
 -- ---- moves one after another
 

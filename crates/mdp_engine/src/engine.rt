@@ -10,8 +10,7 @@ ghost use Rattle.mdp_arbiter.specs.Machine.{State, is_lost, state_at, trace};
 ghost use Rattle.mdp_arbiter.specs.Channel.{ids_of, channel_of};
 ghost use Rattle.mdp_arbiter.specs.Arbiter.{is_lost_now, state};
 ghost use Rattle.mdp_arbiter.specs.Standing.{StandsAt};
-ghost use Rattle.mdp_engine.specs.Engine.{Advances, Stands, StandsUnder};
-ghost use Rattle.mdp_engine.specs.Feed.{IsFeed};
+ghost use Rattle.mdp_engine.specs.Engine.{Advances, Stands};
 ghost use Rattle.mdp_engine.specs.Honest.{IsHonest};
 ghost use Rattle.mdp_engine.specs.Owed.{lines};
 ghost use Rattle.mdp_engine.specs.Owed.{steps_of};
@@ -66,7 +65,6 @@ impl<A: Allocator + Copy, W: Window<Packet<A>> + Drop> Engine<A, W> {
         requires first { (W.view window).first ≡ 1 }
         requires empty { (W.view window).held ≡ map.empty }
         ensures stands { IfOk result (λ engine. Stands instruments.now [] [] engine) }
-        ensures under { IfOk result (λ engine. (feed : List PacketContent) → IsFeed feed → StandsUnder instruments.now feed [] [] engine) }
         ensures channel { IfOk result (λ engine. engine.arbiter.channel
             ≡ channel_of instruments.now (W.view window).room start) }
         ensures sound { IfOk result (λ engine. engine.has_failed ≡ false) }
@@ -104,8 +102,6 @@ impl<A: Allocator + Copy, W: Window<Packet<A>> + Drop> Engine<A, W> {
         ensures now { result ≡ nat_lt number self.now.arbiter.next }
         ensures stands { result ≡ true → (listed : List Instrument) (es : List Accepted) (drained : List ℕ) (packet : PacketContent)
             → packet.number ≡ number → Stands listed es drained self.now → Stands listed (es ++ came packet ∷ []) drained self.now }
-        ensures under { result ≡ true → (listed : List Instrument) (feed : List PacketContent) (es : List Accepted) (drained : List ℕ) (packet : PacketContent)
-            → packet.number ≡ number → StandsUnder listed feed es drained self.now → StandsUnder listed feed (es ++ came packet ∷ []) drained self.now }
     {
         u64::from(number) < self.next()
     }
@@ -118,9 +114,6 @@ impl<A: Allocator + Copy, W: Window<Packet<A>> + Drop> Engine<A, W> {
     pub fn on(&mut self, event: Event<A>) -> Result<(), Memory>
         ensures stands { OnOk result ((listed : List Instrument) (es : List Accepted) (drained : List ℕ) → Stands listed es drained self.old
             → Stands listed (es ++ event_of event ∷ []) drained self.new) }
-        ensures under { OnOk result ((listed : List Instrument) (feed : List PacketContent) (es : List Accepted) (drained : List ℕ)
-            → IsHonest listed feed (es ++ event_of event ∷ []) → StandsUnder listed feed es drained self.old
-            → StandsUnder listed feed (es ++ event_of event ∷ []) drained self.new) }
         ensures channel { OnOk result (self.new.arbiter.channel ≡ self.old.arbiter.channel) }
         ensures sound { OnOk result (self.new.has_failed ≡ false) }
         ensures fails { IfErr result (λ _. self.new.has_failed ≡ true) }
@@ -144,8 +137,6 @@ impl<A: Allocator + Copy, W: Window<Packet<A>> + Drop> Engine<A, W> {
         ensures drained { OnOk result (self.new ≡ record self.old { held = [] }) }
         ensures stands { OnOk result ((listed : List Instrument) (es : List Accepted) (drained : List ℕ) → Stands listed es drained self.old
             → Stands listed es (drained ++ self.old.held) self.new) }
-        ensures under { OnOk result ((listed : List Instrument) (feed : List PacketContent) (es : List Accepted) (drained : List ℕ)
-            → StandsUnder listed feed es drained self.old → StandsUnder listed feed es (drained ++ self.old.held) self.new) }
         ensures kept { IfErr result (λ _. out.new.items ≡ out.old.items) }
         ensures fails { IfErr result (λ _. self.new.has_failed ≡ true) }
         ensures stays { self.old.has_failed ≡ true → IsErr result }
@@ -171,8 +162,6 @@ impl<A: Allocator + Copy, W: Window<Packet<A>> + Drop> Engine<A, W> {
         ensures drained { self.new ≡ record self.old { held = [] } }
         ensures stands { (listed : List Instrument) (es : List Accepted) (drained : List ℕ) → Stands listed es drained self.old
             → Stands listed es (drained ++ self.old.held) self.new }
-        ensures under { (listed : List Instrument) (feed : List PacketContent) (es : List Accepted) (drained : List ℕ)
-            → StandsUnder listed feed es drained self.old → StandsUnder listed feed es (drained ++ self.old.held) self.new }
     {
         self.held.clear();
     }

@@ -1,6 +1,6 @@
 //! What the definitions of the lines say of every complete feed, as functions that only carry a proof.
 
-ghost use Rattle.mdp_engine.specs.Engine.{StandsAlike};
+ghost use Rattle.mdp_engine.specs.Engine.{StandsOwed};
 ghost use Rattle.mdp_engine.specs.Honest.{HonestMovesAgree, LawOfHonestFeeds};
 ghost use Rattle.mdp_engine.specs.Marks.{LawOfMarks};
 ghost use Rattle.mdp_engine.specs.MomentLaws.{LawOfHonestMoments, LawOfOwedMoments};
@@ -12,10 +12,9 @@ pub fn honest_moves_agree()
     ensures { HonestMovesAgree }
 {}
 
-/// Proves that an engine whose events agree with a complete feed stands at what their moves show exactly where it
-/// stands at what the feed has.
-pub fn stands_alike()
-    ensures { StandsAlike }
+/// Proves that what an engine has given out and holds, whose events agree with a complete feed, is the lines that the feed owes.
+pub fn stands_owed()
+    ensures { StandsOwed }
 {}
 
 /// Proves that there is a complete feed that the events agree with wherever each packet has a number that a feed can

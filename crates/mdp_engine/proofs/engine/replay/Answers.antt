@@ -7,7 +7,7 @@ use Rattle.mdp_engine.specs.Engine.{Stands}
 use Rattle.mdp_engine.specs.Owed.{lines}
 use Rattle.mdp_engine.specs.Owed.{steps_of}
 use Rattle.mdp_engine.specs.Steps.{event_of}
-use Rattle.mdp_engine.proofs.Under.{stands_owed, taken_more}
+use Rattle.mdp_engine.proofs.Owing.{stands_owed, taken_more}
 use Rattle.mdp_engine.proofs.engine.replay.Goals as goal
 
 pub loop-event-preserved : goal.loop-event-preserved
@@ -27,5 +27,5 @@ returns g c = λ feed honest.
     let all : take c.loop-event.event-index c.args.events.now ≡ c.args.events.now = take_all c.loop-event.event-index c.args.events.now (omega (arith, c.loop-event-test.false)) in
     let stands = subst (λ events. Stands listed (map event_of events) [] engine) all c.loop-event.invariant.stands in
     c.in_ok-drain_lines.ensures.text ∙ ap (λ (t : List ℕ). t ++ engine.held) c.new-text.ensures.items
-    ∙ (stands_owed listed feed es [] engine honest stands).text
+    ∙ stands_owed listed feed es [] engine honest stands
     ∙ ap (λ (ch : Channel). lines listed feed (steps_of (trace ch es))) c.loop-event.invariant.channel
