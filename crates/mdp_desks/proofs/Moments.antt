@@ -1,6 +1,7 @@
 -- Moments one after another: of two walks that show the same, and of moves behind moves.
 use Rattle.std.proofs.Common.{◌≡◌, List, [], ◌∷◌, ◌++◌, refl, sym, ap, ◌∙◌, append_assoc}
-use Rattle.std.specs.Prelude.{Option}
+use Rattle.std.specs.Prelude.{Option, fold}
+use Rattle.std.proofs.lemmas.List.Sums.{fold-append}
 use Rattle.std.specs.List.{AllByRecursion, flat_map}
 use Rattle.std.proofs.lemmas.List.{append-nil}
 use Rattle.std.proofs.lemmas.List.Concat.{flat_map-append}
@@ -8,7 +9,8 @@ use Rattle.mdp_templates.specs.declared.instrument.Instrument.{Instrument}
 use Rattle.mdp_books.specs.Feed.{Sent}
 use Rattle.mdp_arbiter.specs.Machine.{Move}
 use Rattle.mdp_desks.specs.Lines.{Seen}
-use Rattle.mdp_desks.specs.Moments.{Moment, moment_text, moment_at, moments_through, moments_of, moments_after, text_of_moments, shown_lines}
+use Rattle.mdp_desks.specs.Shown.{Standing, standing_after, standing_through}
+use Rattle.mdp_desks.specs.Moments.{Moment, moment_text, moment_at, moments_through, moments_of, moments_on, moments_after, text_of_moments, shown_lines}
 
 -- what two walks have in common: where they stand alike, a message of this kind shows the same of both, and they stand alike behind it
 pub record Alike {S T : Type 0} (P : Sent → Type 0) (R : S → T → Type 0)
@@ -27,18 +29,22 @@ same_moments P R shows goes shows' goes' alike s t (m ∷ ms) are here =
 
 -- ---- moves behind moves
 
+on-append : (listed : List Instrument) (s : Standing) (moves more : List Move) → moments_on listed s (moves ++ more) ≡ moments_on listed s moves ++ moments_on listed (fold (standing_through listed) s moves) more
+on-append listed s [] more = refl
+on-append listed s (m ∷ moves) more =
+    ap (λ (l : List Moment). moments_of s m ++ l) (on-append listed (standing_through listed s m) moves more)
+    ∙ sym (append_assoc (moments_of s m) (moments_on listed (standing_through listed s m) moves) (moments_on listed (fold (standing_through listed) s (m ∷ moves)) more))
+
 pub moments-append : (listed : List Instrument) (before moves more : List Move) → moments_after listed before (moves ++ more) ≡ moments_after listed before moves ++ moments_after listed (before ++ moves) more
-moments-append listed before [] more = ap (λ (b : List Move). moments_after listed b more) (sym (append-nil before))
-moments-append listed before (m ∷ moves) more =
-    ap (λ (l : List Moment). moments_of listed before m ++ l)
-    (moments-append listed (before ++ m ∷ []) moves more ∙ ap (λ (b : List Move). moments_after listed (before ++ m ∷ []) moves ++ moments_after listed b more) (append_assoc before (m ∷ []) moves))
-    ∙ sym (append_assoc (moments_of listed before m) (moments_after listed (before ++ m ∷ []) moves) (moments_after listed (before ++ m ∷ moves) more))
+moments-append listed before moves more =
+    on-append listed (standing_after listed before) moves more
+    ∙ ap (λ (s : Standing). moments_after listed before moves ++ moments_on listed s more) (sym (fold-append (standing_through listed) (standing_after listed []) before moves))
 
 -- the text of moves begins the text of more moves
 pub shown_lines-append : (listed : List Instrument) (moves more : List Move) → shown_lines listed (moves ++ more) ≡ shown_lines listed moves ++ text_of_moments (moments_after listed moves more)
 shown_lines-append listed moves more =
     ap (flat_map moment_text) (moments-append listed [] moves more) ∙ flat_map-append moment_text (moments_after listed [] moves) (moments_after listed moves more)
 
-pub shown_lines-push : (listed : List Instrument) (moves : List Move) (move : Move) → shown_lines listed (moves ++ move ∷ []) ≡ shown_lines listed moves ++ text_of_moments (moments_of listed moves move)
+pub shown_lines-push : (listed : List Instrument) (moves : List Move) (move : Move) → shown_lines listed (moves ++ move ∷ []) ≡ shown_lines listed moves ++ text_of_moments (moments_of (standing_after listed moves) move)
 shown_lines-push listed moves move =
-    shown_lines-append listed moves (move ∷ []) ∙ ap (λ (ms : List Moment). shown_lines listed moves ++ text_of_moments ms) (append-nil (moments_of listed moves move))
+    shown_lines-append listed moves (move ∷ []) ∙ ap (λ (ms : List Moment). shown_lines listed moves ++ text_of_moments ms) (append-nil (moments_of (standing_after listed moves) move))

@@ -11,7 +11,7 @@ use Rattle.mdp_arbiter.specs.Machine.{Move}
 use Rattle.mdp_arbiter.specs.Machine.Move.{passed, jumped}
 use Rattle.mdp_desks.specs.Lines.{Seen}
 use Rattle.mdp_desks.specs.Shown.{Start, Standing, starts_at_jump, start_at_snapshot, starts_before_jump, standing_after, standing_through, start_seen}
-use Rattle.mdp_desks.specs.Moments.{ended, moment_at, moments_from, moments_of, moments_after}
+use Rattle.mdp_desks.specs.Moments.{ended, moment_at, moments_from, moments_of, moments_on}
 use Rattle.mdp_desks.specs.Shares.{own_part, own_slots, own_move, own_moves}
 use Rattle.mdp_desks.specs.Reports.{Told, Report, tells, told_of, told_there, told_by, told_from, report_by, report_of}
 use Rattle.mdp_desks.specs.ShareLaws.{LawOfShares}
@@ -147,24 +147,24 @@ from_reported mine listed starts since (m ∷ ms) within =
     ∙ ap (λ (t : List Report). map (report_of mine) (moment_at m (map (start_seen since m) starts)) ++ t) (from_reported mine listed starts (since ++ m ∷ []) ms within)
     ∙ sym (map-append (report_of mine) (moment_at m (map (start_seen since m) starts)) (moments_from starts (since ++ m ∷ []) ms))
 
-of_reported : (mine : ℕ → Bool) (listed : List Instrument) (before : List Move) (move : Move)
-    → map (report_by (own_slots mine 0 listed)) (moments_of (own_part mine 0 listed) (own_moves mine before) (own_move mine move)) ≡ map (report_of mine) (moments_of listed before move)
-of_reported mine listed before (passed packet) =
-    ap (λ (s : Standing). map (report_by (own_slots mine 0 listed)) (moments_from s.starts s.since (sent_in packet))) (shown_own mine listed before)
-    ∙ from_reported mine listed (standing_after listed before).starts (standing_after listed before).since (sent_in packet) (few listed before)
-of_reported mine listed before (jumped old new snapshots) = refl
+of_reported : (mine : ℕ → Bool) (listed : List Instrument) (s : Standing) (move : Move) → length s.starts ≤ length listed
+    → map (report_by (own_slots mine 0 listed)) (moments_of (own_shown mine s) (own_move mine move)) ≡ map (report_of mine) (moments_of s move)
+of_reported mine listed s (passed packet) within = from_reported mine listed s.starts s.since (sent_in packet) within
+of_reported mine listed s (jumped old new snapshots) within = refl
 
-after_reported : (mine : ℕ → Bool) (listed : List Instrument) (before moves : List Move)
-    → map (report_by (own_slots mine 0 listed)) (moments_after (own_part mine 0 listed) (own_moves mine before) (own_moves mine moves)) ≡ map (report_of mine) (moments_after listed before moves)
-after_reported mine listed before [] = refl
-after_reported mine listed before (m ∷ moves) =
+on_reported : (mine : ℕ → Bool) (listed : List Instrument) (s : Standing) (moves : List Move) → length s.starts ≤ length listed
+    → map (report_by (own_slots mine 0 listed)) (moments_on (own_part mine 0 listed) (own_shown mine s) (own_moves mine moves)) ≡ map (report_of mine) (moments_on listed s moves)
+on_reported mine listed s [] within = refl
+on_reported mine listed s (m ∷ moves) within =
     let by = report_by (own_slots mine 0 listed) in
-    let here = moments_of (own_part mine 0 listed) (own_moves mine before) (own_move mine m) in
-    map-append by here (moments_after (own_part mine 0 listed) (own_moves mine before ++ own_move mine m ∷ []) (own_moves mine moves))
-    ∙ ap (λ (t : List Report). t ++ map by (moments_after (own_part mine 0 listed) (own_moves mine before ++ own_move mine m ∷ []) (own_moves mine moves))) (of_reported mine listed before m)
-    ∙ ap (λ (b : List Move). map (report_of mine) (moments_of listed before m) ++ map by (moments_after (own_part mine 0 listed) b (own_moves mine moves))) (sym (map-append (own_move mine) before (m ∷ [])))
-    ∙ ap (λ (t : List Report). map (report_of mine) (moments_of listed before m) ++ t) (after_reported mine listed (before ++ m ∷ []) moves)
-    ∙ sym (map-append (report_of mine) (moments_of listed before m) (moments_after listed (before ++ m ∷ []) moves))
+    let next = standing_through listed s m in
+    ap (λ (z : Standing). map by (moments_of (own_shown mine s) (own_move mine m) ++ moments_on (own_part mine 0 listed) z (own_moves mine moves))) (own_from mine listed s (m ∷ []))
+    ∙ map-append by (moments_of (own_shown mine s) (own_move mine m)) (moments_on (own_part mine 0 listed) (own_shown mine next) (own_moves mine moves))
+    ∙ ap (λ (t : List Report). t ++ map by (moments_on (own_part mine 0 listed) (own_shown mine next) (own_moves mine moves))) (of_reported mine listed s m within)
+    ∙ ap (λ (t : List Report). map (report_of mine) (moments_of s m) ++ t) (on_reported mine listed next moves (few_from listed s (m ∷ []) within))
+    ∙ sym (map-append (report_of mine) (moments_of s m) (moments_on listed next moves))
 
 pub law_of_shares : LawOfShares
-law_of_shares mine listed before moves = after_reported mine listed before moves
+law_of_shares mine listed before moves =
+    ap (λ (s : Standing). map (report_by (own_slots mine 0 listed)) (moments_on (own_part mine 0 listed) s (own_moves mine moves))) (shown_own mine listed before)
+    ∙ on_reported mine listed (standing_after listed before) moves (few listed before)

@@ -155,7 +155,7 @@ jump_shows (s ∷ snapshots) (d ∷ ds) long = (record { instrument = refl; base
 pub standing_after-push : (listed : List Instrument) (moves : List Move) (move : Move) → standing_after listed (moves ++ move ∷ []) ≡ standing_through listed (standing_after listed moves) move
 standing_after-push listed moves move = fold_push (standing_through listed) (standing_after listed []) moves move
 
-text_grows : (listed : List Instrument) (moves : List Move) (move : Move) (text more after : List ℕ) → text ≡ shown_lines listed moves → after ≡ text ++ more → more ≡ text_of_moments (moments_of listed moves move) → after ≡ shown_lines listed (moves ++ move ∷ [])
+text_grows : (listed : List Instrument) (moves : List Move) (move : Move) (text more after : List ℕ) → text ≡ shown_lines listed moves → after ≡ text ++ more → more ≡ text_of_moments (moments_of (standing_after listed moves) move) → after ≡ shown_lines listed (moves ++ move ∷ [])
 text_grows listed moves move text more after so_far grown says =
     grown ∙ ap (λ (t : List ℕ). t ++ more) so_far ∙ ap (λ (t : List ℕ). shown_lines listed moves ++ t) says ∙ sym (shown_lines-push listed moves move)
 

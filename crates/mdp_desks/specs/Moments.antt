@@ -8,7 +8,7 @@ use Rattle.mdp_print.specs.Texts.{jump_line}
 use Rattle.mdp_arbiter.specs.Machine.{Move}
 use Rattle.mdp_arbiter.specs.Machine.Move.{passed, jumped}
 use Rattle.mdp_desks.specs.Lines.{Seen, lines_as}
-use Rattle.mdp_desks.specs.Shown.{Start, standing_after, start_seen}
+use Rattle.mdp_desks.specs.Shown.{Start, Standing, standing_after, standing_through, start_seen}
 
 -- message `message` of packet `packet` ends an event; or recovery jumps from one number to a later one
 pub data Moment : Type 0 where
@@ -32,14 +32,18 @@ and_then m before = before ++ m ∷ []
 abbrev pub moments_from : List Start → List Sent → List Sent → List Moment
 moments_from starts since ms = moments_through (λ m before. map (start_seen before m) starts) and_then since ms
 
--- those of a move that comes after these ones
-abbrev pub moments_of : List Instrument → List Move → Move → List Moment
-moments_of listed before (passed packet) = moments_from (standing_after listed before).starts (standing_after listed before).since (sent_in packet)
-moments_of listed before (jumped old new snapshots) = leapt old new ∷ []
+-- those of a move, and of moves one after another, where things stand so
+abbrev pub moments_of : Standing → Move → List Moment
+moments_of s (passed packet) = moments_from s.starts s.since (sent_in packet)
+moments_of s (jumped old new snapshots) = leapt old new ∷ []
 
+abbrev pub moments_on : List Instrument → Standing → List Move → List Moment
+moments_on listed s [] = []
+moments_on listed s (m ∷ moves) = moments_of s m ++ moments_on listed (standing_through listed s m) moves
+
+-- those of moves that come after these ones
 abbrev pub moments_after : List Instrument → List Move → List Move → List Moment
-moments_after listed before [] = []
-moments_after listed before (m ∷ moves) = moments_of listed before m ++ moments_after listed (before ++ m ∷ []) moves
+moments_after listed before moves = moments_on listed (standing_after listed before) moves
 
 abbrev pub moments : List Instrument → List Move → List Moment
 moments listed moves = moments_after listed [] moves

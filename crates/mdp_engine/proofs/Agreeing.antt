@@ -3,7 +3,6 @@ use Rattle.std.proofs.Common.{Bool, ◌≡◌, ◌≤◌, ℕ, suc, zero, ◌+�
 use Rattle.std.specs.Prelude.{Option, Some, None, ◌&&◌, nat_lt, slice_get}
 use Rattle.std.specs.List.{AllZip, AllByRecursion}
 use Rattle.std.proofs.lemmas.List.{append-nil, map-append}
-use Rattle.std.proofs.lemmas.List.Sums.{fold_push}
 use Rattle.std.proofs.lemmas.List.Concat.{flat_map-append}
 use Rattle.std.proofs.lemmas.Bool.Decides.{nat_tests}
 use Rattle.mdp_templates.specs.Packet.{PacketContent, MessageContent}
@@ -14,23 +13,22 @@ use Rattle.mdp_books.specs.Feed.{Sent, sent_from, sent_in, sent_by, behind, book
 use Rattle.mdp_books.proofs.Feeds.{behind-append}
 use Rattle.mdp_engine.specs.Feed.{IsFeed, IsIn, IsJumpedTo}
 use Rattle.mdp_desks.specs.Lines.{Seen}
-use Rattle.mdp_engine.specs.Owed.{Step, Footing, footings_at_jump, footings_before_jump, footings_through, footings, seen_at, owed_moments_from, owed_moments_of, owed_moments_after}
+use Rattle.mdp_engine.specs.Owed.{Footing, footings_at_jump, footings_before_jump, seen_at, owed_moments_from, owed_moments_of, owed_moments_on}
 use Rattle.mdp_engine.specs.Owed.Step.{pass}
 use Rattle.mdp_arbiter.specs.Machine.{Move}
 use Rattle.mdp_desks.specs.Shown.{Start, Standing, starts_at_jump, standing_after, standing_through, start_seen, starts_before_jump}
-use Rattle.mdp_desks.specs.Moments.{Moment, leapt, and_then, moments_from, moments_of, moments_after}
+use Rattle.mdp_desks.specs.Moments.{Moment, leapt, and_then, moments_from, moments_of, moments_on}
 use Rattle.mdp_desks.proofs.Moments.{Alike, same_moments}
 use Rattle.mdp_desks.specs.Due.{is_printed}
-use Rattle.mdp_engine.specs.Owed.{step_of, steps_of}
+use Rattle.mdp_engine.specs.Owed.{steps_of}
 use Rattle.mdp_arbiter.specs.Machine.Move.{passed, jumped}
 use Rattle.mdp_engine.specs.Agreed.{start_of, AreOf}
 use Rattle.mdp_engine.specs.MomentLaws.{LawOfOwedMoments}
-use Rattle.mdp_desks.proofs.Showing.{standing_after-push}
 use Rattle.mdp_engine.proofs.Fronts.{Heard, sent_by-split, behind-front, all_seen, heard_more as feed_heard_more}
 
 -- ---- what the listed securities hear
 
-pub all_heard : (feed : List PacketContent) (next : ℕ) (fs : List Footing) → 1 ≤ next → IsFeed feed → AllByRecursion (Heard feed next (sent_by (take (next - 1) feed))) fs
+all_heard : (feed : List PacketContent) (next : ℕ) (fs : List Footing) → 1 ≤ next → IsFeed feed → AllByRecursion (Heard feed next (sent_by (take (next - 1) feed))) fs
 all_heard feed next [] first is = tt
 all_heard feed next (i ∷ fs) first is =
     let here : Heard feed next (sent_by (take (next - 1) feed)) i = λ over. let less : suc i.base ≤ next = grind (arith, nat_tests, over) in sent_by-split feed i.base (next - 1) is (omega arith) in
@@ -43,12 +41,12 @@ take_at [] n p place = absurd cc
 take_at (x ∷ feed) zero p place = let same : x ≡ p = cc in ap (λ (w : PacketContent). w ∷ []) same
 take_at (x ∷ feed) (suc n) p place = ap (λ (t : List PacketContent). x ∷ t) (take_at feed n p place)
 
-pub one_at : (feed : List PacketContent) (n : ℕ) (p : PacketContent) → slice_get feed n ≡ Some p → take 1 (drop n feed) ≡ p ∷ []
+one_at : (feed : List PacketContent) (n : ℕ) (p : PacketContent) → slice_get feed n ≡ Some p → take 1 (drop n feed) ≡ p ∷ []
 one_at [] n p place = absurd cc
 one_at (x ∷ feed) zero p place = let same : x ≡ p = cc in ap (λ (w : PacketContent). w ∷ []) same
 one_at (x ∷ feed) (suc n) p place = one_at feed n p place
 
-pub front_more : (feed : List PacketContent) (p : PacketContent) → IsIn feed p → sent_by (take (p.number + 1 - 1) feed) ≡ sent_by (take (p.number - 1) feed) ++ sent_in p
+front_more : (feed : List PacketContent) (p : PacketContent) → IsIn feed p → sent_by (take (p.number + 1 - 1) feed) ≡ sent_by (take (p.number - 1) feed) ++ sent_in p
 front_more feed p at =
     let n : p.number + 1 - 1 ≡ suc (p.number - 1) = omega (arith, at.first) in
     ap (λ (k : ℕ). sent_by (take k feed)) n
@@ -58,7 +56,7 @@ front_more feed p at =
 
 -- ---- securities that hear the same of two lists of messages print the same
 
-abbrev pub SameHeard : List Sent → List Sent → Start → Type 0
+abbrev SameHeard : List Sent → List Sent → Start → Type 0
 SameHeard a b i = behind i.base a ≡ behind i.base b
 
 abbrev seen_as : Instrument → Bool → Book → Option Seen
@@ -72,19 +70,19 @@ same_seen a b m i same =
     ap (λ (h : List Sent). cond (m.end && nat_lt i.base m.packet) (seen_as i.instrument (is_printed i.instrument.id i.jumped h m) (book_from i.instrument i.book (behind i.base (a ++ m ∷ [])))) None) same
     ∙ ap (λ (h : List Sent). cond (m.end && nat_lt i.base m.packet) (seen_as i.instrument (is_printed i.instrument.id i.jumped (behind i.base b) m) (book_from i.instrument i.book h)) None) (heard_more a b (m ∷ []) i same)
 
-pub all_same : (a b : List Sent) (m : Sent) (starts : List Start) → AllByRecursion (SameHeard a b) starts → map (start_seen a m) starts ≡ map (start_seen b m) starts
+all_same : (a b : List Sent) (m : Sent) (starts : List Start) → AllByRecursion (SameHeard a b) starts → map (start_seen a m) starts ≡ map (start_seen b m) starts
 all_same a b m [] is = refl
 all_same a b m (i ∷ starts) is =
     ap (λ (s : Option Seen). s ∷ map (start_seen a m) starts) (same_seen a b m i is.0)
     ∙ ap (λ (t : List (Option Seen)). start_seen b m i ∷ t) (all_same a b m starts is.1)
 
-pub same_more : (a b more : List Sent) (starts : List Start) → AllByRecursion (SameHeard a b) starts → AllByRecursion (SameHeard (a ++ more) (b ++ more)) starts
+same_more : (a b more : List Sent) (starts : List Start) → AllByRecursion (SameHeard a b) starts → AllByRecursion (SameHeard (a ++ more) (b ++ more)) starts
 same_more a b more [] is = tt
 same_more a b more (i ∷ starts) is = (heard_more a b more i is.0, same_more a b more starts is.1)
 
 -- ---- what the moves show, and the front of the feed below `next`
 
-pub record Agrees (feed : List PacketContent) (next : ℕ) (fs : List Footing) (sh : Standing) : Type 0 where
+record Agrees (feed : List PacketContent) (next : ℕ) (fs : List Footing) (sh : Standing) : Type 0 where
   pub starts : sh.starts ≡ map (start_of feed) fs
   pub same : AllByRecursion (SameHeard sh.since (sent_by (take (next - 1) feed))) sh.starts
 
@@ -109,19 +107,13 @@ jump_same feed to [] (s ∷ snapshots) fed is = elim is [ ]
 jump_same feed to (i ∷ listed) [] fed is = elim is [ ]
 jump_same feed to (i ∷ listed) (s ∷ snapshots) fed is = (sym (behind-front feed s.last (to - 1) fed (omega (arith, is.0.covers))), jump_same feed to listed snapshots fed is.1)
 
-pub start_starts : (feed : List PacketContent) (listed : List Instrument) → starts_before_jump listed ≡ map (start_of feed) (footings_before_jump listed)
+start_starts : (feed : List PacketContent) (listed : List Instrument) → starts_before_jump listed ≡ map (start_of feed) (footings_before_jump listed)
 start_starts feed [] = refl
 start_starts feed (i ∷ listed) = let others = start_starts feed listed in cc others
 
-pub start_same : (starts : List Start) → AllByRecursion (SameHeard [] []) starts
+start_same : (starts : List Start) → AllByRecursion (SameHeard [] []) starts
 start_same [] = tt
 start_same (i ∷ starts) = (refl, start_same starts)
-
-pub steps_of-push : (moves : List Move) (move : Move) → steps_of (moves ++ move ∷ []) ≡ steps_of moves ++ step_of move ∷ []
-steps_of-push moves move = map-append step_of moves (move ∷ [])
-
-footings-push : (listed : List Instrument) (moves : List Move) (move : Move) → footings listed (steps_of (moves ++ move ∷ [])) ≡ footings_through listed (footings listed (steps_of moves)) (step_of move)
-footings-push listed moves move = ap (footings listed) (steps_of-push moves move) ∙ fold_push (footings_through listed) (footings_before_jump listed) (steps_of moves) (step_of move)
 
 -- ---- the moments of one packet: the securities heard the same since their bases as the feed has behind them
 
@@ -142,47 +134,37 @@ of_packet : (k j : ℕ) (ms : List MessageContent) → AllByRecursion (λ (m : S
 of_packet k j [] = tt
 of_packet k j (m ∷ ms) = (refl, of_packet k (j + 1) ms)
 
-pass_owed : (listed : List Instrument) (feed : List PacketContent) (before : List Move) (p : PacketContent) → IsFeed feed → IsIn feed p → Agrees feed p.number (footings listed (steps_of before)) (standing_after listed before) → moments_of listed before (passed p) ≡ owed_moments_of listed feed (steps_of before) (pass p.number)
-pass_owed listed feed before p fed at agrees =
+pass_owed : (feed : List PacketContent) (fs : List Footing) (sh : Standing) (p : PacketContent) → IsFeed feed → IsIn feed p → Agrees feed p.number fs sh → moments_of sh (passed p) ≡ owed_moments_of feed fs (pass p.number)
+pass_owed feed fs sh p fed at agrees =
     let k = p.number in
-    let fs = footings listed (steps_of before) in
     let front = sent_by (take (k - 1) feed) in
-    let since = (standing_after listed before).since in
     let here : sent_by (take 1 (drop (k - 1) feed)) ≡ sent_in p = ap sent_by (one_at feed (k - 1) p at.place) ∙ append-nil (sent_in p) in
-    let both : HearAlike feed fs k since front = record { same = subst (AllByRecursion (SameHeard since front)) agrees.starts agrees.same; heard = all_heard feed k fs at.first fed } in
-    ap (λ (starts : List Start). moments_from starts since (sent_in p)) agrees.starts
-    ∙ same_moments (λ (m : Sent). m.packet ≡ k) (HearAlike feed fs k) (λ m since. map (start_seen since m) (map (start_of feed) fs)) and_then (λ m before. map (seen_at before m) fs) and_then (alike feed fs k) since front (sent_in p) (of_packet k 1 p.messages) both
+    let both : HearAlike feed fs k sh.since front = record { same = subst (AllByRecursion (SameHeard sh.since front)) agrees.starts agrees.same; heard = all_heard feed k fs at.first fed } in
+    ap (λ (starts : List Start). moments_from starts sh.since (sent_in p)) agrees.starts
+    ∙ same_moments (λ (m : Sent). m.packet ≡ k) (HearAlike feed fs k) (λ m since. map (start_seen since m) (map (start_of feed) fs)) and_then (λ m before. map (seen_at before m) fs) and_then (alike feed fs k) sh.since front (sent_in p) (of_packet k 1 p.messages) both
     ∙ ap (owed_moments_from fs front) (sym here)
 
-pub pass_agrees : (listed : List Instrument) (feed : List PacketContent) (before : List Move) (p : PacketContent) → IsIn feed p → Agrees feed p.number (footings listed (steps_of before)) (standing_after listed before) → Agrees feed (p.number + 1) (footings listed (steps_of (before ++ passed p ∷ []))) (standing_after listed (before ++ passed p ∷ []))
-pass_agrees listed feed before p at agrees =
-    let sh = standing_after listed before in
-    let fs = footings listed (steps_of before) in
-    let more : AllByRecursion (SameHeard (sh.since ++ sent_in p) (sent_by (take (p.number + 1 - 1) feed))) sh.starts =
-    subst (λ (b : List Sent). AllByRecursion (SameHeard (sh.since ++ sent_in p) b) sh.starts) (sym (front_more feed p at)) (same_more sh.since (sent_by (take (p.number - 1) feed)) (sent_in p) sh.starts agrees.same) in
-    let there : Agrees feed (p.number + 1) fs (standing_through listed sh (passed p)) = record { starts = agrees.starts; same = more } in
-    subst (λ (is : List Footing). Agrees feed (p.number + 1) is (standing_after listed (before ++ passed p ∷ []))) (sym (footings-push listed before (passed p)))
-    (subst (λ (s : Standing). Agrees feed (p.number + 1) fs s) (sym (standing_after-push listed before (passed p))) there)
+pass_agrees : (listed : List Instrument) (feed : List PacketContent) (fs : List Footing) (sh : Standing) (p : PacketContent) → IsIn feed p → Agrees feed p.number fs sh → Agrees feed (p.number + 1) fs (standing_through listed sh (passed p))
+pass_agrees listed feed fs sh p at agrees = record {
+  starts = agrees.starts;
+  same =
+      subst (λ (b : List Sent). AllByRecursion (SameHeard (sh.since ++ sent_in p) b) sh.starts) (sym (front_more feed p at))
+      (same_more sh.since (sent_by (take (p.number - 1) feed)) (sent_in p) sh.starts agrees.same);
+}
 
-pub jump_agrees : (listed : List Instrument) (feed : List PacketContent) (before : List Move) (from to : ℕ) (snapshots : List SnapshotContent) → IsFeed feed → AllJumped feed to listed snapshots → Agrees feed to (footings listed (steps_of (before ++ jumped from to snapshots ∷ []))) (standing_after listed (before ++ jumped from to snapshots ∷ []))
-jump_agrees listed feed before from to snapshots fed is =
-    let move = jumped from to snapshots in
-    let there : Agrees feed to (footings_at_jump listed (lasts snapshots)) (record { starts = starts_at_jump listed snapshots; since = [] }) = record { starts = jump_starts feed to listed snapshots is; same = jump_same feed to listed snapshots fed is } in
-    subst (λ (fs : List Footing). Agrees feed to fs (standing_after listed (before ++ move ∷ []))) (sym (footings-push listed before move))
-    (subst (λ (s : Standing). Agrees feed to (footings_at_jump listed (lasts snapshots)) s) (sym (standing_after-push listed before move)) there)
-
-owed_after : (listed : List Instrument) (feed : List PacketContent) (next : ℕ) (before moves : List Move) → IsFeed feed → Agrees feed next (footings listed (steps_of before)) (standing_after listed before) → AreOf listed feed next moves → moments_after listed before moves ≡ owed_moments_after listed feed (steps_of before) (steps_of moves)
-owed_after listed feed next before [] fed agrees are = refl
-owed_after listed feed next before (passed p ∷ moves) fed agrees (number, at, later) =
-    let here : Agrees feed p.number (footings listed (steps_of before)) (standing_after listed before) = subst (λ (k : ℕ). Agrees feed k (footings listed (steps_of before)) (standing_after listed before)) (sym number) agrees in
+owed_on : (listed : List Instrument) (feed : List PacketContent) (next : ℕ) (fs : List Footing) (sh : Standing) (moves : List Move) → IsFeed feed → Agrees feed next fs sh → AreOf listed feed next moves
+    → moments_on listed sh moves ≡ owed_moments_on listed feed fs (steps_of moves)
+owed_on listed feed next fs sh [] fed agrees are = refl
+owed_on listed feed next fs sh (passed p ∷ moves) fed agrees (number, at, later) =
+    let here : Agrees feed p.number fs sh = subst (λ (k : ℕ). Agrees feed k fs sh) (sym number) agrees in
     let rest : AreOf listed feed (p.number + 1) moves = subst (λ (k : ℕ). AreOf listed feed (k + 1) moves) (sym number) later in
-    ap (λ (t : List Moment). t ++ moments_after listed (before ++ passed p ∷ []) moves) (pass_owed listed feed before p fed at here)
-    ∙ ap (λ (t : List Moment). owed_moments_of listed feed (steps_of before) (pass p.number) ++ t) (owed_after listed feed (p.number + 1) (before ++ passed p ∷ []) moves fed (pass_agrees listed feed before p at here) rest)
-    ∙ ap (λ (b : List Step). owed_moments_of listed feed (steps_of before) (pass p.number) ++ owed_moments_after listed feed b (steps_of moves)) (steps_of-push before (passed p))
-owed_after listed feed next before (jumped from to snapshots ∷ moves) fed agrees (is, later) =
-    ap (λ (t : List Moment). leapt from to ∷ t) (owed_after listed feed to (before ++ jumped from to snapshots ∷ []) moves fed (jump_agrees listed feed before from to snapshots fed is) later)
-    ∙ ap (λ (b : List Step). leapt from to ∷ owed_moments_after listed feed b (steps_of moves)) (steps_of-push before (jumped from to snapshots))
+    ap (λ (t : List Moment). t ++ moments_on listed (standing_through listed sh (passed p)) moves) (pass_owed feed fs sh p fed at here)
+    ∙ ap (λ (t : List Moment). owed_moments_of feed fs (pass p.number) ++ t) (owed_on listed feed (p.number + 1) fs (standing_through listed sh (passed p)) moves fed (pass_agrees listed feed fs sh p at here) rest)
+owed_on listed feed next fs sh (jumped from to snapshots ∷ moves) fed agrees (is, later) =
+    ap (λ (t : List Moment). leapt from to ∷ t)
+    (owed_on listed feed to (footings_at_jump listed (lasts snapshots)) (standing_through listed sh (jumped from to snapshots)) moves fed
+    (record { starts = jump_starts feed to listed snapshots is; same = jump_same feed to listed snapshots fed is }) later)
 
 pub law_of_owed_moments : LawOfOwedMoments
 law_of_owed_moments listed feed moves fed are =
-    owed_after listed feed 1 [] moves fed (record { starts = start_starts feed listed; same = start_same (starts_before_jump listed) }) are
+    owed_on listed feed 1 (footings_before_jump listed) (standing_after listed []) moves fed (record { starts = start_starts feed listed; same = start_same (starts_before_jump listed) }) are

@@ -13,9 +13,8 @@ use Rattle.mdp_arbiter.specs.Machine.{Move}
 use Rattle.mdp_arbiter.specs.Machine.Move.{passed, jumped}
 use Rattle.mdp_arbiter.specs.Channel.{ids_of}
 use Rattle.mdp_desks.specs.Shown.{Start, Standing, standing_after, starts_at_jump, starts_before_jump, standing_through, start_seen}
-use Rattle.mdp_desks.proofs.Showing.{standing_after-push}
 use Rattle.mdp_desks.specs.Lines.{Seen, lines_as}
-use Rattle.mdp_desks.specs.Moments.{Moment, ended, moment_at, moments_from, moments_after, text_of_moments, moment_text}
+use Rattle.mdp_desks.specs.Moments.{Moment, ended, moment_at, moments_from, moments_on, text_of_moments, moment_text}
 use Rattle.mdp_desks.specs.Reports.{Told, told_from}
 use Rattle.mdp_engine.specs.Rounds.{kept_after, kept_at_start, told_text, round_of, round_text, kept_after_round, text_from}
 use Rattle.mdp_engine.specs.RoundLaws.{Ascend, LawOfWorkers}
@@ -165,31 +164,28 @@ record Ready (listed : List Instrument) (next : ℕ) (s : Standing) (kept : List
   late : UpTo next s.since
   stand : Stand listed s.since s.starts kept
 
-by_moves : (n : ℕ) (listed : List Instrument) (next : ℕ) (before moves : List Move) (kept : List (Option Best)) → AllPairs (λ a b. a ≢ b) (ids_of listed) → Ascend listed next moves → Ready listed next (standing_after listed before) kept
-    → rest_text n listed (moments_after listed before moves) kept ≡ text_of_moments (moments_after listed before moves)
-by_moves n listed next before [] kept differ ascend ready = refl
-by_moves n listed next before (passed packet ∷ moves) kept differ ascend ready =
-    let s : Standing = standing_after listed before in
+by_moves : (n : ℕ) (listed : List Instrument) (next : ℕ) (s : Standing) (moves : List Move) (kept : List (Option Best)) → AllPairs (λ a b. a ≢ b) (ids_of listed) → Ascend listed next moves → Ready listed next s kept
+    → rest_text n listed (moments_on listed s moves) kept ≡ text_of_moments (moments_on listed s moves)
+by_moves n listed next s [] kept differ ascend ready = refl
+by_moves n listed next s (passed packet ∷ moves) kept differ ascend ready =
     let same : packet.number ≡ next = ascend.0 in
     let are : Are next (sent_in packet) = subst (λ (k : ℕ). Are k (sent_in packet)) same (are_from packet.number 1 packet.messages) in
+    let here = moments_from s.starts s.since (sent_in packet) in
+    let later = moments_on listed (standing_through listed s (passed packet)) moves in
     let behind : Ready listed (next + 1) (standing_through listed s (passed packet)) (kept_passed s.starts s.since (sent_in packet) kept) = record {
       late = up_to-less next (next + 1) (s.since ++ sent_in packet) (omega arith) (up_to-append next s.since (sent_in packet) ready.late are);
       stand = stand_passed listed s.starts s.since (sent_in packet) kept ready.stand;
     } in
-    all_messages n next listed s.starts s.since (sent_in packet) kept (moments_after listed (before ++ passed packet ∷ []) moves) ascend.1 are ready.late differ ready.stand
-    ∙ ap (λ (t : List ℕ). text_of_moments (moments_from s.starts s.since (sent_in packet)) ++ t)
-    (by_moves n listed (next + 1) (before ++ passed packet ∷ []) moves (kept_passed s.starts s.since (sent_in packet) kept) differ ascend.2
-    (subst (λ (z : Standing). Ready listed (next + 1) z (kept_passed s.starts s.since (sent_in packet) kept)) (sym (standing_after-push listed before (passed packet))) behind))
-    ∙ sym (flat_map-append moment_text (moments_from s.starts s.since (sent_in packet)) (moments_after listed (before ++ passed packet ∷ []) moves))
-by_moves n listed next before (jumped old new ss ∷ moves) kept differ ascend ready =
-    let s : Standing = standing_after listed before in
+    all_messages n next listed s.starts s.since (sent_in packet) kept later ascend.1 are ready.late differ ready.stand
+    ∙ ap (λ (t : List ℕ). text_of_moments here ++ t)
+    (by_moves n listed (next + 1) (standing_through listed s (passed packet)) moves (kept_passed s.starts s.since (sent_in packet) kept) differ ascend.2 behind)
+    ∙ sym (flat_map-append moment_text here later)
+by_moves n listed next s (jumped old new ss ∷ moves) kept differ ascend ready =
     let behind : Ready listed new (standing_through listed s (jumped old new ss)) (map (λ _. None) kept) = record {
       late = tt;
       stand = record { footed = jump_footed listed ss ascend.0; rooted = jump_rooted listed ss; kept_are = jump_kept listed ss kept ascend.0 (kept_long listed s.since s.starts kept ready.stand) };
     } in
-    ap (λ (t : List ℕ). jump_line old new ++ t)
-    (by_moves n listed new (before ++ jumped old new ss ∷ []) moves (map (λ _. None) kept) differ ascend.1
-    (subst (λ (z : Standing). Ready listed new z (map (λ _. None) kept)) (sym (standing_after-push listed before (jumped old new ss))) behind))
+    ap (λ (t : List ℕ). jump_line old new ++ t) (by_moves n listed new (standing_through listed s (jumped old new ss)) moves (map (λ _. None) kept) differ ascend.1 behind)
 
 opening_footed : (listed : List Instrument) → map (λ (i : Start). i.instrument) (starts_before_jump listed) ≡ listed
 opening_footed [] = refl
@@ -206,5 +202,5 @@ opening_kept (i ∷ is) = (record { waits = λ jumped none. absurd cc; stays = �
 pub law_of_workers : LawOfWorkers
 law_of_workers zero listed moves some differ ascend = absurd (omega (arith, some))
 law_of_workers (suc n) listed moves some differ ascend =
-    by_moves n listed 1 [] moves (kept_at_start listed) differ ascend
+    by_moves n listed 1 (standing_after listed []) moves (kept_at_start listed) differ ascend
     (record { late = tt; stand = record { footed = opening_footed listed; rooted = opening_rooted listed; kept_are = opening_kept listed } })

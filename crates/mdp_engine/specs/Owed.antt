@@ -1,6 +1,6 @@
 -- Which moments a run owes, read off the complete feed: at each event end what it shows of each listed security, and each jump;
 -- and the lines of these.
-use Rattle.std.specs.Prelude.{ℕ, ◌-◌, List, [], ◌∷◌, ◌++◌, Bool, true, false, ◌&&◌, if◌then◌else◌, fold, map, take, drop, nat_lt, Option, Some, None}
+use Rattle.std.specs.Prelude.{ℕ, ◌-◌, List, [], ◌∷◌, ◌++◌, Bool, true, false, ◌&&◌, if◌then◌else◌, map, take, drop, nat_lt, Option, Some, None}
 use Rattle.mdp_templates.specs.Packet.{PacketContent}
 use Rattle.mdp_templates.specs.Snapshot.{SnapshotContent}
 use Rattle.mdp_templates.specs.declared.instrument.Instrument.{Instrument}
@@ -34,10 +34,6 @@ abbrev pub footings_through : List Instrument → List Footing → Step → List
 footings_through listed so_far (pass k) = so_far
 footings_through listed so_far (jump old new bases) = footings_at_jump listed bases
 
--- each listed security's base after these steps
-abbrev pub footings : List Instrument → List Step → List Footing
-footings listed steps = fold (footings_through listed) (footings_before_jump listed) steps
-
 -- What message m, which comes after the messages `before`, shows of a security, which hears what stands behind its base:
 -- none where m ends no event, or doesn't stand behind that base.
 abbrev pub seen_at : List Sent → Sent → Footing → Option Seen
@@ -47,18 +43,18 @@ seen_at before m i = if m.end && nat_lt i.base m.packet then Some (record { inst
 abbrev pub owed_moments_from : List Footing → List Sent → List Sent → List Moment
 owed_moments_from fs before ms = moments_through (λ m so_far. map (seen_at so_far m) fs) and_then before ms
 
--- those of a step that comes after these ones
-abbrev pub owed_moments_of : List Instrument → List PacketContent → List Step → Step → List Moment
-owed_moments_of listed feed before (pass k) = owed_moments_from (footings listed before) (sent_by (take (k - 1) feed)) (sent_by (take 1 (drop (k - 1) feed)))
-owed_moments_of listed feed before (jump old new bases) = leapt old new ∷ []
+-- those of a step, and of steps one after another, where the listed securities have these bases
+abbrev pub owed_moments_of : List PacketContent → List Footing → Step → List Moment
+owed_moments_of feed fs (pass k) = owed_moments_from fs (sent_by (take (k - 1) feed)) (sent_by (take 1 (drop (k - 1) feed)))
+owed_moments_of feed fs (jump old new bases) = leapt old new ∷ []
 
-abbrev pub owed_moments_after : List Instrument → List PacketContent → List Step → List Step → List Moment
-owed_moments_after listed feed before [] = []
-owed_moments_after listed feed before (s ∷ steps) = owed_moments_of listed feed before s ++ owed_moments_after listed feed (before ++ s ∷ []) steps
+abbrev pub owed_moments_on : List Instrument → List PacketContent → List Footing → List Step → List Moment
+owed_moments_on listed feed fs [] = []
+owed_moments_on listed feed fs (s ∷ steps) = owed_moments_of feed fs s ++ owed_moments_on listed feed (footings_through listed fs s) steps
 
 -- the moments that these steps owe under a complete feed
 abbrev pub owed_moments : List Instrument → List PacketContent → List Step → List Moment
-owed_moments listed feed steps = owed_moments_after listed feed [] steps
+owed_moments listed feed steps = owed_moments_on listed feed (footings_before_jump listed) steps
 
 -- and the lines
 abbrev pub lines : List Instrument → List PacketContent → List Step → List ℕ
