@@ -1,8 +1,7 @@
 //! The lines of calendar spreads where an event ends.
 
-ghost use Rattle.std.specs.Prelude.{◌≡◌, ◌++◌, ◌&&◌, ◌||◌, nat_lt, map, length, OnOk};
+ghost use Rattle.std.specs.Prelude.{◌≡◌, ◌++◌, ◌&&◌, ◌||◌, false, get_or, nat_lt, map, length, OnOk};
 ghost use Rattle.std.specs.List.{flat_map};
-ghost use Rattle.mdp_quotes.specs.Best.{best_of};
 ghost use Rattle.mdp_desks.specs.Desks.{desk_standing};
 ghost use Rattle.mdp_engine.specs.Spreads.{spread_line};
 ghost use Rattle.mdp_desks.specs.Lines.{verdicts_text, spread_text, audit_text};
@@ -11,32 +10,43 @@ ghost use Rattle.mdp_engine.specs.Parts.{AreQuiet};
 ghost use Rattle.mdp_engine.specs.Spreads.{AreSpreadsOf, IsUnder};
 
 use crate::spreads::Spread;
-use mdp_books::Book;
 use mdp_desks::{Desk, Marked};
 use mdp_print::put_audit;
 use mdp_quotes::{Best, audit};
 use mdp_templates::{Memory, Name};
 use std::alloc::Allocator;
 
-// Appends the verdicts of a spread's book against its legs', unless one of the three is a fault.
-fn put_verdicts<A: Allocator>(
+/// Appends the verdicts of a spread against its legs, unless one of the three has no best levels.
+pub fn put_verdicts<A: Allocator>(
     out: &mut Vec<u8, A>,
     packet: u32,
     message: u64,
     name: &Name,
-    spread: &Book,
-    leg1: &Book,
-    leg2: &Book,
+    spread: Option<Best>,
+    leg1: Option<Best>,
+    leg2: Option<Best>,
 ) -> Result<(), Memory>
-    ensures { OnOk result (out.new.items ≡ out.old.items ++ verdicts_text packet message name.now (best_of spread.now) (best_of leg1.now) (best_of leg2.now)) }
+    ensures { OnOk result (out.new.items ≡ out.old.items ++ verdicts_text packet message name.now spread leg1 leg2) }
 {
-    match (Best::of(spread), Best::of(leg1), Best::of(leg2)) {
+    match (spread, leg1, leg2) {
         (Some(spread), Some(leg1), Some(leg2)) => {
             let [bid, offer] = audit(&spread, &leg1, &leg2);
             put_audit(out, packet, message, name, bid, offer)
         }
         _ => Ok(()),
     }
+}
+
+/// Tells whether one of the marks of a spread and its legs is set.
+pub fn is_one_marked<A: Allocator>(marked: &Marked<A>, spread: &Spread) -> bool
+    requires { IsUnder (length marked.now) spread.now }
+    ensures { result ≡ (get_or marked.now spread.now.slot false || get_or marked.now spread.now.leg1 false || get_or marked.now spread.now.leg2 false) }
+{
+    is_one_set(
+        marked.is_set(spread.slot),
+        marked.is_set(spread.leg1),
+        marked.is_set(spread.leg2),
+    )
 }
 
 // Tells whether one of three marks is set.
@@ -79,9 +89,9 @@ fn put_spread<A: Allocator>(
         packet,
         message,
         &spread.instrument.name,
-        spread.book.book(),
-        leg1.book.book(),
-        leg2.book.book(),
+        Best::of(spread.book.book()),
+        Best::of(leg1.book.book()),
+        Best::of(leg2.book.book()),
     )
 }
 

@@ -12,6 +12,7 @@ mod spreads;
 mod tests;
 
 pub use audited_desks::AuditedDesks;
+pub use audits::{is_one_marked, put_verdicts};
 pub use engine::{Engine, replay};
 pub use event::Event;
 pub use laws::{

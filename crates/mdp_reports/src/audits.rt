@@ -1,8 +1,7 @@
 //! The lines of calendar spreads where an event ends, by the best levels that are kept.
 
-ghost use Rattle.std.specs.Prelude.{◌≡◌, ◌++◌, ◌||◌, length, slice_get, OnOk};
+ghost use Rattle.std.specs.Prelude.{◌≡◌, ◌++◌, length, slice_get, OnOk};
 ghost use Rattle.std.specs.List.{flat_map, AllByRecursion};
-ghost use Rattle.mdp_desks.specs.Lines.{verdicts_text};
 ghost use Rattle.mdp_engine.specs.Rounds.{best_kept, name_of};
 ghost use Rattle.mdp_engine.specs.Parts.{AreQuiet};
 ghost use Rattle.mdp_engine.specs.Spreads.{IsUnder};
@@ -10,32 +9,10 @@ ghost use Rattle.mdp_reports.specs.Taking.{marked_line};
 
 use arrayvec::ArrayString;
 use mdp_desks::Marked;
-use mdp_engine::Spread;
-use mdp_print::put_audit;
-use mdp_quotes::{Best, audit};
+use mdp_engine::{Spread, is_one_marked, put_verdicts};
+use mdp_quotes::Best;
 use mdp_templates::{Instrument, Memory, Name};
 use std::alloc::Allocator;
-
-// Appends the verdicts of a spread against its legs, unless one of the three has no best levels.
-fn put_verdicts<A: Allocator>(
-    out: &mut Vec<u8, A>,
-    packet: u32,
-    message: u64,
-    name: &Name,
-    spread: Option<Best>,
-    leg1: Option<Best>,
-    leg2: Option<Best>,
-) -> Result<(), Memory>
-    ensures { OnOk result (out.new.items ≡ out.old.items ++ verdicts_text packet message name.now spread leg1 leg2) }
-{
-    match (spread, leg1, leg2) {
-        (Some(spread), Some(leg1), Some(leg2)) => {
-            let [bid, offer] = audit(&spread, &leg1, &leg2);
-            put_audit(out, packet, message, name, bid, offer)
-        }
-        _ => Ok(()),
-    }
-}
 
 // Gives the best levels that are kept of a slot, if any.
 fn kept_at(kept: &[Option<Best>], slot: usize) -> Option<Best>
@@ -57,13 +34,6 @@ fn name_at(listed: &[Instrument], slot: usize) -> Name
     }
 }
 
-// Tells whether one of three marks is set.
-fn is_one_set(spread: bool, leg1: bool, leg2: bool) -> bool
-    ensures { result ≡ (spread || leg1 || leg2) }
-{
-    spread || leg1 || leg2
-}
-
 // Appends the line of a spread of which one of the three is marked.
 fn put_marked<A: Allocator>(
     out: &mut Vec<u8, A>,
@@ -77,11 +47,7 @@ fn put_marked<A: Allocator>(
     requires { IsUnder (length marks.now) spread.now }
     ensures { OnOk result (out.new.items ≡ out.old.items ++ marked_line packet message listed.now marks.now kept.now spread.now) }
 {
-    if !is_one_set(
-        marks.is_set(spread.slot),
-        marks.is_set(spread.leg1),
-        marks.is_set(spread.leg2),
-    ) {
+    if !is_one_marked(marks, spread) {
         return Ok(());
     }
     put_verdicts(
