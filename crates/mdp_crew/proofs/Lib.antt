@@ -8,6 +8,6 @@ pub mod Working
 pub mod Meeting
 pub mod Sending
 pub mod Sharing
-pub mod Fronts
+pub mod Leaving
 pub mod Together
 pub mod Ending

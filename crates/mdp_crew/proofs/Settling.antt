@@ -6,7 +6,6 @@ use Rattle.std.proofs.lemmas.List.{append-nil}
 use Rattle.mdp_templates.specs.declared.instrument.Instrument.{Instrument}
 use Rattle.mdp_lanes.specs.Boards.{Published}
 use Rattle.mdp_lanes.specs.Queues.{LaneReceiverView, LaneSenderView}
-use Rattle.mdp_lanes.specs.declared.step.Step.{Step}
 use Rattle.mdp_arbiter.specs.Machine.{Move}
 use Rattle.mdp_desks.specs.Moments.{moments_after, moments_by}
 use Rattle.mdp_desks.specs.Reports.{Report, report_of}
@@ -21,9 +20,8 @@ use Rattle.mdp_crew.specs.declared.crew.Post.{Post}
 use Rattle.mdp_crew.specs.declared.order.Order.{Order}
 use Rattle.mdp_crew.specs.declared.stop.Stop.{Stop}
 use Rattle.mdp_crew.specs.declared.worker.WorkerOutcome.{WorkerOutcome}
-use Rattle.mdp_crew.specs.Collecting.{EndsCollecting, HasAll, HasSome, kept_after_batch, steps_of_batches, text_of_batch, text_of_batches}
+use Rattle.mdp_crew.specs.Collecting.{EndsCollecting, HasAll, HasSome, steps_of_batches, text_of_batches}
 use Rattle.mdp_crew.specs.Publishing.{published_on}
-use Rattle.mdp_crew.proofs.Boards.{steps-append}
 use Rattle.mdp_crew.specs.Crew.{AreFresh, AreNumbered, IsFront, IsHired, IsSettled}
 use Rattle.mdp_crew.specs.Orders.{and_sent, orders_of}
 use Rattle.mdp_crew.specs.Rounds.{Wide, all_took, laid, put}
@@ -151,18 +149,6 @@ rounds_same : (listed : List Instrument) (n : ℕ) (before : List Move) (xs : Li
 rounds_same listed n before [] = refl
 rounds_same listed n before (x ∷ xs) = ap (λ (l : List (List (List Report))). map (λ (w : ℕ). report_batch listed n w before x) (numbers_from 0 n) ∷ l) (rounds_same listed n (before ++ x) xs)
 
-rounds-append : (listed : List Instrument) (n : ℕ) (before : List Move) (xs ys : List (List Move)) → rounds_of listed n before (xs ++ ys) ≡ rounds_of listed n before xs ++ rounds_of listed n (before ++ moves_sent xs) ys
-rounds-append listed n before [] ys = ap (λ (b : List Move). rounds_of listed n b ys) (sym (append-nil before))
-rounds-append listed n before (x ∷ xs) ys =
-    ap (λ (l : List (List (List Report))). batch_of n (moments_after listed before x) ∷ l)
-    (rounds-append listed n (before ++ x) xs ys ∙ ap (λ (b : List Move). rounds_of listed n (before ++ x) xs ++ rounds_of listed n b ys) (append_assoc before x (moves_sent xs)))
-
-text_more : (collector : View) (rounds more : List (List (List Report))) → (rest : List ℕ) × (text_of_batches collector (rounds ++ more) ≡ text_of_batches collector rounds ++ rest)
-text_more collector [] more = (text_of_batches collector more, refl)
-text_more collector (r ∷ rounds) more =
-    let later = text_more (kept_after_batch collector r) rounds more in
-    (later.0, ap (λ (l : List ℕ). text_of_batch collector r ++ l) later.1 ∙ sym (append_assoc (text_of_batch collector r) (text_of_batches (kept_after_batch collector r) rounds) later.0))
-
 length-numbers : (first n : ℕ) → length (numbers_from first n) ≡ n
 length-numbers first zero = refl
 length-numbers first (suc n) = ap suc (length-numbers (first + 1) n)
@@ -223,15 +209,11 @@ module _ {A : Type 0} where
       let none : p.later ≡ [] = all_finished listed n n (moves_sent p.first) p.later 0 last is some p.more_are in
       p.rounds_are ∙ rounds_same listed n [] p.first ∙ ap (rounds_of listed n []) (sym (append-nil p.first) ∙ ap (λ (l : List (List Move)). p.first ++ l) (sym none) ∙ sym p.parts)
 
-  -- a beginning of the rounds of all batches
+  -- the rounds are those of the first batches
   rounds_some : (listed : List Instrument) (n : ℕ) (xs : List (List Move)) (rounds : List (List (List Report))) (more : List (List (Answer A))) → 1 ≤ n → Wide n rounds → length more ≡ n
-      → AreFronts listed n [] xs (numbers_from 0 n) (laid rounds more) → (rest : List (List (List Report))) × (rounds_of listed n [] xs ≡ rounds ++ rest)
+      → AreFronts listed n [] xs (numbers_from 0 n) (laid rounds more) → (first : List (List Move)) × (later : List (List Move)) × (xs ≡ first ++ later) × (rounds ≡ rounds_of listed n [] first)
   rounds_some listed n xs rounds more some wide long are =
-      let p = parted_of listed n xs rounds more some wide long are in (
-        rounds_of listed n (moves_sent p.first) p.later,
-        ap (rounds_of listed n []) p.parts ∙ rounds-append listed n [] p.first p.later
-            ∙ ap (λ (l : List (List (List Report))). l ++ rounds_of listed n (moves_sent p.first) p.later) (sym (p.rounds_are ∙ rounds_same listed n [] p.first)),
-      )
+      let p = parted_of listed n xs rounds more some wide long are in (p.first, p.later, p.parts, p.rounds_are ∙ rounds_same listed n [] p.first)
 
   -- ---- what is written once all is settled
 
@@ -258,8 +240,9 @@ module _ {A : Type 0} where
       let long : length (laid has.rounds (replicate n last)) ≡ n = length-laid n has.rounds (replicate n last) (length-nothing n last) wide in
       rounds_all listed n xs has.rounds last refl is.some wide (fronts_all listed n xs ss ps new (laid has.rounds (replicate n last)) is took_is long)
 
-  some_rounds : (listed : List Instrument) (n : ℕ) (xs : List (List Move)) (ss : List (LaneSenderView (Order A))) (ps new : List (Post A)) (collector : View) (taken taken' : List ℕ) (board board' : Option Published)
-      → AllSettled listed n xs ss ps new → (has : HasSome ps new collector taken taken' board board') → (rest : List (List (List Report))) × (rounds_of listed n [] xs ≡ has.rounds ++ rest)
+  pub some_rounds : (listed : List Instrument) (n : ℕ) (xs : List (List Move)) (ss : List (LaneSenderView (Order A))) (ps new : List (Post A)) (collector : View) (taken taken' : List ℕ) (board board' : Option Published)
+      → AllSettled listed n xs ss ps new → (has : HasSome ps new collector taken taken' board board')
+      → (first : List (List Move)) × (later : List (List Move)) × (xs ≡ first ++ later) × (has.rounds ≡ rounds_of listed n [] first)
   some_rounds listed n xs ss ps new collector taken taken' board board' is has =
       let wide : Wide n has.rounds = subst (λ (k : ℕ). Wide k has.rounds) is.many has.wide in
       let long : length (laid has.rounds has.more) ≡ n = length-laid n has.rounds has.more (has.long ∙ is.many) wide in
@@ -274,22 +257,6 @@ module _ {A : Type 0} where
       → AllSettled listed n xs ss ps new → HasAll ps new collector taken taken' board board' → board' ≡ published_on board (steps_of_batches (rounds_of listed n [] xs))
   all_published listed n xs ss ps new collector taken taken' board board' is has =
       has.steps ∙ ap (λ (l : List (List (List Report))). published_on board (steps_of_batches l)) (all_rounds listed n xs ss ps new collector taken taken' board board' is has)
-
-  pub some_written : (listed : List Instrument) (n : ℕ) (xs : List (List Move)) (ss : List (LaneSenderView (Order A))) (ps new : List (Post A)) (collector : View) (taken taken' : List ℕ) (board board' : Option Published)
-      → AllSettled listed n xs ss ps new → HasSome ps new collector taken taken' board board'
-      → (sent : List ℕ) × (rest : List ℕ) × (taken' ≡ taken ++ sent) × (text_of_batches collector (rounds_of listed n [] xs) ≡ sent ++ rest)
-  some_written listed n xs ss ps new collector taken taken' board board' is has =
-      let front = some_rounds listed n xs ss ps new collector taken taken' board board' is has in
-      let more = text_more collector has.rounds front.0 in
-      (has.sent, has.rest ++ more.0, has.text, ap (text_of_batches collector) front.1 ∙ more.1 ∙ ap (λ (l : List ℕ). l ++ more.0) has.whole ∙ append_assoc has.sent has.rest more.0)
-
-  pub some_published : (listed : List Instrument) (n : ℕ) (xs : List (List Move)) (ss : List (LaneSenderView (Order A))) (ps new : List (Post A)) (collector : View) (taken taken' : List ℕ) (board board' : Option Published)
-      → AllSettled listed n xs ss ps new → HasSome ps new collector taken taken' board board'
-      → (shown : List Step) × (rest : List Step) × (board' ≡ published_on board shown) × (steps_of_batches (rounds_of listed n [] xs) ≡ shown ++ rest)
-  some_published listed n xs ss ps new collector taken taken' board board' is has =
-      let front = some_rounds listed n xs ss ps new collector taken taken' board board' is has in
-      let more = steps_of_batches front.0 in
-      (has.shown, has.hidden ++ more, has.steps, ap steps_of_batches front.1 ∙ steps-append has.rounds front.0 ∙ ap (λ (l : List Step). l ++ more) has.all_steps ∙ append_assoc has.shown has.hidden more)
 
   -- ---- a slice that is written back
 

@@ -6,8 +6,9 @@ use Rattle.mdp_lanes.specs.Boards.{Published}
 use Rattle.mdp_lanes.specs.Queues.{LaneReceiverView}
 use Rattle.mdp_lanes.specs.declared.step.Step.{Step}
 use Rattle.mdp_crew.specs.Rounds.{took, all_took, put, laid, one_each, Wide, all_tell, all_finish}
-use Rattle.mdp_crew.specs.Collecting.{text_of_batch, kept_after_batch, text_of_batches, steps_of_batch, steps_of_batches, CutShort, TakesOne, HasAll, HasSome, EndsCollecting, IsCollecting}
+use Rattle.mdp_crew.specs.Collecting.{text_of_batch, kept_after_batch, text_of_batches, steps_of_batch, steps_of_batches, CutShort, IsCut, TakesOne, HasAll, HasSome, EndsCollecting, IsCollecting}
 use Rattle.mdp_crew.specs.Collecting.CutShort.{in_text, in_steps}
+use Rattle.mdp_crew.specs.Collecting.IsCut.{among_steps, in_last}
 use Rattle.mdp_crew.specs.Publishing.{published_on}
 use Rattle.mdp_crew.proofs.Boards.{published_nothing, published_more, steps-append, steps-push}
 use Rattle.mdp_desks.specs.Reports.{Report}
@@ -176,21 +177,13 @@ module _ {A : Type 0} where
         more = joined (one_each answers) more;
         long = length-joined (one_each answers) more ∙ first;
         took_is = drained ∙ ap (λ (l : List (Post A)). all_took l more) took_is ∙ took_took old (one_each answers) more first;
-        sent = [];
-        rest = [];
-        text = sym (append-nil taken);
-        whole = refl;
-        shown = [];
-        hidden = [];
-        steps = published_nothing board;
-        all_steps = refl;
+        out = among_steps [] [] refl (sym (append-nil taken)) (published_nothing board);
       }
 
-  turned_short : (old now new : List (Post A)) (answers : List (Answer A)) (more : List (List (Answer A))) (state : View) (taken taken' : List ℕ) (board board' : Option Published) (sent rest : List ℕ) (shown hidden : List Step)
+  turned_short : (old now new : List (Post A)) (answers : List (Answer A)) (more : List (List (Answer A))) (state : View) (taken taken' : List ℕ) (board board' : Option Published)
       → length answers ≡ length old → all_tell answers ≡ true → now ≡ all_took old (one_each answers) → length more ≡ length now → new ≡ all_took now more
-      → taken' ≡ taken ++ sent → text_of_batch state (map told_in_answer answers) ≡ sent ++ rest → board' ≡ published_on board shown → steps_of_batch (map told_in_answer answers) ≡ shown ++ hidden
-      → HasSome old new state taken taken' board board'
-  turned_short old now new answers more state taken taken' board board' sent rest shown hidden long is took_is many drained text whole steps all_steps =
+      → IsCut state (map told_in_answer answers ∷ []) taken taken' board board' → HasSome old new state taken taken' board board'
+  turned_short old now new answers more state taken taken' board board' long is took_is many drained out =
       let same : length more ≡ length old = many ∙ ap length took_is ∙ length-took old (one_each answers) in
       let wide : Wide (length old) (map told_in_answer answers ∷ []) = (told_wide answers is ∙ long, tt) in
       record {
@@ -199,27 +192,21 @@ module _ {A : Type 0} where
         more = more;
         long = same;
         took_is = then_took old now new (map told_in_answer answers ∷ []) [] more wide tt same (took_is ∙ ap (all_took old) (told_laid answers (length old) long is)) drained;
-        sent = sent;
-        rest = rest;
-        text = text;
-        whole = append-nil (text_of_batch state (map told_in_answer answers)) ∙ whole;
-        shown = shown;
-        hidden = hidden;
-        steps = steps;
-        all_steps = sym (steps-push [] (map told_in_answer answers)) ∙ all_steps;
+        out = out;
       }
 
   pub turned_unwritten : (old now new : List (Post A)) (answers : List (Answer A)) (more : List (List (Answer A))) (state : View) (taken taken' : List ℕ) (board board' : Option Published) → length answers ≡ length old → all_tell answers ≡ true → now ≡ all_took old (one_each answers)
       → length more ≡ length now → new ≡ all_took now more → CutShort state (map told_in_answer answers) taken taken' board board' → HasSome old new state taken taken' board board'
   turned_unwritten old now new answers more state taken taken' board board' long is took_is many drained (in_text n text same) =
-      let whole = text_of_batch state (map told_in_answer answers) in
-      turned_short old now new answers more state taken taken' board board' (take n whole) (drop n whole) [] (steps_of_batch (map told_in_answer answers)) long is took_is many drained
-      text (sym (take-append-drop n whole)) (same ∙ published_nothing board) refl
+      let round = map told_in_answer answers in
+      let whole = text_of_batch state round in
+      turned_short old now new answers more state taken taken' board board' long is took_is many drained
+      (in_last [] round (take n whole) (drop n whole) refl (append-nil whole ∙ sym (take-append-drop n whole)) text (same ∙ published_nothing board))
   turned_unwritten old now new answers more state taken taken' board board' long is took_is many drained (in_steps n text steps) =
-      let whole = text_of_batch state (map told_in_answer answers) in
-      let all = steps_of_batch (map told_in_answer answers) in
-      turned_short old now new answers more state taken taken' board board' whole [] (take n all) (drop n all) long is took_is many drained
-      text (sym (append-nil whole)) steps (sym (take-append-drop n all))
+      let round = map told_in_answer answers in
+      let all = steps_of_batch round in
+      turned_short old now new answers more state taken taken' board board' long is took_is many drained
+      (among_steps (take n all) (drop n all) (sym (steps-push [] round) ∙ sym (take-append-drop n all)) (text ∙ ap (λ (t : List ℕ). taken ++ t) (sym (append-nil (text_of_batch state round)))) steps)
 
   -- ---- all turns
 
@@ -281,6 +268,27 @@ module _ {A : Type 0} where
             ∙ ap (published_on board) (sym (steps-append so_far.rounds last.rounds));
       }
 
+  -- what went out of these rounds, all of which went out, and of more
+  cut_on : (state state' : View) (rounds more : List (List (List Report))) (taken taken' taken'' : List ℕ) (board board' board'' : Option Published)
+      → ((later : List (List (List Report))) → text_of_batches state (rounds ++ later) ≡ text_of_batches state rounds ++ text_of_batches state' later)
+      → taken' ≡ taken ++ text_of_batches state rounds → board' ≡ published_on board (steps_of_batches rounds)
+      → IsCut state' more taken' taken'' board' board'' → IsCut state (rounds ++ more) taken taken'' board board''
+  cut_on state state' rounds more taken taken' taken'' board board' board'' rest text steps (among_steps shown hidden all went published) =
+      let first = text_of_batches state rounds in
+      among_steps (steps_of_batches rounds ++ shown) hidden
+      (steps-append rounds more ∙ ap (λ (l : List Step). steps_of_batches rounds ++ l) all ∙ sym (append_assoc (steps_of_batches rounds) shown hidden))
+      (went ∙ ap (λ (t : List ℕ). t ++ text_of_batches state' more) text ∙ append_assoc taken first (text_of_batches state' more) ∙ ap (λ (t : List ℕ). taken ++ t) (sym (rest more)))
+      (published_more board board' board'' (steps_of_batches rounds) shown steps published)
+  cut_on state state' rounds more taken taken' taken'' board board' board'' rest text steps (in_last done round sent left parts whole went published) =
+      let first = text_of_batches state rounds in
+      let next = text_of_batches state' done in
+      in_last (rounds ++ done) round sent left
+      (ap (λ (l : List (List (List Report))). rounds ++ l) parts ∙ sym (append_assoc rounds done (round ∷ [])))
+      (rest more ∙ ap (λ (t : List ℕ). first ++ t) whole ∙ sym (append_assoc first next (sent ++ left)) ∙ ap (λ (t : List ℕ). t ++ (sent ++ left)) (sym (rest done)))
+      (went ∙ ap (λ (t : List ℕ). t ++ (next ++ sent)) text ∙ append_assoc taken first (next ++ sent)
+      ∙ ap (λ (t : List ℕ). taken ++ t) (sym (append_assoc first next sent) ∙ ap (λ (t : List ℕ). t ++ sent) (sym (rest done))))
+      (published_more board board' board'' (steps_of_batches rounds) (steps_of_batches done) steps published ∙ ap (published_on board) (sym (steps-append rounds done)))
+
   ended_some : (old now new : List (Post A)) (state state' : View) (taken taken' taken'' : List ℕ) (board board' board'' : Option Published) → HasSome now new state' taken' taken'' board' board'' → IsCollecting old now state state' taken taken' board board' → HasSome old new state taken taken'' board board''
   ended_some old now new state state' taken taken' taken'' board board' board'' last so_far =
       let long : length now ≡ length old = same_long old now so_far.rounds so_far.took_is in
@@ -291,16 +299,7 @@ module _ {A : Type 0} where
         more = last.more;
         long = last.long ∙ long;
         took_is = then_took old now new so_far.rounds last.rounds last.more so_far.wide wide (last.long ∙ long) so_far.took_is last.took_is;
-        sent = text_of_batches state so_far.rounds ++ last.sent;
-        rest = last.rest;
-        text = last.text ∙ ap (λ (t : List ℕ). t ++ last.sent) so_far.text ∙ append_assoc taken (text_of_batches state so_far.rounds) last.sent;
-        whole = so_far.rest last.rounds ∙ ap (λ (t : List ℕ). text_of_batches state so_far.rounds ++ t) last.whole ∙ sym (append_assoc (text_of_batches state so_far.rounds) last.sent last.rest);
-        shown = steps_of_batches so_far.rounds ++ last.shown;
-        hidden = last.hidden;
-        steps = published_more board board' board'' (steps_of_batches so_far.rounds) last.shown so_far.steps last.steps;
-        all_steps =
-            steps-append so_far.rounds last.rounds ∙ ap (λ (l : List Step). steps_of_batches so_far.rounds ++ l) last.all_steps
-            ∙ sym (append_assoc (steps_of_batches so_far.rounds) last.shown last.hidden);
+        out = cut_on state state' so_far.rounds last.rounds taken taken' taken'' board board' board'' so_far.rest so_far.text so_far.steps last.out;
       }
 
   pub ended : (old now new : List (Post A)) (state state' : View) (taken taken' taken'' : List ℕ) (board board' board'' : Option Published) (outcome : Result (Unit {0}) Stop) → EndsCollecting now new state' taken' taken'' board' board'' outcome → IsCollecting old now state state' taken taken' board board' → EndsCollecting old new state taken taken'' board board'' outcome

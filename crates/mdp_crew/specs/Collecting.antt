@@ -53,21 +53,24 @@ pub record HasAll {A : Type 0} (old new : List (Post A)) (collector : View) (tak
   pub text : taken' ≡ taken ++ text_of_batches collector rounds
   pub steps : board' ≡ published_on board (steps_of_batches rounds)
 
--- rounds were taken, and then this and that; a beginning of the rounds' text was written, and a beginning of their steps published
+-- What went out of these rounds: the text of all, and of their steps a beginning; or text and steps of all but the last, and of the last
+-- one's text a beginning.
+pub data IsCut (collector : View) (rounds : List (List (List Report))) (taken taken' : List ℕ) (board board' : Option Published) : Type 0 where
+  among_steps : (shown hidden : List Step) → steps_of_batches rounds ≡ shown ++ hidden → taken' ≡ taken ++ text_of_batches collector rounds
+      → board' ≡ published_on board shown → IsCut collector rounds taken taken' board board'
+  in_last : (done : List (List (List Report))) (round : List (List Report)) (sent rest : List ℕ) → rounds ≡ done ++ round ∷ []
+      → text_of_batches collector rounds ≡ text_of_batches collector done ++ (sent ++ rest)
+      → taken' ≡ taken ++ (text_of_batches collector done ++ sent) → board' ≡ published_on board (steps_of_batches done)
+      → IsCut collector rounds taken taken' board board'
+
+-- rounds were taken, of which so much went out, and then this and that
 pub record HasSome {A : Type 0} (old new : List (Post A)) (collector : View) (taken taken' : List ℕ) (board board' : Option Published) : Type 0 where
   pub rounds : List (List (List Report))
   pub wide : Wide (length old) rounds
   pub more : List (List (Answer A))
   pub long : length more ≡ length old
   pub took_is : new ≡ all_took old (laid rounds more)
-  pub sent : List ℕ
-  pub rest : List ℕ
-  pub text : taken' ≡ taken ++ sent
-  pub whole : text_of_batches collector rounds ≡ sent ++ rest
-  pub shown : List Step
-  pub hidden : List Step
-  pub steps : board' ≡ published_on board shown
-  pub all_steps : steps_of_batches rounds ≡ shown ++ hidden
+  pub out : IsCut collector rounds taken taken' board board'
 
 -- the collector has come to its end
 abbrev pub EndsCollecting : {A : Type 0} → List (Post A) → List (Post A) → View → List ℕ → List ℕ → Option Published → Option Published → Result (Unit {0}) Stop → Type 0

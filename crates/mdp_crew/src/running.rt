@@ -11,7 +11,7 @@ ghost use Rattle.mdp_templates.specs.declared.instrument.Instrument.{Instrument}
 ghost use Rattle.mdp_arbiter.specs.declared.start.Start.{Start};
 ghost use Rattle.mdp_crew.specs.Batches.{HasTakenMore, events_taken};
 ghost use Rattle.mdp_crew.specs.Counted.{HasCounted};
-ghost use Rattle.mdp_crew.specs.Running.{HasPublished, HasShown, outcome_of};
+ghost use Rattle.mdp_crew.specs.Running.{HasShown, outcome_of};
 ghost use Rattle.mdp_crew.specs.Ready.{IsReady};
 ghost use Rattle.mdp_crew.specs.Stops.{FailsByStop};
 
@@ -226,8 +226,7 @@ where
     ensures takes { HasTakenMore receiver result.receiver }
     ensures ends { ends_taken (λ b. b.is_last) result.receiver.taken ≡ 3 }
     ensures shows { HasShown listed.now window start (events_taken result.receiver.taken)
-        (W.taken writer.old) (W.taken writer.new) result.standing }
-    ensures publishes { HasPublished listed.now window start (events_taken result.receiver.taken) board.old board.new result.standing }
+        (W.taken writer.old) (W.taken writer.new) board.old board.new result.standing }
     ensures counts { HasCounted (W.taken writer.old) (W.taken writer.new) result.written }
     ensures failed { FailsByStop result.standing (W.failed writer.old) (W.failed writer.new) }
 {
@@ -281,7 +280,7 @@ where
 /// # Errors
 ///
 /// `Output` exactly where a write failed, else `Memory`, also where a worker's thread can't be started. What went out is a beginning of
-/// what the whole run shows, and what was published a beginning of its steps.
+/// what the whole run shows, and what was published the steps of a beginning of that whose text went out whole.
 pub fn run_crew<'s, E, R, S, G, W, A>(
     rt: &'s R,
     scope: &'s Scope<'s, E>,
@@ -313,8 +312,7 @@ where
     ensures takes { HasTakenMore receiver result.receiver }
     ensures ends { ends_taken (λ b. b.is_last) result.receiver.taken ≡ 3 }
     ensures shows { HasShown listed.now window start (events_taken result.receiver.taken)
-        (W.taken writer.old) (W.taken writer.new) result.standing }
-    ensures publishes { HasPublished listed.now window start (events_taken result.receiver.taken) board.old board.new result.standing }
+        (W.taken writer.old) (W.taken writer.new) board.old board.new result.standing }
     ensures counts { HasCounted (W.taken writer.old) (W.taken writer.new) result.written }
     ensures failed { FailsByStop result.standing (W.failed writer.old) (W.failed writer.new) }
 {

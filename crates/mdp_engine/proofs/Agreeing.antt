@@ -56,7 +56,7 @@ front_more feed p at =
 
 -- ---- securities that hear the same of two lists of messages print the same
 
-abbrev SameHeard : List Sent → List Sent → Start → Type 0
+abbrev pub SameHeard : List Sent → List Sent → Start → Type 0
 SameHeard a b i = behind i.base a ≡ behind i.base b
 
 abbrev seen_as : Instrument → Bool → Book → Option Seen
@@ -82,14 +82,14 @@ same_more a b more (i ∷ starts) is = (heard_more a b more i is.0, same_more a 
 
 -- ---- what the moves show, and the front of the feed below `next`
 
-record Agrees (feed : List PacketContent) (next : ℕ) (fs : List Footing) (sh : Standing) : Type 0 where
+pub record Agrees (feed : List PacketContent) (next : ℕ) (fs : List Footing) (sh : Standing) : Type 0 where
   pub starts : sh.starts ≡ map (start_of feed) fs
   pub same : AllByRecursion (SameHeard sh.since (sent_by (take (next - 1) feed))) sh.starts
 
-abbrev AllJumped : List PacketContent → ℕ → List Instrument → List SnapshotContent → Type 0
+abbrev pub AllJumped : List PacketContent → ℕ → List Instrument → List SnapshotContent → Type 0
 AllJumped feed to listed snapshots = AllZip (λ (i : Instrument) (s : SnapshotContent). IsJumpedTo feed to i s) listed snapshots
 
-abbrev lasts : List SnapshotContent → List ℕ
+abbrev pub lasts : List SnapshotContent → List ℕ
 lasts snapshots = map (λ (s : SnapshotContent). s.last) snapshots
 
 jump_starts : (feed : List PacketContent) (to : ℕ) (listed : List Instrument) (snapshots : List SnapshotContent) → AllJumped feed to listed snapshots → starts_at_jump listed snapshots ≡ map (start_of feed) (footings_at_jump listed (lasts snapshots))
@@ -144,13 +144,20 @@ pass_owed feed fs sh p fed at agrees =
     ∙ same_moments (λ (m : Sent). m.packet ≡ k) (HearAlike feed fs k) (λ m since. map (start_seen since m) (map (start_of feed) fs)) and_then (λ m before. map (seen_at before m) fs) and_then (alike feed fs k) sh.since front (sent_in p) (of_packet k 1 p.messages) both
     ∙ ap (owed_moments_from fs front) (sym here)
 
-pass_agrees : (listed : List Instrument) (feed : List PacketContent) (fs : List Footing) (sh : Standing) (p : PacketContent) → IsIn feed p → Agrees feed p.number fs sh → Agrees feed (p.number + 1) fs (standing_through listed sh (passed p))
+pub pass_agrees : (listed : List Instrument) (feed : List PacketContent) (fs : List Footing) (sh : Standing) (p : PacketContent) → IsIn feed p → Agrees feed p.number fs sh → Agrees feed (p.number + 1) fs (standing_through listed sh (passed p))
 pass_agrees listed feed fs sh p at agrees = record {
   starts = agrees.starts;
   same =
       subst (λ (b : List Sent). AllByRecursion (SameHeard (sh.since ++ sent_in p) b) sh.starts) (sym (front_more feed p at))
       (same_more sh.since (sent_by (take (p.number - 1) feed)) (sent_in p) sh.starts agrees.same);
 }
+
+pub jump_agrees : (listed : List Instrument) (feed : List PacketContent) (to : ℕ) (snapshots : List SnapshotContent) → IsFeed feed → AllJumped feed to listed snapshots → Agrees feed to (footings_at_jump listed (lasts snapshots)) (record { starts = starts_at_jump listed snapshots; since = [] })
+jump_agrees listed feed to snapshots fed is = record { starts = jump_starts feed to listed snapshots is; same = jump_same feed to listed snapshots fed is }
+
+-- before any move
+pub agrees_at_first : (feed : List PacketContent) (listed : List Instrument) → Agrees feed 1 (footings_before_jump listed) (standing_after listed [])
+agrees_at_first feed listed = record { starts = start_starts feed listed; same = start_same (starts_before_jump listed) }
 
 owed_on : (listed : List Instrument) (feed : List PacketContent) (next : ℕ) (fs : List Footing) (sh : Standing) (moves : List Move) → IsFeed feed → Agrees feed next fs sh → AreOf listed feed next moves
     → moments_on listed sh moves ≡ owed_moments_on listed feed fs (steps_of moves)
@@ -162,9 +169,8 @@ owed_on listed feed next fs sh (passed p ∷ moves) fed agrees (number, at, late
     ∙ ap (λ (t : List Moment). owed_moments_of feed fs (pass p.number) ++ t) (owed_on listed feed (p.number + 1) fs (standing_through listed sh (passed p)) moves fed (pass_agrees listed feed fs sh p at here) rest)
 owed_on listed feed next fs sh (jumped from to snapshots ∷ moves) fed agrees (is, later) =
     ap (λ (t : List Moment). leapt from to ∷ t)
-    (owed_on listed feed to (footings_at_jump listed (lasts snapshots)) (standing_through listed sh (jumped from to snapshots)) moves fed
-    (record { starts = jump_starts feed to listed snapshots is; same = jump_same feed to listed snapshots fed is }) later)
+    (owed_on listed feed to (footings_at_jump listed (lasts snapshots)) (standing_through listed sh (jumped from to snapshots)) moves fed (jump_agrees listed feed to snapshots fed is) later)
 
 pub law_of_owed_moments : LawOfOwedMoments
 law_of_owed_moments listed feed moves fed are =
-    owed_on listed feed 1 (footings_before_jump listed) (standing_after listed []) moves fed (record { starts = start_starts feed listed; same = start_same (starts_before_jump listed) }) are
+    owed_on listed feed 1 (footings_before_jump listed) (standing_after listed []) moves fed (agrees_at_first feed listed) are

@@ -13,4 +13,5 @@ pub mod Batching
 pub mod Marking
 pub mod Noting
 pub mod Owing
+pub mod Holding
 mod Repeating

@@ -7,7 +7,7 @@ use Rattle.mdp_arbiter.specs.Channel.{Channel, channel_of, ids_of}
 use Rattle.mdp_arbiter.specs.Machine.{trace}
 use Rattle.mdp_desks.specs.Moments.{shown_lines, text_of_moments}
 use Rattle.mdp_engine.specs.Owed.{steps_of, lines}
-use Rattle.mdp_engine.specs.Engine.{StandsOwed}
+use Rattle.mdp_engine.specs.Engine.{LawOfOwedText}
 use Rattle.mdp_engine.specs.MomentLaws.{LawOfHonestMoments}
 use Rattle.mdp_engine.specs.Steps.{event_of}
 use Rattle.mdp_engine.specs.declared.event.Event.{Event as Taken}
@@ -20,11 +20,11 @@ law_of_honest_moments listed feed room from es honest =
 
 -- ---- an engine
 
-listed_channel : (listed : List Instrument) (channel : Channel) → channel.ids ≡ ids_of listed → channel ≡ channel_of listed channel.room channel.start
+pub listed_channel : (listed : List Instrument) (channel : Channel) → channel.ids ≡ ids_of listed → channel ≡ channel_of listed channel.room channel.start
 listed_channel listed channel is = ap (λ (ids : List ℤ). record { room = channel.room; ids = ids; start = channel.start }) is
 
-pub stands_owed : StandsOwed
-stands_owed listed feed es drained v honest stands =
+pub law_of_owed_text : LawOfOwedText
+law_of_owed_text listed feed es drained v honest stands =
     let is = listed_channel listed v.arbiter.channel stands.settled.ids in
     stands.shows.text_is
     ∙ subst (λ (c : Channel). shown_lines listed (trace c es) ≡ lines listed feed (steps_of (trace c es))) (sym is)

@@ -1,8 +1,10 @@
 -- What an engine holds, and what that says of the events that came and the text that was drained.
-use Rattle.std.specs.Prelude.{◌≡◌, ℕ, ◌++◌, Bool, List, refl}
+use Rattle.std.specs.Prelude.{◌≡◌, ℕ, ◌-◌, ◌++◌, Bool, List, max, take, refl}
+use Rattle.std.specs.List.{AllZip}
 use Rattle.std.specs.Coded.{Coded, code_by, coded×, coded_ℕ, coded_bool, coded_list}
 use Rattle.mdp_templates.specs.Packet.{PacketContent}
 use Rattle.mdp_templates.specs.declared.instrument.Instrument.{Instrument}
+use Rattle.mdp_books.specs.Feed.{sent_by, book_at, behind}
 use Rattle.mdp_arbiter.specs.Accepted.{Event}
 use Rattle.mdp_arbiter.specs.Machine.{Move, Settles, after_all, trace, state_at}
 use Rattle.mdp_arbiter.specs.Channel.{ids_of}
@@ -12,6 +14,8 @@ use Rattle.mdp_arbiter.specs.Standing.{StandsAt}
 use Rattle.mdp_desks.specs.declared.desk.Desk.{Desk}
 use Rattle.mdp_desks.specs.contracts.desk.Desk as desk
 use Rattle.mdp_engine.specs.Owed.{lines, steps_of}
+use Rattle.mdp_desks.specs.Due.{is_due}
+use Rattle.mdp_desks.specs.Shown.{Start, standing_after}
 use Rattle.mdp_desks.specs.Standing.{Shows}
 use Rattle.mdp_engine.specs.Honest.{IsHonest}
 
@@ -42,10 +46,25 @@ pub record Stands (listed : List Instrument) (es : List Event) (drained : List �
   pub settled : IsSettled listed es v.arbiter
   pub shows : Shows listed (trace v.arbiter.channel es) v.desks (drained ++ v.held)
 
--- Under a complete feed that the events agree with, the text is the lines that the feed owes.
-abbrev pub StandsOwed : Type 0
-StandsOwed = (listed : List Instrument) (feed : List PacketContent) (es : List Event) (drained : List ℕ) (v : View) → IsHonest listed feed es
+-- ---- under a complete feed that the events agree with
+
+-- the text is the lines that the feed owes
+abbrev pub LawOfOwedText : Type 0
+LawOfOwedText = (listed : List Instrument) (feed : List PacketContent) (es : List Event) (drained : List ℕ) (v : View) → IsHonest listed feed es
     → Stands listed es drained v → drained ++ v.held ≡ lines listed feed (steps_of (trace v.arbiter.channel es))
+
+-- A desk has its security's book of the complete feed right before packet `next`, or right after its base where that is later, and is
+-- marked if the security is due.
+pub record HoldsBook (feed : List PacketContent) (next : ℕ) (i : Start) (desk : Desk) : Type 0 where
+  pub instrument : desk.instrument ≡ i.instrument
+  pub base : desk.base ≡ i.base
+  pub book : desk.book ≡ book_at i.instrument (sent_by (take (max (next - 1) i.base) feed))
+  pub marked : desk.marked ≡ is_due i.instrument.id i.jumped (behind i.base (sent_by (take (next - 1) feed)))
+
+-- and so has each desk of the listed securities, after the moves of the events
+abbrev pub LawOfOwedBooks : Type 0
+LawOfOwedBooks = (listed : List Instrument) (feed : List PacketContent) (es : List Event) (drained : List ℕ) (v : View) → IsHonest listed feed es
+    → Stands listed es drained v → AllZip (HoldsBook feed v.arbiter.next) (standing_after listed (trace v.arbiter.channel es)).starts v.desks
 
 -- ---- moves one after another
 

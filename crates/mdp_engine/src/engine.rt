@@ -10,10 +10,10 @@ ghost use Rattle.mdp_arbiter.specs.Machine.{State, is_lost, state_at, trace};
 ghost use Rattle.mdp_arbiter.specs.Channel.{ids_of, channel_of};
 ghost use Rattle.mdp_arbiter.specs.Arbiter.{is_lost_now, state};
 ghost use Rattle.mdp_arbiter.specs.Standing.{StandsAt};
+ghost use Rattle.mdp_desks.specs.Moments.{shown_lines};
 ghost use Rattle.mdp_engine.specs.Engine.{Advances, Stands};
 ghost use Rattle.mdp_engine.specs.Honest.{IsHonest};
-ghost use Rattle.mdp_engine.specs.Owed.{lines};
-ghost use Rattle.mdp_engine.specs.Owed.{steps_of};
+ghost use Rattle.mdp_engine.specs.Owed.{lines, steps_of};
 ghost use Rattle.mdp_engine.specs.Steps.{event_of, stepped_desks, stepped_text};
 
 use crate::audited_desks::AuditedDesks;
@@ -267,7 +267,8 @@ impl<A: Allocator + Copy, W: Window<Packet<A>> + Drop> Engine<A, W> {
     }
 }
 
-/// Gives the lines that these events owe, from an engine of its own. The conditions are those of [`Engine::new`].
+/// Gives the lines that the moves of these events show, which are those that each complete feed owes that agrees with them, from an
+/// engine of its own. The conditions are those of [`Engine::new`].
 ///
 /// # Errors
 ///
@@ -282,7 +283,9 @@ pub fn replay<A: Allocator + Copy, W: Window<Packet<A>> + Drop>(
     requires fit { AreFit instruments.now }
     requires first { (W.view window).first ≡ 1 }
     requires empty { (W.view window).held ≡ map.empty }
-    ensures { IfOk result (λ text. (feed : List PacketContent) → IsHonest instruments.now feed (map event_of events.now)
+    ensures shown { IfOk result (λ text. text.items
+        ≡ shown_lines instruments.now (trace (channel_of instruments.now (W.view window).room start) (map event_of events.now))) }
+    ensures owed { IfOk result (λ text. (feed : List PacketContent) → IsHonest instruments.now feed (map event_of events.now)
         → text.items ≡ lines instruments.now feed
         (steps_of (trace (channel_of instruments.now (W.view window).room start) (map event_of events.now)))) }
 {

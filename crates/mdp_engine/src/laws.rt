@@ -1,6 +1,6 @@
 //! What the definitions of the lines say of every complete feed, as functions that only carry a proof.
 
-ghost use Rattle.mdp_engine.specs.Engine.{StandsOwed};
+ghost use Rattle.mdp_engine.specs.Engine.{LawOfOwedBooks, LawOfOwedText};
 ghost use Rattle.mdp_engine.specs.Honest.{HonestMovesAgree, LawOfHonestFeeds};
 ghost use Rattle.mdp_engine.specs.Marks.{LawOfMarks};
 ghost use Rattle.mdp_engine.specs.MomentLaws.{LawOfHonestMoments, LawOfOwedMoments};
@@ -13,8 +13,14 @@ pub fn honest_moves_agree()
 {}
 
 /// Proves that what an engine has given out and holds, whose events agree with a complete feed, is the lines that the feed owes.
-pub fn stands_owed()
-    ensures { StandsOwed }
+pub fn law_of_owed_text()
+    ensures { LawOfOwedText }
+{}
+
+/// Proves that the desks of an engine whose events agree with a complete feed hold that feed's books: each right before the packet
+/// that comes next, or right after its snapshot's packet where that is later.
+pub fn law_of_owed_books()
+    ensures { LawOfOwedBooks }
 {}
 
 /// Proves that there is a complete feed that the events agree with wherever each packet has a number that a feed can

@@ -1,6 +1,6 @@
 -- What a run has written when it ends, at the events that it took.
-use Rattle.std.proofs.Common.{◌≡◌, ℕ, Bool, List, [], ◌++◌, take, drop, refl, sym, ap, subst, ◌∙◌, append_assoc}
-use Rattle.std.specs.Prelude.{Result, Ok, Err, IfOk, IfErr, OnOk}
+use Rattle.std.proofs.Common.{◌≡◌, ℕ, Bool, List, [], ◌++◌, map, take, drop, refl, sym, ap, subst, ◌∙◌, append_assoc}
+use Rattle.std.specs.Prelude.{Option, Result, Ok, Err, IfOk, IfErr, OnOk}
 use Rattle.std.proofs.lemmas.List.{append-nil, take-append-drop}
 use Rattle.mdp_templates.specs.declared.instrument.Instrument.{Instrument}
 use Rattle.mdp_print.specs.Texts.{last_line}
@@ -9,12 +9,17 @@ use Rattle.mdp_arbiter.specs.Accepted.{Event}
 use Rattle.mdp_arbiter.specs.Channel.{Channel, channel_of}
 use Rattle.mdp_arbiter.specs.Machine.{go_on, is_lost, state_at, trace}
 use Rattle.mdp_arbiter.proofs.Runs.{law_of_fronts}
-use Rattle.mdp_desks.specs.Moments.{moments_after, shown_lines, text_of_moments}
+use Rattle.mdp_desks.specs.Moments.{Moment, moments, moments_after, shown_lines, text_of_moments}
 use Rattle.mdp_engine.specs.Engine.{View, Stands}
 use Rattle.mdp_crew.specs.declared.arbiter.Standing.{Standing}
 use Rattle.mdp_crew.specs.declared.stop.Stop.{Stop}
-use Rattle.mdp_crew.specs.Running.{HasShown as HasShownOf, HasShownAll, HasShownSome}
-use Rattle.mdp_desks.proofs.Moments.{shown_lines-append}
+use Rattle.mdp_crew.specs.Running.{HasShown as HasShownOf, HasShownAll, WentOut}
+use Rattle.mdp_desks.proofs.Moments.{moments-append, shown_lines-append}
+use Rattle.mdp_lanes.specs.Boards.{Published}
+use Rattle.mdp_reports.specs.Behind.{IsBehind}
+use Rattle.mdp_reports.specs.BoardSteps.{step_of_moment}
+use Rattle.mdp_reports.proofs.Behind.{behind_in_end}
+use Rattle.mdp_crew.proofs.Leaving.{all_out, out_more}
 use Rattle.mdp_pipeline.specs.declared.progress.Run.{Run}
 use Rattle.mdp_pipeline.specs.declared.summary.RunFault.{RunFault}
 use Rattle.mdp_pipeline.specs.declared.summary.Summary.{Summary}
@@ -149,10 +154,10 @@ early_of taken mid after engine refusals next lost (Err fault) next_is lost_is t
 -- ---- the end of a run over threads
 
 -- the refusals and the last line went out behind what the moves show
-pub ends_behind : (listed : List Instrument) (room : ℕ) (from : Start) (events : List Event) (start taken after : List ℕ) (standing : Standing) (refusals : RefusalTexts)
-    → after ≡ taken ++ (joined_texts refusals ++ last_line standing.next standing.lost) → HasShownAll listed room from events start taken standing
+pub ends_behind : (listed : List Instrument) (room : ℕ) (from : Start) (events : List Event) (start taken after : List ℕ) (was now : Option Published) (standing : Standing) (refusals : RefusalTexts)
+    → after ≡ taken ++ (joined_texts refusals ++ last_line standing.next standing.lost) → HasShownAll listed room from events start taken was now standing
     → EndsAs listed room from events (joined_texts refusals) start after standing.next standing.lost
-ends_behind listed room from events start taken after standing refusals went shown =
+ends_behind listed room from events start taken after was now standing refusals went shown =
     let lines = shown_lines listed (moves_of listed room from events) in
     let end = joined_texts refusals ++ last_line standing.next standing.lost in
     record {
@@ -165,47 +170,41 @@ ends_behind listed room from events start taken after standing refusals went sho
           ∙ ap (λ (l : Bool). lines ++ (joined_texts refusals ++ last_line (next_after listed room from events) l)) shown.lost_is;
     }
 
--- so many bytes of them went out
-pub early_behind : (listed : List Instrument) (room : ℕ) (from : Start) (events : List Event) (start taken after : List ℕ) (standing : Standing) (refusals : RefusalTexts) (n : ℕ)
-    → after ≡ taken ++ take n (joined_texts refusals ++ last_line standing.next standing.lost) → HasShownAll listed room from events start taken standing
-    → EndsEarly listed room from events (joined_texts refusals) start after
-unfolding ends_behind
-early_behind listed room from events start taken after standing refusals n went shown =
-    let lines = shown_lines listed (moves_of listed room from events) in
-    let end = joined_texts refusals ++ last_line standing.next standing.lost in
-    let all = ends_behind listed room from events start taken (taken ++ end) standing refusals refl shown in
+-- so many bytes of them went out, behind a text whose steps were published
+pub out_in_end : (listed : List Instrument) (room : ℕ) (from : Start) (events : List Event) (start taken after : List ℕ) (was now : Option Published) (standing : Standing) (refusals : RefusalTexts) (n : ℕ)
+    → after ≡ taken ++ take n (joined_texts refusals ++ last_line standing.next standing.lost) → HasShownAll listed room from events start taken was now standing
+    → WentOut (moments listed (moves_of listed room from events)) (end_lines listed room from (joined_texts refusals) events) start after was now
+out_in_end listed room from events start taken after was now standing refusals n went shown =
+    let ms = moments listed (moves_of listed room from events) in
+    let end = end_lines listed room from (joined_texts refusals) events in
+    let told : joined_texts refusals ++ last_line standing.next standing.lost ≡ end =
+    ap (λ (k : ℕ). joined_texts refusals ++ last_line k standing.lost) shown.next_is
+    ∙ ap (λ (l : Bool). joined_texts refusals ++ last_line (next_after listed room from events) l) shown.lost_is in
     record {
-      sent = lines ++ take n end;
-      rest = drop n end;
-      taken_is = went ∙ ap (λ (t : List ℕ). t ++ take n end) shown.shown ∙ append_assoc start lines (take n end);
-      whole = sym all.shown ∙ ap (λ (t : List ℕ). lines ++ t) (sym (take-append-drop n end)) ∙ sym (append_assoc lines (take n end) (drop n end));
+      sent = text_of_moments ms ++ take n end;
+      steps = map step_of_moment ms;
+      taken_is = went ∙ ap (λ (t : List ℕ). taken ++ take n t) told ∙ ap (λ (t : List ℕ). t ++ take n end) shown.shown ∙ append_assoc start (text_of_moments ms) (take n end);
+      board_is = shown.published;
+      behind =
+          subst (λ (e : List ℕ). IsBehind ms e (text_of_moments ms ++ take n end) (map step_of_moment ms)) (take-append-drop n end)
+          (behind_in_end ms (take n end) (drop n end));
     }
 
--- all that the moves show is a beginning of what they show with more events
-some_of_all : (listed : List Instrument) (room : ℕ) (from : Start) (events : List Event) (start taken : List ℕ) (standing : Standing) → HasShownAll listed room from events start taken standing → HasShownSome listed room from events start taken
-some_of_all listed room from events start taken standing shown = record {
-  sent = shown_lines listed (moves_of listed room from events);
-  taken_is = shown.shown;
-  begins = λ more. (shown_later listed room from events more, shown_front listed room from events more);
-}
+-- whatever the crew came to, a beginning went out of what it was to show
+went_out : (listed : List Instrument) (room : ℕ) (from : Start) (events : List Event) (start taken : List ℕ) (was now : Option Published) (outcome : Result Standing Stop) → HasShownOf listed room from events start taken was now outcome
+    → WentOut (moments listed (moves_of listed room from events)) [] start taken was now
+went_out listed room from events start taken was now (Ok standing) shown = all_out (moments listed (moves_of listed room from events)) start taken was now shown.all.shown shown.all.published
+went_out listed room from events start taken was now (Err stop) shown = shown.some
 
-some_shown : (listed : List Instrument) (room : ℕ) (from : Start) (events : List Event) (start taken : List ℕ) (outcome : Result Standing Stop) → HasShownOf listed room from events start taken outcome → HasShownSome listed room from events start taken
-some_shown listed room from events start taken (Ok standing) shown = some_of_all listed room from events start taken standing shown.all
-some_shown listed room from events start taken (Err stop) shown = shown.some
-
--- whatever a run comes to, what went out is a beginning of the whole text, whatever comes behind these events
-pub early_shown : (listed : List Instrument) (room : ℕ) (from : Start) (events more : List Event) (refusals start taken : List ℕ) (outcome : Result Standing Stop) → HasShownOf listed room from events start taken outcome
-    → EndsEarly listed room from (events ++ more) refusals start taken
-early_shown listed room from events more refusals start taken outcome shown =
-    let some = some_shown listed room from events start taken outcome shown in
-    let front = some.begins more in
-    let end = end_lines listed room from refusals (events ++ more) in
-    record {
-      sent = some.sent;
-      rest = front.0 ++ end;
-      taken_is = some.taken_is;
-      whole = ap (λ (t : List ℕ). t ++ end) front.1 ∙ append_assoc some.sent front.0 end;
-    }
+-- and of what more events show too, whatever stands behind that
+pub out_early : (listed : List Instrument) (room : ℕ) (from : Start) (events more : List Event) (end start taken : List ℕ) (was now : Option Published) (outcome : Result Standing Stop) → HasShownOf listed room from events start taken was now outcome
+    → WentOut (moments listed (moves_of listed room from (events ++ more))) end start taken was now
+out_early listed room from events more end start taken was now outcome shown =
+    let channel = channel_of listed room from in
+    let before = moves_of listed room from events in
+    let later = go_on channel events (state_at channel events) more in
+    subst (λ (ms : List Moment). WentOut ms end start taken was now) (sym (ap (moments listed) (law_of_fronts channel events more) ∙ moments-append listed [] before later))
+    (out_more (moments listed before) (moments_after listed before later) end start taken was now (went_out listed room from events start taken was now outcome shown))
 
 -- ---- runs over records of all feeds in one list
 

@@ -12,10 +12,12 @@ use Rattle.mdp_capture.specs.Record.{RecordContent}
 use Rattle.mdp_arbiter.specs.declared.start.Start.{Start}
 use Rattle.mdp_arbiter.specs.Accepted.{Event}
 use Rattle.mdp_engine.proofs.Owing.{law_of_honest_moments}
-use Rattle.mdp_desks.specs.Moments.{text_of_moments}
+use Rattle.mdp_desks.specs.Moments.{moments, text_of_moments}
 use Rattle.mdp_lanes.specs.Boards.{Published}
 use Rattle.mdp_lanes.specs.declared.step.Step.{Step}
+use Rattle.mdp_reports.specs.Behind.{IsBehind}
 use Rattle.mdp_reports.specs.BoardSteps.{board_steps}
+use Rattle.mdp_reports.proofs.Behind.{behind_nothing, law_of_early_ends}
 use Rattle.mdp_lanes.specs.Items.{is_same, items_of}
 use Rattle.mdp_lanes.specs.Queues.{IntakeReceiverView, IntakeSenderView, IsFreshSenderOf}
 use Rattle.mdp_print.specs.Texts.{last_line}
@@ -24,7 +26,7 @@ use Rattle.mdp_crew.specs.declared.batch.Batch.{Batch}
 use Rattle.mdp_crew.specs.declared.stop.Stop.{Stop}
 use Rattle.mdp_crew.specs.Batches.{HasTakenMore, all_events, batch_events, events_taken}
 use Rattle.mdp_crew.specs.Publishing.{published_on}
-use Rattle.mdp_crew.specs.Running.{HasPublished, HasPublishedSome, HasShown, HasShownAll}
+use Rattle.mdp_crew.specs.Running.{HasShown, HasShownAll, WentOut}
 use Rattle.mdp_crew.proofs.Boards.{published_nothing}
 use Rattle.mdp_crew.specs.Stops.{FailsByStop}
 use Rattle.mdp_pipeline.specs.declared.reader.ReaderOutcome.{ReaderOutcome}
@@ -37,10 +39,10 @@ use Rattle.mdp_pipeline.specs.Output.{BeginsToPublish, BeginsToPublishMerge, Pri
 use Rattle.mdp_pipeline.specs.Reading.{Readings, events_of, refusals_text}
 use Rattle.mdp_pipeline.specs.Readers.{HasRead}
 use Rattle.mdp_pipeline.specs.RefusalTexts.{RefusalTexts}
-use Rattle.mdp_pipeline.specs.Running.{EndsAs, EndsEarly, joined_texts}
+use Rattle.mdp_pipeline.specs.Running.{EndsAs, joined_texts}
 use Rattle.mdp_pipeline.proofs.Beginnings.{readings_exist}
-use Rattle.mdp_pipeline.proofs.OnBoards.{begins_steps, publishes, some_on_board}
-use Rattle.mdp_pipeline.proofs.Ending.{early_behind, early_shown, ends_behind, told_as}
+use Rattle.mdp_pipeline.proofs.OnBoards.{publishes}
+use Rattle.mdp_pipeline.proofs.Ending.{ends_behind, out_early, out_in_end, told_as}
 
 -- ---- one feed's events among those with feeds
 
@@ -116,6 +118,17 @@ from_s a b s =
     ∙ ap (λ (t : List Event). t ++ events_from feeds.S (tagged_as feeds.S s)) (from_all feeds.S feeds.B b false refl)
     ∙ from_all feeds.S feeds.S s true refl
 
+-- ---- text and board of one list of moments
+
+begins_at : (listed : List Instrument) (room : ℕ) (from : Start) (events : List Event) (end sent : List ℕ) (steps : List Step) → IsBehind (moments listed (moves_of listed room from events)) end sent steps
+    → BeginsToPublish listed room from events end sent steps
+begins_at listed room from events end sent steps behind = record {
+  shown = moments listed (moves_of listed room from events);
+  shown_is = refl;
+  owed = λ feed honest. law_of_honest_moments listed feed room from events honest;
+  behind = behind;
+}
+
 -- whatever the records say, nothing of its text went out, and nothing was published
 pub begins_nothing : (listed : List Instrument) (room : ℕ) (from : Start) (a b s : List RecordContent) (start : List ℕ) (board : Option Published)
     → (steps : List Step) × (board ≡ published_on board steps) × BeginsToPublishMerge listed room from a b s start start steps
@@ -128,8 +141,7 @@ begins_nothing listed room from a b s start board =
     let es = events_of read_s.0 in
     let readings : Readings = record { a = read_a.0; b = read_b.0; s = read_s.0 } in
     let merge = rests ea eb es in
-    let text = shown_output listed room from (refusals_text readings) (events_in merge) in
-    let steps = board_steps listed (moves_of listed room from (events_in merge)) in (
+    let text = shown_output listed room from (refusals_text readings) (events_in merge) in (
       [],
       published_nothing board,
       (
@@ -152,7 +164,7 @@ begins_nothing listed room from a b s start board =
           taken_is = sym (append-nil start);
           whole = refl;
         },
-        record { steps = steps; publishes = publishes listed room from (events_in merge); rest = steps; whole = refl },
+        begins_at listed room from (events_in merge) (end_lines listed room from (refusals_text readings) (events_in merge)) [] [] (behind_nothing (moments listed (moves_of listed room from (events_in merge))) (end_lines listed room from (refusals_text readings) (events_in merge))),
       ),
     )
 
@@ -270,13 +282,17 @@ module _ {A : Type 0} where
       }
 
   pub begins_merge : (receiver : IntakeReceiverView (Batch A)) (a b s : List RecordContent) (left_a left_b left_s : ReaderOutcome A) (joined : Joined receiver a b s left_a left_b left_s) (listed : List Instrument) (room : ℕ) (from : Start) (start taken : List ℕ) (was now : Option Published)
-      → EndsEarly listed room from (events_taken receiver.taken ++ rest_in joined) (refusals_text (readings_in joined)) start taken → HasPublishedSome listed room from (events_taken receiver.taken) was now
+      → WentOut (moments listed (moves_of listed room from (events_taken receiver.taken ++ rest_in joined))) (end_lines listed room from (refusals_text (readings_in joined)) (events_taken receiver.taken ++ rest_in joined)) start taken was now
       → (steps : List Step) × (now ≡ published_on was steps) × BeginsToPublishMerge listed room from a b s start taken steps
-  begins_merge receiver a b s left_a left_b left_s joined listed room from start taken was now ends published =
+  begins_merge receiver a b s left_a left_b left_s joined listed room from start taken was now went =
       let es = events_in (merge_in joined) in
-      let all = merge_events receiver a b s left_a left_b left_s joined in (
-        published.steps,
-        published.board_is,
+      let end = end_lines listed room from (refusals_text (readings_in joined)) es in
+      let out : WentOut (moments listed (moves_of listed room from es)) end start taken was now =
+      subst (λ (events : List Event). WentOut (moments listed (moves_of listed room from events)) (end_lines listed room from (refusals_text (readings_in joined)) events) start taken was now)
+      (sym (merge_events receiver a b s left_a left_b left_s joined)) went in
+      let left = (law_of_early_ends (moments listed (moves_of listed room from es)) end out.sent out.steps out.behind).0 in (
+        out.steps,
+        out.board_is,
         (
           merge_in joined,
           record {
@@ -284,12 +300,12 @@ module _ {A : Type 0} where
             next = next_after listed room from es;
             lost = is_lost_after listed room from es;
             prints = prints receiver a b s left_a left_b left_s joined listed room from;
-            sent = ends.sent;
-            rest = ends.rest;
-            taken_is = ends.taken_is;
-            whole = ap (shown_output listed room from (refusals_text (readings_in joined))) all ∙ ends.whole;
+            sent = out.sent;
+            rest = left.0;
+            taken_is = out.taken_is;
+            whole = left.1;
           },
-          subst (λ (events : List Event). BeginsToPublish listed room from events published.steps) (sym all) (begins_steps listed room from (events_taken receiver.taken) (rest_in joined) was now published),
+          begins_at listed room from es end out.sent out.steps out.behind,
         ),
       )
 
@@ -336,41 +352,37 @@ module _ {A : Type 0} where
       (taken after : List ℕ) (outcome : Result Standing Stop) (standing : Standing) (refusals : RefusalTexts) (result : Result Summary RunFault)
       → outcome ≡ Ok standing → rest_in joined ≡ [] → joined_texts refusals ≡ refusals_text (readings_in joined)
       → IfOk result (λ (summary : Summary). (summary.next ≡ standing.next) × (summary.lost ≡ standing.lost)) → OnOk result (after ≡ taken ++ (joined_texts refusals ++ last_line standing.next standing.lost))
-      → IfOk result (λ (summary : Summary). (listed : List Instrument) (room : ℕ) (from : Start) (start : List ℕ) (was now : Option Published) → HasShown listed room from (events_taken receiver.taken) start taken outcome
-      → HasPublished listed room from (events_taken receiver.taken) was now outcome
+      → IfOk result (λ (summary : Summary). (listed : List Instrument) (room : ℕ) (from : Start) (start : List ℕ) (was now : Option Published) → HasShown listed room from (events_taken receiver.taken) start taken was now outcome
       → (text : List ℕ) × (steps : List Step) × (after ≡ start ++ text) × (now ≡ published_on was steps) × PublishesMerge listed room from a b s text summary.next summary.lost steps)
-  ends_well receiver a b s left_a left_b left_s joined taken after outcome standing refusals (Ok summary) is none told tells went = λ listed room from start was now shown published.
+  ends_well receiver a b s left_a left_b left_s joined taken after outcome standing refusals (Ok summary) is none told tells went = λ listed room from start was now shown.
       let events = events_taken receiver.taken in
-      let all = subst (λ (o : Result Standing Stop). IfOk o (λ (st : Standing). HasShownAll listed room from events start taken st)) is shown.all in
-      let posted = subst (λ (o : Result Standing Stop). OnOk o (now ≡ published_on was (board_steps listed (moves_of listed room from events)))) is published.all in
+      let all = subst (λ (o : Result Standing Stop). IfOk o (λ (st : Standing). HasShownAll listed room from events start taken was now st)) is shown.all in
       prints_merge receiver a b s left_a left_b left_s joined listed room from (joined_texts refusals) start after summary.next summary.lost was now none told
-      (told_as listed room from events (joined_texts refusals) start after standing.next summary.next standing.lost summary.lost tells.0 tells.1 (ends_behind listed room from events start taken after standing refusals went all)) posted
+      (told_as listed room from events (joined_texts refusals) start after standing.next summary.next standing.lost summary.lost tells.0 tells.1 (ends_behind listed room from events start taken after was now standing refusals went all)) all.published
   ends_well receiver a b s left_a left_b left_s joined taken after outcome standing refusals (Err fault) is none told tells went = tt
 
   pub ends_early : (receiver : IntakeReceiverView (Batch A)) (a b s : List RecordContent) (left_a left_b left_s : ReaderOutcome A) (joined : Joined receiver a b s left_a left_b left_s)
       (taken after : List ℕ) (outcome : Result Standing Stop) (standing : Standing) (refusals : RefusalTexts) (result : Result Summary RunFault)
       → outcome ≡ Ok standing → rest_in joined ≡ [] → joined_texts refusals ≡ refusals_text (readings_in joined)
       → IfErr result (λ (fault : RunFault). (n : ℕ) × (after ≡ taken ++ take n (joined_texts refusals ++ last_line standing.next standing.lost)))
-      → IfErr result (λ (fault : RunFault). (listed : List Instrument) (room : ℕ) (from : Start) (start : List ℕ) (was now : Option Published) → HasShown listed room from (events_taken receiver.taken) start taken outcome
-      → HasPublished listed room from (events_taken receiver.taken) was now outcome → (steps : List Step) × (now ≡ published_on was steps) × BeginsToPublishMerge listed room from a b s start after steps)
+      → IfErr result (λ (fault : RunFault). (listed : List Instrument) (room : ℕ) (from : Start) (start : List ℕ) (was now : Option Published) → HasShown listed room from (events_taken receiver.taken) start taken was now outcome
+      → (steps : List Step) × (now ≡ published_on was steps) × BeginsToPublishMerge listed room from a b s start after steps)
   ends_early receiver a b s left_a left_b left_s joined taken after outcome standing refusals (Ok summary) is none told begins = tt
-  ends_early receiver a b s left_a left_b left_s joined taken after outcome standing refusals (Err fault) is none told begins = λ listed room from start was now shown published.
+  ends_early receiver a b s left_a left_b left_s joined taken after outcome standing refusals (Err fault) is none told begins = λ listed room from start was now shown.
       let events = events_taken receiver.taken in
-      let all = subst (λ (o : Result Standing Stop). IfOk o (λ (st : Standing). HasShownAll listed room from events start taken st)) is shown.all in
+      let all = subst (λ (o : Result Standing Stop). IfOk o (λ (st : Standing). HasShownAll listed room from events start taken was now st)) is shown.all in
       begins_merge receiver a b s left_a left_b left_s joined listed room from start after was now
-      (subst (λ (r : List ℕ). EndsEarly listed room from (events ++ rest_in joined) r start after) told
-      (subst (λ (es : List Event). EndsEarly listed room from es (joined_texts refusals) start after) (sym (append-nil events) ∙ ap (λ (t : List Event). events ++ t) (sym none))
-      (early_behind listed room from events start taken after standing refusals begins.0 begins.1 all)))
-      (some_on_board listed room from events was now outcome published)
+      (subst (λ (r : List ℕ). WentOut (moments listed (moves_of listed room from (events ++ rest_in joined))) (end_lines listed room from r (events ++ rest_in joined)) start after was now) told
+      (subst (λ (es : List Event). WentOut (moments listed (moves_of listed room from es)) (end_lines listed room from (joined_texts refusals) es) start after was now) (sym (append-nil events) ∙ ap (λ (t : List Event). events ++ t) (sym none))
+      (out_in_end listed room from events start taken after was now standing refusals begins.0 begins.1 all)))
 
   -- the crew stopped early, or a reader met want of memory
   pub ends_short : (receiver : IntakeReceiverView (Batch A)) (a b s : List RecordContent) (left_a left_b left_s : ReaderOutcome A) → Joined receiver a b s left_a left_b left_s
-      → (taken : List ℕ) (outcome : Result Standing Stop) (listed : List Instrument) (room : ℕ) (from : Start) (start : List ℕ) (was now : Option Published) → HasShown listed room from (events_taken receiver.taken) start taken outcome
-      → HasPublished listed room from (events_taken receiver.taken) was now outcome → (steps : List Step) × (now ≡ published_on was steps) × BeginsToPublishMerge listed room from a b s start taken steps
-  ends_short receiver a b s left_a left_b left_s joined taken outcome listed room from start was now shown published =
+      → (taken : List ℕ) (outcome : Result Standing Stop) (listed : List Instrument) (room : ℕ) (from : Start) (start : List ℕ) (was now : Option Published) → HasShown listed room from (events_taken receiver.taken) start taken was now outcome
+      → (steps : List Step) × (now ≡ published_on was steps) × BeginsToPublishMerge listed room from a b s start taken steps
+  ends_short receiver a b s left_a left_b left_s joined taken outcome listed room from start was now shown =
       begins_merge receiver a b s left_a left_b left_s joined listed room from start taken was now
-      (early_shown listed room from (events_taken receiver.taken) (rest_in joined) (refusals_text (readings_in joined)) start taken outcome shown)
-      (some_on_board listed room from (events_taken receiver.taken) was now outcome published)
+      (out_early listed room from (events_taken receiver.taken) (rest_in joined) (end_lines listed room from (refusals_text (readings_in joined)) (events_taken receiver.taken ++ rest_in joined)) start taken was now outcome shown)
 
 -- a run that has not stopped early met no failed write
 pub none_failed : (outcome : Result Standing Stop) (before after most : ℕ) → before < most → FailsByStop outcome before after → IfOk outcome (λ (standing : Standing). after < most)

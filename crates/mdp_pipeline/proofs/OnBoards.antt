@@ -8,31 +8,14 @@ use Rattle.mdp_arbiter.specs.Accepted.{Event}
 use Rattle.mdp_lanes.specs.Boards.{Published}
 use Rattle.mdp_lanes.specs.declared.step.Step.{Step}
 use Rattle.mdp_reports.specs.BoardSteps.{board_steps, step_of_moment}
-use Rattle.mdp_reports.proofs.Boarding.{law_of_step_fronts}
 use Rattle.mdp_engine.proofs.Owing.{law_of_honest_moments}
 use Rattle.mdp_crew.specs.Publishing.{published_on}
-use Rattle.mdp_crew.specs.Running.{HasPublished, HasPublishedSome}
-use Rattle.mdp_crew.specs.declared.arbiter.Standing.{Standing}
-use Rattle.mdp_crew.specs.declared.stop.Stop.{Stop}
 use Rattle.mdp_pipeline.specs.declared.summary.RunFault.{RunFault}
 use Rattle.mdp_pipeline.specs.declared.summary.Summary.{Summary}
-use Rattle.mdp_pipeline.specs.Output.{BeginsMerge, BeginsToPublish, BeginsToPublishMerge, PrintsMerge, Publishes, PublishesMerge, moves_of}
+use Rattle.mdp_pipeline.specs.Output.{BeginsMerge, BeginsToPublishMerge, PrintsMerge, Publishes, PublishesMerge, moves_of}
 
 pub publishes : (listed : List Instrument) (room : ℕ) (from : Start) (events : List Event) → Publishes listed room from events (board_steps listed (moves_of listed room from events))
 publishes listed room from events = record { shown = refl; owed = λ feed honest. ap (map step_of_moment) (law_of_honest_moments listed feed room from events honest) }
-
--- whatever the crew came to, a beginning was published
-pub some_on_board : (listed : List Instrument) (room : ℕ) (from : Start) (events : List Event) (was now : Option Published) (outcome : Result Standing Stop) → HasPublished listed room from events was now outcome → HasPublishedSome listed room from events was now
-some_on_board listed room from events was now (Ok standing) is = record { steps = board_steps listed (moves_of listed room from events); board_is = is.all; begins = λ more. law_of_step_fronts listed room from events more }
-some_on_board listed room from events was now (Err stop) is = is.some
-
-pub begins_steps : (listed : List Instrument) (room : ℕ) (from : Start) (events more : List Event) (was now : Option Published) (has : HasPublishedSome listed room from events was now) → BeginsToPublish listed room from (events ++ more) has.steps
-begins_steps listed room from events more was now has = record {
-  steps = board_steps listed (moves_of listed room from (events ++ more));
-  publishes = publishes listed room from (events ++ more);
-  rest = (has.begins more).0;
-  whole = (has.begins more).1;
-}
 
 -- ---- what a run says of its text and of its board
 

@@ -8,10 +8,11 @@ use Rattle.mdp_arbiter.specs.declared.start.Start.{Start}
 use Rattle.mdp_arbiter.specs.Accepted.{Event}
 use Rattle.mdp_arbiter.specs.Machine.{Move, is_lost, state_at, trace}
 use Rattle.mdp_arbiter.specs.Channel.{channel_of}
-use Rattle.mdp_desks.specs.Moments.{shown_lines}
+use Rattle.mdp_desks.specs.Moments.{Moment, moments, shown_lines}
 use Rattle.mdp_engine.specs.Honest.{IsHonest}
-use Rattle.mdp_engine.specs.Owed.{lines, steps_of}
+use Rattle.mdp_engine.specs.Owed.{lines, owed_moments, steps_of}
 use Rattle.mdp_lanes.specs.declared.step.Step.{Step}
+use Rattle.mdp_reports.specs.Behind.{IsBehind}
 use Rattle.mdp_reports.specs.BoardSteps.{board_steps, owed_board_steps}
 use Rattle.mdp_pipeline.specs.Reading.{Readings, AreReadingsOf, refusals_text}
 use Rattle.mdp_pipeline.specs.Merging.{Tagged, IsMerge, IsByLine, events_in}
@@ -98,12 +99,15 @@ pub record Publishes (listed : List Instrument) (room : ℕ) (from : Start) (eve
   pub owed : (feed : List PacketContent) → IsHonest listed feed events
       → steps ≡ owed_board_steps listed feed (steps_of (moves_of listed room from events))
 
--- what was published before an early end is a beginning of the steps for these events
-pub record BeginsToPublish (listed : List Instrument) (room : ℕ) (from : Start) (events : List Event) (sent : List Step) : Type 0 where
-  pub steps : List Step
-  pub publishes : Publishes listed room from events steps
-  pub rest : List Step
-  pub whole : steps ≡ sent ++ rest
+-- What went out before an early end, as text and on the board: both are read off one list of moments, those that the moves show. They are
+-- those of every complete feed that agrees with the events.
+pub record BeginsToPublish (listed : List Instrument) (room : ℕ) (from : Start) (events : List Event) (end sent : List ℕ)
+    (steps : List Step) : Type 0 where
+  pub shown : List Moment
+  pub shown_is : shown ≡ moments listed (moves_of listed room from events)
+  pub owed : (feed : List PacketContent) → IsHonest listed feed events
+      → shown ≡ owed_moments listed feed (steps_of (moves_of listed room from events))
+  pub behind : IsBehind shown end sent steps
 
 -- the text and the steps are those of one merge
 abbrev pub PublishesMerge : List Instrument → ℕ → Start → List RecordContent → List RecordContent → List RecordContent → List ℕ → ℕ
@@ -111,8 +115,10 @@ abbrev pub PublishesMerge : List Instrument → ℕ → Start → List RecordCon
 PublishesMerge listed room from a b s text next lost steps =
     (merge : List Tagged) × Prints listed room from a b s merge text next lost × Publishes listed room from (events_in merge) steps
 
--- what went out and what was published are beginnings of those of one merge
+-- what went out is a beginning of the text of one merge, and what was published is no further than that text
 abbrev pub BeginsToPublishMerge : List Instrument → ℕ → Start → List RecordContent → List RecordContent → List RecordContent → List ℕ
     → List ℕ → List Step → Type 0
-BeginsToPublishMerge listed room from a b s start taken sent =
-    (merge : List Tagged) × Begins listed room from a b s merge start taken × BeginsToPublish listed room from (events_in merge) sent
+BeginsToPublishMerge listed room from a b s start taken steps =
+    (merge : List Tagged) × (begins : Begins listed room from a b s merge start taken)
+    × BeginsToPublish listed room from (events_in merge)
+    (end_lines listed room from (refusals_text begins.prints.readings) (events_in merge)) begins.sent steps

@@ -9,7 +9,7 @@ ghost use Rattle.mdp_arbiter.specs.declared.start.Start.{Start};
 ghost use Rattle.mdp_crew.specs.Batches.{events_taken};
 ghost use Rattle.mdp_crew.specs.Counted.{HasCounted};
 ghost use Rattle.mdp_crew.specs.Publishing.{published_on};
-ghost use Rattle.mdp_crew.specs.Running.{HasPublished, HasShown};
+ghost use Rattle.mdp_crew.specs.Running.{HasShown};
 ghost use Rattle.mdp_crew.specs.Stops.{FailsByStop};
 ghost use Rattle.mdp_pipeline.specs.Counted.{written_before};
 ghost use Rattle.mdp_pipeline.specs.Faults.{FailsBy};
@@ -51,14 +51,12 @@ pub fn settle_and_finish<W: CountedWrite, A: Allocator + Copy>(
     requires s { HasReadFor crew.receiver Feed.S s.now readers.s }
     ensures text { IfOk result (λ summary. (listed : List Instrument) (room : ℕ) (from : Start) (start : List ℕ)
         (before after : Option Published)
-        → HasShown listed room from (events_taken crew.receiver.taken) start (W.taken writer.old) crew.standing
-        → HasPublished listed room from (events_taken crew.receiver.taken) before after crew.standing
+        → HasShown listed room from (events_taken crew.receiver.taken) start (W.taken writer.old) before after crew.standing
         → (text : List ℕ) × (steps : List Step) × (W.taken writer.new ≡ start ++ text) × (after ≡ published_on before steps)
         × PublishesMerge listed room from a.now b.now s.now text summary.next summary.lost steps) }
     ensures begins { IfErr result (λ _. (listed : List Instrument) (room : ℕ) (from : Start) (start : List ℕ)
         (before after : Option Published)
-        → HasShown listed room from (events_taken crew.receiver.taken) start (W.taken writer.old) crew.standing
-        → HasPublished listed room from (events_taken crew.receiver.taken) before after crew.standing
+        → HasShown listed room from (events_taken crew.receiver.taken) start (W.taken writer.old) before after crew.standing
         → (steps : List Step) × (after ≡ published_on before steps) × BeginsToPublishMerge listed room from a.now b.now s.now start
         (W.taken writer.new) steps) }
     ensures counts { IfOk result (λ summary. (start : List ℕ)

@@ -331,7 +331,8 @@ where
 ///
 /// # Errors
 ///
-/// As `run`. What was published before is a beginning of what the whole run publishes, for the same merge.
+/// As `run`. What was published before are the steps of a beginning of what the whole run shows, for the same merge, of which each line
+/// had gone out.
 pub fn run_published<R, G, W, A>(
     rt: &R,
     alloc: A,

@@ -9,3 +9,4 @@ pub mod Owning
 pub mod Full
 pub mod Stepping
 pub mod Boarding
+pub mod Behind

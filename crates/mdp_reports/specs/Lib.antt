@@ -8,5 +8,6 @@ pub mod Reporting
 pub mod ReportLaw
 pub mod BoardSteps
 pub mod BoardLaws
+pub mod Behind
 pub mod Steps
 pub mod Worker

@@ -1,5 +1,6 @@
 //! What the definitions of reports and of the steps of a board say of all moves, as functions that only carry a proof.
 
+ghost use Rattle.mdp_reports.specs.Behind.{LawOfEarlyEnds};
 ghost use Rattle.mdp_reports.specs.BoardLaws.{LawOfBoards, LawOfFirstSteps, LawOfMoreSteps, LawOfStepFronts};
 ghost use Rattle.mdp_reports.specs.ReportLaw.{LawOfFirstDesks, LawOfFullJumps, LawOfReports};
 
@@ -39,4 +40,10 @@ pub fn law_of_more_steps()
 /// Proves that the steps of a front of the events begin the steps of all.
 pub fn law_of_step_fronts()
     ensures { LawOfStepFronts }
+{}
+
+/// Proves that where a run ended early, the text that went out is a beginning of the whole text, and the steps that were
+/// published are a beginning of all steps.
+pub fn law_of_early_ends()
+    ensures { LawOfEarlyEnds }
 {}

@@ -1,10 +1,7 @@
 use Rattle.mdp_crew.specs.Batches.{events_taken}
 use Rattle.mdp_crew.specs.declared.stop.Stop.TheVariants.{Memory}
-use Rattle.mdp_crew.proofs.Together.{published_none, shown_nothing}
+use Rattle.mdp_crew.proofs.Together.{shown_nothing}
 use Rattle.mdp_crew.proofs.running.run_crew.Goals as goal
 
 pub returns-in-Err-clause-shows : goal.returns-in-Err-clause-shows
-returns-in-Err-clause-shows g c = shown_nothing c.args.listed.now c.args.window c.args.start (events_taken c.drain.new.receiver.taken) (g.W.CountedWrite.taken c.args.writer.now) Memory
-
-pub returns-in-Err-clause-publishes : goal.returns-in-Err-clause-publishes
-returns-in-Err-clause-publishes g c = published_none c.args.listed.now c.args.window c.args.start (events_taken c.drain.new.receiver.taken) c.args.board.now Memory
+returns-in-Err-clause-shows g c = shown_nothing c.args.listed.now c.args.window c.args.start (events_taken c.drain.new.receiver.taken) (g.W.CountedWrite.taken c.args.writer.now) c.args.board.now Memory

@@ -9,12 +9,12 @@ use Rattle.mdp_crew.specs.declared.stop.Stop.{Stop}
 use Rattle.mdp_crew.specs.Batches.{events_taken}
 use Rattle.mdp_crew.specs.Crew.{IsCrew, IsHired, IsSettled}
 use Rattle.mdp_crew.specs.Orders.{and_sent, orders_of}
-use Rattle.mdp_crew.specs.Running.{HasPublished, HasShown}
+use Rattle.mdp_crew.specs.Running.{HasShown}
 use Rattle.mdp_crew.specs.Stops.{FailsByStop}
 use Rattle.mdp_crew.proofs.Ending.{fails_alike}
 use Rattle.mdp_crew.proofs.Settling.{ended_long, ended_took, hired_still, written_back}
 use Rattle.mdp_desks.proofs.Hearing.{ids_differ}
-use Rattle.mdp_crew.proofs.Together.{met, met_on_board}
+use Rattle.mdp_crew.proofs.Together.{met}
 use Rattle.mdp_crew.proofs.running.run_ready.Goals as goal
 
 pub let_all_go-requires : goal.let_all_go-requires
@@ -59,27 +59,8 @@ returns-clause-shows g c =
     let outcome = c.join_arbiter-receiver.result in
     let crew : IsCrew listed c.args.workers c.args.workers ready.senders.items old = subst (λ (l : List (Post g.row.A.Denot)). IsCrew listed c.args.workers c.args.workers ready.senders.items l) (sym same) is.crew in
     let settled : AllZip IsSettled outcome.senders.items new = subst (λ (l : List (Post g.row.A.Denot)). AllZip IsSettled outcome.senders.items l) back c.let_all_go.ensures in
-    subst (λ (o : Result Standing Stop). HasShown listed c.args.window c.args.start (events_taken outcome.receiver.taken) start went o) (sym c.outcome.ensures)
+    subst (λ (o : Result Standing Stop). HasShown listed c.args.window c.args.start (events_taken outcome.receiver.taken) start went c.args.board.now c.collect-collected.new.board o) (sym c.outcome.ensures)
     (met listed c.args.workers c.args.window c.args.start ready.senders.items old new ready.collector start went c.args.board.now c.collect-collected.new.board c.args.receiver outcome c.collect-collected.result c.requires.some (ids_differ listed c.requires.fit.ids_differ) crew is.collector_is sent c.collect-collected.ensures.ends settled)
-
-pub returns-clause-publishes : goal.returns-clause-publishes
-returns-clause-publishes g c =
-    let listed = c.args.listed.now in
-    let ready = c.args.ready in
-    let is = c.requires.ready in
-    let start = g.W.CountedWrite.taken c.args.writer.now in
-    let went = g.W.CountedWrite.taken c.collect-collected.new.writer in
-    let sent = c.join_arbiter-receiver.ensures listed c.args.window c.args.start c.args.receiver ready.senders.items c.begin_arbiter-arbitrating.ensures in
-    let old : List (Post g.row.A.Denot) = c.as_mut_slice.result.now in
-    let new : List (Post g.row.A.Denot) = c.collect-collected.new.posts in
-    let same : old ≡ ready.posts.items = c.as_mut_slice.ensures.value in
-    let long : length new ≡ length old = ended_long old new ready.collector start went c.args.board.now c.collect-collected.new.board c.collect-collected.result c.collect-collected.ensures.ends in
-    let back : take ready.posts.len (new ++ drop (length new) ready.posts.items) ≡ new = written_back new ready.posts.items ready.posts.len (long ∙ ap length same) (sym (ap length same) ∙ c.as_mut_slice.ensures.len) in
-    let outcome = c.join_arbiter-receiver.result in
-    let crew : IsCrew listed c.args.workers c.args.workers ready.senders.items old = subst (λ (l : List (Post g.row.A.Denot)). IsCrew listed c.args.workers c.args.workers ready.senders.items l) (sym same) is.crew in
-    let settled : AllZip IsSettled outcome.senders.items new = subst (λ (l : List (Post g.row.A.Denot)). AllZip IsSettled outcome.senders.items l) back c.let_all_go.ensures in
-    subst (λ (o : Result Standing Stop). HasPublished listed c.args.window c.args.start (events_taken outcome.receiver.taken) c.args.board.now c.collect-collected.new.board o) (sym c.outcome.ensures)
-    (met_on_board listed c.args.workers c.args.window c.args.start ready.senders.items old new ready.collector start went c.args.board.now c.collect-collected.new.board c.args.receiver outcome c.collect-collected.result c.requires.some crew sent c.collect-collected.ensures.ends settled)
 
 pub returns-clause-failed : goal.returns-clause-failed
 returns-clause-failed g c =

@@ -3,11 +3,11 @@ use Rattle.std.proofs.lemmas.List.{take_all}
 use Rattle.mdp_arbiter.specs.Accepted.{Event as Accepted}
 use Rattle.mdp_arbiter.specs.Machine.{trace}
 use Rattle.mdp_arbiter.specs.Channel.{Channel}
+use Rattle.mdp_desks.specs.Moments.{shown_lines}
 use Rattle.mdp_engine.specs.Engine.{Stands}
-use Rattle.mdp_engine.specs.Owed.{lines}
-use Rattle.mdp_engine.specs.Owed.{steps_of}
+use Rattle.mdp_engine.specs.Owed.{lines, steps_of}
 use Rattle.mdp_engine.specs.Steps.{event_of}
-use Rattle.mdp_engine.proofs.Owing.{stands_owed, taken_more}
+use Rattle.mdp_engine.proofs.Owing.{law_of_owed_text, taken_more}
 use Rattle.mdp_engine.proofs.engine.replay.Goals as goal
 
 pub loop-event-preserved : goal.loop-event-preserved
@@ -19,13 +19,24 @@ loop-event-preserved g c = record {
   channel = c.in_ok-on.ensures.channel ∙ c.loop-event.invariant.channel;
 }
 
-pub returns : goal.returns
-returns g c = λ feed honest.
+pub returns-clause-shown : goal.returns-clause-shown
+returns-clause-shown g c =
     let listed = c.args.instruments.now in
     let engine = c.loop-event.engine in
     let es = map event_of c.args.events.now in
     let all : take c.loop-event.event-index c.args.events.now ≡ c.args.events.now = take_all c.loop-event.event-index c.args.events.now (omega (arith, c.loop-event-test.false)) in
     let stands = subst (λ events. Stands listed (map event_of events) [] engine) all c.loop-event.invariant.stands in
     c.in_ok-drain_lines.ensures.text ∙ ap (λ (t : List ℕ). t ++ engine.held) c.new-text.ensures.items
-    ∙ stands_owed listed feed es [] engine honest stands
+    ∙ stands.shows.text_is
+    ∙ ap (λ (ch : Channel). shown_lines listed (trace ch es)) c.loop-event.invariant.channel
+
+pub returns-clause-owed : goal.returns-clause-owed
+returns-clause-owed g c = λ feed honest.
+    let listed = c.args.instruments.now in
+    let engine = c.loop-event.engine in
+    let es = map event_of c.args.events.now in
+    let all : take c.loop-event.event-index c.args.events.now ≡ c.args.events.now = take_all c.loop-event.event-index c.args.events.now (omega (arith, c.loop-event-test.false)) in
+    let stands = subst (λ events. Stands listed (map event_of events) [] engine) all c.loop-event.invariant.stands in
+    c.in_ok-drain_lines.ensures.text ∙ ap (λ (t : List ℕ). t ++ engine.held) c.new-text.ensures.items
+    ∙ law_of_owed_text listed feed es [] engine honest stands
     ∙ ap (λ (ch : Channel). lines listed feed (steps_of (trace ch es))) c.loop-event.invariant.channel

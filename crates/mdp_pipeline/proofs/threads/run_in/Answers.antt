@@ -26,11 +26,11 @@ returns-in_default-clause-begins g c = begins_nothing c.args.instruments.now c.a
 
 pub returns-clause-text : goal.returns-clause-text
 returns-clause-text g c =
-    map_ok c.settle_and_finish.result _ _ (λ summary ends. ends c.args.instruments.now c.args.window c.args.start (g.W.CountedWrite.taken c.args.writer.now) c.args.board.now c.run_crew-crew.new.board c.run_crew-crew.ensures.shows c.run_crew-crew.ensures.publishes) c.settle_and_finish.ensures.text
+    map_ok c.settle_and_finish.result _ _ (λ summary ends. ends c.args.instruments.now c.args.window c.args.start (g.W.CountedWrite.taken c.args.writer.now) c.args.board.now c.run_crew-crew.new.board c.run_crew-crew.ensures.shows) c.settle_and_finish.ensures.text
 
 pub returns-clause-begins : goal.returns-clause-begins
 returns-clause-begins g c =
-    map_err c.settle_and_finish.result _ _ (λ fault ends. ends c.args.instruments.now c.args.window c.args.start (g.W.CountedWrite.taken c.args.writer.now) c.args.board.now c.run_crew-crew.new.board c.run_crew-crew.ensures.shows c.run_crew-crew.ensures.publishes) c.settle_and_finish.ensures.begins
+    map_err c.settle_and_finish.result _ _ (λ fault ends. ends c.args.instruments.now c.args.window c.args.start (g.W.CountedWrite.taken c.args.writer.now) c.args.board.now c.run_crew-crew.new.board c.run_crew-crew.ensures.shows) c.settle_and_finish.ensures.begins
 
 pub returns-clause-written : goal.returns-clause-written
 returns-clause-written g c =

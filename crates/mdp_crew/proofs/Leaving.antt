@@ -1,0 +1,128 @@
+-- What of the first batches' rounds went out before an early end, moment by moment.
+use Rattle.std.proofs.Common.{◌≡◌, ◌≢◌, ◌≤◌, ℕ, List, [], ◌∷◌, ◌++◌, map, refl, sym, ap, ◌∙◌, subst}
+use Rattle.std.specs.Prelude.{Option}
+use Rattle.std.specs.List.{AllPairs}
+use Rattle.std.proofs.lemmas.List.{append-nil, append_cancel_left}
+use Rattle.std.proofs.lemmas.List.Concat.{flat_map-append}
+use Rattle.mdp_templates.specs.declared.instrument.Instrument.{Instrument}
+use Rattle.mdp_lanes.specs.Boards.{Published}
+use Rattle.mdp_lanes.specs.declared.step.Step.{Step}
+use Rattle.mdp_arbiter.specs.Channel.{ids_of}
+use Rattle.mdp_arbiter.specs.Machine.{Move}
+use Rattle.mdp_desks.specs.Moments.{Moment, moment_text, moments, moments_after, shown_lines, text_of_moments}
+use Rattle.mdp_desks.specs.Reports.{Report}
+use Rattle.mdp_desks.proofs.Moments.{moments-append}
+use Rattle.mdp_engine.specs.RoundLaws.{Ascend}
+use Rattle.mdp_engine.specs.Rounds.{batch_of, kept_at_start}
+use Rattle.mdp_steps.specs.Sent.{moves_sent}
+use Rattle.mdp_reports.specs.Behind.{IsBehind}
+use Rattle.mdp_reports.specs.BoardSteps.{step_of_moment}
+use Rattle.mdp_reports.specs.Taking.{View}
+use Rattle.mdp_reports.proofs.Behind.{behind_in_steps, behind_in_text, behind_more}
+use Rattle.mdp_crew.specs.Collecting.{IsCut, steps_of_batches, text_of_batches}
+use Rattle.mdp_crew.specs.Collecting.IsCut.{among_steps, in_last}
+use Rattle.mdp_crew.specs.Publishing.{published_on}
+use Rattle.mdp_crew.specs.Running.{WentOut}
+use Rattle.mdp_crew.proofs.Meeting.{ascend_front, steps_are_shown, text_is_shown}
+use Rattle.mdp_crew.proofs.Settling.{rounds_of}
+
+-- a collector before any round
+abbrev pub begun : List Instrument → View
+begun listed = record { listed = listed; kept = kept_at_start listed }
+
+-- where all went out
+pub all_out : (ms : List Moment) (start taken : List ℕ) (board board' : Option Published) → taken ≡ start ++ text_of_moments ms → board' ≡ published_on board (map step_of_moment ms) → WentOut ms [] start taken board board'
+all_out ms start taken board board' text steps = record {
+  sent = text_of_moments ms;
+  steps = map step_of_moment ms;
+  taken_is = text;
+  board_is = steps;
+  behind = behind_in_steps ms (map step_of_moment ms) [] (sym (append-nil (map step_of_moment ms)));
+}
+
+-- where more moments come
+pub out_more : (ms more : List Moment) (end start taken : List ℕ) (board board' : Option Published) → WentOut ms [] start taken board board' → WentOut (ms ++ more) end start taken board board'
+out_more ms more end start taken board board' out = record {
+  sent = out.sent;
+  steps = out.steps;
+  taken_is = out.taken_is;
+  board_is = out.board_is;
+  behind = behind_more ms more end out.sent out.steps out.behind;
+}
+
+-- the last of these rounds is of the last of these batches
+last_round : (listed : List Instrument) (n : ℕ) (before : List Move) (xs : List (List Move)) (done : List (List (List Report))) (round : List (List Report)) → rounds_of listed n before xs ≡ done ++ round ∷ []
+    → (first : List (List Move)) × (last : List Move) × (xs ≡ first ++ last ∷ []) × (done ≡ rounds_of listed n before first)
+last_round listed n before [] [] round is = absurd cc
+last_round listed n before [] (d ∷ done) round is = absurd cc
+last_round listed n before (x ∷ []) [] round is = ([], x, refl, refl)
+last_round listed n before (x ∷ y ∷ xs) [] round is = absurd cc
+last_round listed n before (x ∷ xs) (d ∷ done) round is =
+    let here : batch_of n (moments_after listed before x) ≡ d = cc in
+    let rest : rounds_of listed n (before ++ x) xs ≡ done ++ round ∷ [] = cc in
+    let at = last_round listed n (before ++ x) xs done round rest in (
+      x ∷ at.0,
+      at.1,
+      ap (λ (l : List (List Move)). x ∷ l) at.2,
+      ap (λ (r : List (List Report)). r ∷ done) (sym here) ∙ ap (λ (l : List (List (List Report))). batch_of n (moments_after listed before x) ∷ l) at.3,
+    )
+
+sent_push : (first : List (List Move)) (last : List Move) → moves_sent (first ++ last ∷ []) ≡ moves_sent first ++ last
+sent_push first last =
+    flat_map-append (λ (moves : List Move). moves) first (last ∷ [])
+    ∙ ap (λ (l : List Move). moves_sent first ++ l) (append-nil last)
+
+-- the moments of the first batches, and those of the last one
+moments_push : (listed : List Instrument) (first : List (List Move)) (last : List Move) → moments listed (moves_sent (first ++ last ∷ [])) ≡ moments listed (moves_sent first) ++ moments_after listed (moves_sent first) last
+moments_push listed first last = ap (moments listed) (sent_push first last) ∙ moments-append listed [] (moves_sent first) last
+
+-- the text of all but the last batch, and of the last one's a beginning
+out_in_last : (listed : List Instrument) (n : ℕ) (first : List (List Move)) (last : List Move) (sent rest start taken : List ℕ) (board board' : Option Published)
+    → 1 ≤ n → AllPairs (λ a b. a ≢ b) (ids_of listed) → Ascend listed 1 (moves_sent (first ++ last ∷ []))
+    → text_of_batches (begun listed) (rounds_of listed n [] (first ++ last ∷ [])) ≡ text_of_batches (begun listed) (rounds_of listed n [] first) ++ (sent ++ rest)
+    → taken ≡ start ++ (text_of_batches (begun listed) (rounds_of listed n [] first) ++ sent) → board' ≡ published_on board (map step_of_moment (moments listed (moves_sent first)))
+    → WentOut (moments listed (moves_sent (first ++ last ∷ []))) [] start taken board board'
+out_in_last listed n first last sent rest start taken board board' some differ ascend whole text steps =
+    let ms = moments listed (moves_sent first) in
+    let next = moments_after listed (moves_sent first) last in
+    let ahead : Ascend listed 1 (moves_sent first) = ascend_front listed 1 (moves_sent first) last (subst (Ascend listed 1) (sent_push first last) ascend) in
+    let front : text_of_batches (begun listed) (rounds_of listed n [] first) ≡ text_of_moments ms = text_is_shown listed n first some differ ahead in
+    let both : text_of_moments ms ++ text_of_moments next ≡ text_of_moments ms ++ (sent ++ rest) =
+    sym (flat_map-append moment_text ms next)
+    ∙ ap text_of_moments (sym (moments_push listed first last))
+    ∙ sym (text_is_shown listed n (first ++ last ∷ []) some differ ascend)
+    ∙ whole
+    ∙ ap (λ (t : List ℕ). t ++ (sent ++ rest)) front in
+    record {
+      sent = text_of_moments ms ++ sent;
+      steps = map step_of_moment ms;
+      taken_is = text ∙ ap (λ (t : List ℕ). start ++ (t ++ sent)) front;
+      board_is = steps;
+      behind =
+          subst (λ (all : List Moment). IsBehind all [] (text_of_moments ms ++ sent) (map step_of_moment ms)) (sym (moments_push listed first last))
+          (behind_in_text ms next sent rest (append_cancel_left (text_of_moments ms) (text_of_moments next) (sent ++ rest) both));
+    }
+
+-- of the rounds of these batches so much went out
+pub out_of_rounds : (listed : List Instrument) (n : ℕ) (xs : List (List Move)) (rounds : List (List (List Report))) (start taken : List ℕ) (board board' : Option Published)
+    → 1 ≤ n → AllPairs (λ a b. a ≢ b) (ids_of listed) → Ascend listed 1 (moves_sent xs) → rounds ≡ rounds_of listed n [] xs → IsCut (begun listed) rounds start taken board board'
+    → WentOut (moments listed (moves_sent xs)) [] start taken board board'
+out_of_rounds listed n xs rounds start taken board board' some differ ascend are (among_steps shown hidden all text steps) =
+    let ms = moments listed (moves_sent xs) in
+    record {
+      sent = text_of_moments ms;
+      steps = shown;
+      taken_is = text ∙ ap (λ (l : List (List (List Report))). start ++ text_of_batches (begun listed) l) are ∙ ap (λ (t : List ℕ). start ++ t) (text_is_shown listed n xs some differ ascend);
+      board_is = steps;
+      behind = behind_in_steps ms shown hidden (sym (steps_are_shown listed n xs some) ∙ ap steps_of_batches (sym are) ∙ all);
+    }
+out_of_rounds listed n xs rounds start taken board board' some differ ascend are (in_last done round sent rest parts whole text steps) =
+    let at = last_round listed n [] xs done round (sym are ∙ parts) in
+    let first = at.0 in
+    let last = at.1 in
+    let of_done : text_of_batches (begun listed) done ≡ text_of_batches (begun listed) (rounds_of listed n [] first) = ap (text_of_batches (begun listed)) at.3 in
+    subst (λ (l : List (List Move)). WentOut (moments listed (moves_sent l)) [] start taken board board') (sym at.2)
+    (out_in_last listed n first last sent rest start taken board board' some differ (subst (λ (l : List (List Move)). Ascend listed 1 (moves_sent l)) at.2 ascend)
+    (ap (λ (l : List (List Move)). text_of_batches (begun listed) (rounds_of listed n [] l)) (sym at.2) ∙ ap (text_of_batches (begun listed)) (sym are) ∙ whole ∙ ap (λ (t : List ℕ). t ++ (sent ++ rest)) of_done)
+    (text ∙ ap (λ (t : List ℕ). start ++ (t ++ sent)) of_done)
+    (steps ∙ ap (λ (l : List (List (List Report))). published_on board (steps_of_batches l)) at.3 ∙ ap (published_on board) (steps_are_shown listed n first some)))
