@@ -29,12 +29,6 @@ pub record IsFirstSet (low high n : ℕ) (marks : List Bool) : Type 0 where
   pub is_set : get_or marks n false ≡ true
   pub before : AreClear low n marks
 
--- every mark that is set stands from `low` on and below `high`
-pub record AreWithin (low high : ℕ) (marks : List Bool) : Type 0 where
-  pub short : high ≤ length marks
-  pub before : (n : ℕ) → n < low → get_or marks n false ≡ false
-  pub behind : (n : ℕ) → high ≤ n → get_or marks n false ≡ false
-
 -- the ids stand in listed order and all differ, and so do the marks beside them; each book has a depth of its kind
 pub record AreBeside (desks : List Desk) (ids : List ℤ) (marks : List Bool) : Type 0 where
   pub same : ids ≡ ids_of (listed_in desks)

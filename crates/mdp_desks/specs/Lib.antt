@@ -8,4 +8,3 @@ pub mod Moments
 pub mod Shares
 pub mod Reports
 pub mod ShareLaws
-pub mod ToldCode

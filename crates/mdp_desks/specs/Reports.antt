@@ -22,11 +22,6 @@ abbrev pub told_there : ℕ → ℕ → ℕ → Option Seen → List Told
 told_there packet message slot None = []
 told_there packet message slot (Some s) = if s.printed then told_of packet message slot s ∷ [] else []
 
--- that one, where there is one
-abbrev pub told_list : Option Told → List Told
-told_list None = []
-told_list (Some t) = t ∷ []
-
 -- of the securities at these slots
 abbrev pub told_by : ℕ → ℕ → List ℕ → List (Option Seen) → List Told
 told_by packet message [] seen = []

@@ -2,7 +2,6 @@
 use Rattle.std.specs.Prelude.{ℕ, ◌+◌, ◌%◌, ◌==◌, Bool, List, [], ◌∷◌, if◌then◌else◌, map}
 use Rattle.mdp_arbiter.specs.Machine.{Move}
 use Rattle.mdp_arbiter.specs.Machine.Move.{passed, jumped}
-use Rattle.mdp_desks.specs.Moments.{Moment, ended, leapt}
 
 -- what stands at the slots that are one's own, of a list that begins at this slot
 abbrev pub own_part : {X : Type 0} → (ℕ → Bool) → ℕ → List X → List X
@@ -25,8 +24,3 @@ own_move mine (jumped old new snapshots) = jumped old new (own_part mine 0 snaps
 
 abbrev pub own_moves : (ℕ → Bool) → List Move → List Move
 own_moves mine moves = map (own_move mine) moves
-
--- a moment of its own securities alone
-abbrev pub own_moment : (ℕ → Bool) → Moment → Moment
-own_moment mine (ended packet message seen) = ended packet message (own_part mine 0 seen)
-own_moment mine (leapt old new) = leapt old new

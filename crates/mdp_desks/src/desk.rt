@@ -1,15 +1,14 @@
 //! A listed security: its book, moved forward in place, and its mark.
 
-ghost use Rattle.std.specs.Prelude.{◌≡◌, ◌++◌, IfOk, OnOk};
+ghost use Rattle.std.specs.Prelude.{◌≡◌, ◌++◌, OnErr, OnOk};
 ghost use Rattle.mdp_templates.specs.Instrument.{HasDepth};
 ghost use Rattle.mdp_desks.specs.Desks.{desk_at_start, desk_entered, desk_jumped, desk_rebased, desk_settled, desk_standing};
 ghost use Rattle.mdp_desks.specs.Lines.{text_of};
-ghost use Rattle.mdp_desks.specs.Reports.{told_list, told_there};
+ghost use Rattle.mdp_print.specs.Pieces.{BeginsWith};
 
 use crate::lines::put_book;
-use crate::told::ToldSecurity;
 use mdp_books::Place;
-use mdp_quotes::{Best, Live};
+use mdp_quotes::Live;
 use mdp_templates::{Entry, Instrument, Memory, Snapshot};
 use std::alloc::Allocator;
 
@@ -77,46 +76,19 @@ impl Desk {
         }
     }
 
-    /// Appends the lines that are owed where an event ends.
+    /// Appends the lines that are owed where an event ends. Where memory runs out, what was there stays in front.
     pub fn put<A: Allocator>(
         &self,
         out: &mut Vec<u8, A>,
         packet: u32,
         message: u64,
     ) -> Result<(), Memory>
-        ensures { OnOk result (out.new.items ≡ out.old.items ++ text_of packet message (desk_standing packet self.now)) }
+        ensures ok { OnOk result (out.new.items ≡ out.old.items ++ text_of packet message (desk_standing packet self.now)) }
+        ensures err { OnErr result (BeginsWith out.new.items out.old.items) }
     {
         if packet > self.base && self.marked {
             put_book(out, packet, message, &self.instrument.name, &self.book)?;
         }
         Ok(())
-    }
-
-    /// Tells what an event end in message `message` of packet `packet` shows of the security, which stands at this place; none where
-    /// it is not printed there.
-    ///
-    /// # Errors
-    ///
-    /// Memory ran out.
-    pub fn tell<A: Allocator + Copy>(
-        &self,
-        alloc: A,
-        packet: u32,
-        message: u64,
-        slot: u16,
-    ) -> Result<Option<ToldSecurity<A>>, Memory>
-        ensures { IfOk result (λ told. told_list told ≡ told_there packet message slot (desk_standing packet self.now)) }
-    {
-        if packet <= self.base {
-            return Ok(None);
-        }
-        if !self.marked {
-            return Ok(None);
-        }
-        let mut lines = Vec::new(alloc);
-        let name = &self.instrument.name;
-        let top = put_book(&mut lines, packet, message, name, &self.book)?;
-        let best = Best::of(self.book.book());
-        Ok(Some(ToldSecurity::new(slot, lines, best, top)))
     }
 }

@@ -1,12 +1,13 @@
 //! The desks of all listed securities.
 
-ghost use Rattle.std.specs.Prelude.{◌≡◌, ◌≢◌, ◌++◌, ◌≤◌, ℕ, All, AllPairs, IfOk, OnOk, IfSome, IfNone, Some, slice_get, map, length};
+ghost use Rattle.std.specs.Prelude.{◌≡◌, ◌≢◌, ◌++◌, ◌≤◌, ℕ, All, AllPairs, IfOk, OnErr, OnOk, IfSome, IfNone, Some, slice_get, map, length};
 ghost use Rattle.std.specs.List.{flat_map};
 ghost use Rattle.mdp_templates.specs.Instrument.{HasDepth};
 ghost use Rattle.mdp_arbiter.specs.Channel.{ids_of};
 ghost use Rattle.mdp_desks.specs.Beside.{listed_in, marks_of};
 ghost use Rattle.mdp_desks.specs.Desks.{desk_at_start, desk_heard, desk_settled, desk_standing, desks_through, rebased_desks};
 ghost use Rattle.mdp_desks.specs.Lines.{text_of};
+ghost use Rattle.mdp_print.specs.Pieces.{BeginsWith};
 
 use crate::desk::Desk;
 use crate::marked::Marked;
@@ -63,7 +64,8 @@ fn put_marked<A: Allocator>(
     marked: &Marked<A>,
 ) -> Result<(), Memory>
     requires { marked.now ≡ marks_of desks.now }
-    ensures { OnOk result (out.new.items ≡ out.old.items ++ flat_map (text_of packet message) (map (desk_standing packet) desks.now)) }
+    ensures ok { OnOk result (out.new.items ≡ out.old.items ++ flat_map (text_of packet message) (map (desk_standing packet) desks.now)) }
+    ensures err { OnErr result (BeginsWith out.new.items out.old.items) }
 {
     let mut from = 0;
     while let Some(n) = marked.next_from(from) {
@@ -170,9 +172,11 @@ impl<A: Allocator + Copy> Desks<A> {
         }
     }
 
-    /// Appends the lines of the books that an event end in message `message` of packet `packet` prints.
+    /// Appends the lines of the books that an event end in message `message` of packet `packet` prints. Where memory runs out, what
+    /// was there stays in front.
     pub fn put_books(&self, out: &mut Vec<u8, A>, packet: u32, message: u64) -> Result<(), Memory>
-        ensures { OnOk result (out.new.items ≡ out.old.items ++ flat_map (text_of packet message) (map (desk_standing packet) self.now)) }
+        ensures ok { OnOk result (out.new.items ≡ out.old.items ++ flat_map (text_of packet message) (map (desk_standing packet) self.now)) }
+        ensures err { OnErr result (BeginsWith out.new.items out.old.items) }
     {
         put_marked(out, packet, message, &self.desks, &self.marked)
     }

@@ -7,11 +7,9 @@ mod desks;
 mod laws;
 mod lines;
 mod marked;
-mod told;
 
 pub use desk::Desk;
 pub use desks::Desks;
 pub use laws::law_of_shares;
 pub use lines::put_book;
 pub use marked::Marked;
-pub use told::ToldSecurity;

@@ -1,8 +1,9 @@
 //! The lines of a book where an event ends.
 
-ghost use Rattle.std.specs.Prelude.{◌≡◌, ◌++◌, IfOk, OnOk};
+ghost use Rattle.std.specs.Prelude.{◌≡◌, ◌++◌, IfOk, OnErr, OnOk};
 ghost use Rattle.mdp_quotes.specs.Consolidation.{quotes_of};
 ghost use Rattle.mdp_quotes.specs.Top.{top_of_book, top_of_quotes};
+ghost use Rattle.mdp_print.specs.Pieces.{BeginsWith};
 ghost use Rattle.mdp_print.specs.Texts.{consolidated_line};
 ghost use Rattle.mdp_desks.specs.Lines.{book_lines};
 
@@ -19,6 +20,7 @@ fn put_totals<A: Allocator>(
     sides: &Sides,
 ) -> Result<TopOfBook, Memory>
     ensures line { OnOk result (out.new.items ≡ out.old.items ++ consolidated_line head.now (quotes_of sides.now).bids (quotes_of sides.now).offers) }
+    ensures err { OnErr result (BeginsWith out.new.items out.old.items) }
     ensures top { IfOk result (λ top. top ≡ top_of_quotes (quotes_of sides.now)) }
 {
     if are_in_order(sides) {
@@ -32,7 +34,7 @@ fn put_totals<A: Allocator>(
 
 /// Appends the lines of a book where message `message` of packet `packet` ends an event: its direct,
 /// implied and consolidated sides, or the place of its first impossible entry. Hands back the top of the
-/// consolidated sides; none of a faulty book.
+/// consolidated sides; none of a faulty book. Where memory runs out, what was there stays in front.
 pub fn put_book<A: Allocator>(
     out: &mut Vec<u8, A>,
     packet: u32,
@@ -41,6 +43,7 @@ pub fn put_book<A: Allocator>(
     live: &Live,
 ) -> Result<Option<TopOfBook>, Memory>
     ensures ok { OnOk result (out.new.items ≡ out.old.items ++ book_lines packet message name.now live.now) }
+    ensures err { OnErr result (BeginsWith out.new.items out.old.items) }
     ensures top { IfOk result (λ top. top ≡ top_of_book live.now) }
 {
     match live.book() {

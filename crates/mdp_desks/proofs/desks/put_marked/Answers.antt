@@ -1,8 +1,10 @@
-use Rattle.std.proofs.Common.{◌≡◌, ◌<◌, length, ap, ◌∙◌, refl, arith, subst}
+use Rattle.std.proofs.Common.{rules, ◌≡◌, ◌<◌, ℕ, length, ap, sym, ◌∙◌, refl, arith, subst}
 use Rattle.std.specs.Prelude.{List, Bool}
 use Rattle.std.proofs.lemmas.List.{length-map}
 use Rattle.mdp_desks.specs.Beside.{AreClear}
-use Rattle.mdp_desks.proofs.Passing.{lines_more, lines_end}
+use Rattle.mdp_print.specs.Pieces.{BeginsWith}
+use Rattle.mdp_print.proofs.Fronts.{begins_more}
+use Rattle.mdp_desks.proofs.Passing.{begins_first, lines_more, lines_end}
 use Rattle.mdp_desks.proofs.desks.put_marked.Goals as goal
 
 pub loop-n-preserved : goal.loop-n-preserved
@@ -15,13 +17,19 @@ loop-n-preserved g c =
     let clear = subst (λ (ms : List Bool). AreClear c.loop-n.from n ms) c.requires first.before in
     record {
       inside = omega (arith, less);
-      text = lines_more c.args.packet c.args.message ds c.loop-n.from n _ c.loop-n.out.items c.put.new.out.items _ first.behind less clear c.index-desks-n.is c.in_ok-put.ensures c.loop-n.invariant.text;
+      text = lines_more c.args.packet c.args.message ds c.loop-n.from n _ c.loop-n.out.items c.put.new.out.items _ first.behind less clear c.index-desks-n.is c.in_ok-put.ensures.ok c.loop-n.invariant.text;
+      front = subst (λ (ys : List ℕ). BeginsWith ys c.args.out.now.items) (sym c.in_ok-put.ensures.ok) (begins_more c.args.out.now.items c.loop-n.out.items _ c.loop-n.invariant.front);
     }
 
-pub returns : goal.returns
-returns g c =
+pub returns-clause-ok : goal.returns-clause-ok
+returns-clause-ok g c =
     let ds = c.args.desks.now in
     let long : length c.args.marked.now ≡ length ds = ap length c.requires ∙ simp length-map refl in
     let none = c.in_default.ensures.none in
     let clear = subst (λ (ms : List Bool). AreClear c.loop-n.from (length ds) ms) c.requires (λ i from under. none i from (omega (arith, under, long))) in
     lines_end c.args.packet c.args.message ds c.loop-n.from c.loop-n.out.items _ c.loop-n.invariant.inside clear c.loop-n.invariant.text
+
+pub returns-in_err-put-clause-err : goal.returns-in_err-put-clause-err
+returns-in_err-put-clause-err g c =
+    let front : BeginsWith c.put.new.out.items c.args.out.now.items = begins_first c.args.out.now.items c.loop-n.out.items c.put.new.out.items c.loop-n.invariant.front c.in_err-put.ensures.err in
+    search rules
