@@ -1,9 +1,10 @@
 //! The desks of all listed securities, with their calendar spreads.
 
-ghost use Rattle.std.specs.Prelude.{◌≡◌, ◌++◌, ◌≤◌, IfOk, OnOk, map, length};
+ghost use Rattle.std.specs.Prelude.{◌≡◌, ◌++◌, ◌≤◌, IfOk, OnErr, OnOk, map, length};
 ghost use Rattle.std.specs.List.{flat_map};
 ghost use Rattle.mdp_templates.specs.Instrument.{AreFit};
 ghost use Rattle.mdp_books.specs.Feed.{sent_as, sent_in};
+ghost use Rattle.mdp_print.specs.Pieces.{BeginsWith};
 ghost use Rattle.mdp_print.specs.Texts.{jump_line};
 ghost use Rattle.mdp_desks.specs.Desks.{desk_at_start, desk_settled, desk_standing, desks_after, desks_moment, desks_through, passed_desks, passed_moments, rebased_desks};
 ghost use Rattle.mdp_desks.specs.Lines.{audit_text, lines_as};
@@ -71,6 +72,7 @@ impl<A: Allocator + Copy> AuditedDesks<A> {
     fn put_spreads(&mut self, out: &mut Vec<u8, A>, packet: u32, message: u64) -> Result<(), Memory>
         ensures same { self.new ≡ self.old }
         ensures text { OnOk result (out.new.items ≡ out.old.items ++ flat_map (audit_text packet message (map (desk_standing packet) self.old)) (map (desk_standing packet) self.old)) }
+        ensures err { OnErr result (BeginsWith out.new.items out.old.items) }
     {
         mark_spreads(&mut self.due, self.desks.marked(), &self.parts);
         put_audits(
@@ -89,6 +91,7 @@ impl<A: Allocator + Copy> AuditedDesks<A> {
     fn put(&mut self, out: &mut Vec<u8, A>, packet: u32, message: u64) -> Result<(), Memory>
         ensures same { self.new ≡ self.old }
         ensures text { OnOk result (out.new.items ≡ out.old.items ++ lines_as packet message (map (desk_standing packet) self.old)) }
+        ensures err { OnErr result (BeginsWith out.new.items out.old.items) }
     {
         self.desks.put_books(out, packet, message)?;
         self.put_spreads(out, packet, message)
@@ -111,6 +114,7 @@ impl<A: Allocator + Copy> AuditedDesks<A> {
     ) -> Result<(), Memory>
         ensures desks { OnOk result (self.new ≡ desks_after (sent_as packet message taken.now) self.old) }
         ensures text { OnOk result (out.new.items ≡ out.old.items ++ text_of_moments (desks_moment (sent_as packet message taken.now) self.old)) }
+        ensures err { OnErr result (BeginsWith out.new.items out.old.items) }
     {
         self.hear(packet, message, taken.entries());
         if taken.is_end() {
@@ -120,11 +124,12 @@ impl<A: Allocator + Copy> AuditedDesks<A> {
         Ok(())
     }
 
-    /// Passes a packet, and appends the lines that its event ends owe. After want of memory the text and
-    /// the desks are of no more use.
+    /// Passes a packet, and appends the lines that its event ends owe. After want of memory the
+    /// desks are of no more use, and what the text had before stands in front of it.
     pub fn pass(&mut self, out: &mut Vec<u8, A>, packet: &Packet<A>) -> Result<(), Memory>
         ensures desks { OnOk result (self.new ≡ passed_desks (sent_in packet.now) self.old) }
         ensures text { OnOk result (out.new.items ≡ out.old.items ++ text_of_moments (passed_moments (sent_in packet.now) self.old)) }
+        ensures err { OnErr result (BeginsWith out.new.items out.old.items) }
     {
         let number = packet.number();
         for n in 0..packet.len() {
@@ -141,7 +146,8 @@ impl<A: Allocator + Copy> AuditedDesks<A> {
     }
 
     /// Jumps from packet number `old` to `new`: appends the line of the jump, and replaces each book by its security's
-    /// snapshot, listed side by side, where there is one. After want of memory the text and the desks are of no more use.
+    /// snapshot, listed side by side, where there is one. After want of memory the desks are of no more use, and what the text had before stands
+    /// in front of it.
     pub fn jump(
         &mut self,
         out: &mut Vec<u8, A>,
@@ -151,6 +157,7 @@ impl<A: Allocator + Copy> AuditedDesks<A> {
     ) -> Result<(), Memory>
         ensures desks { OnOk result (self.new ≡ rebased_desks bases.now self.old) }
         ensures text { OnOk result (out.new.items ≡ out.old.items ++ jump_line old new) }
+        ensures err { OnErr result (BeginsWith out.new.items out.old.items) }
     {
         put_jump(out, old, new)?;
         self.rebase(bases);

@@ -1,7 +1,8 @@
 //! The lines of calendar spreads where an event ends.
 
-ghost use Rattle.std.specs.Prelude.{◌≡◌, ◌++◌, ◌&&◌, ◌||◌, false, get_or, nat_lt, map, length, OnOk};
+ghost use Rattle.std.specs.Prelude.{◌≡◌, ◌++◌, ◌&&◌, ◌||◌, false, get_or, nat_lt, map, length, OnErr, OnOk};
 ghost use Rattle.std.specs.List.{flat_map};
+ghost use Rattle.mdp_print.specs.Pieces.{BeginsWith};
 ghost use Rattle.mdp_desks.specs.Desks.{desk_standing};
 ghost use Rattle.mdp_engine.specs.Spreads.{spread_line};
 ghost use Rattle.mdp_desks.specs.Lines.{verdicts_text, spread_text, audit_text};
@@ -26,7 +27,8 @@ pub fn put_verdicts<A: Allocator>(
     leg1: Option<Best>,
     leg2: Option<Best>,
 ) -> Result<(), Memory>
-    ensures { OnOk result (out.new.items ≡ out.old.items ++ verdicts_text packet message name.now spread leg1 leg2) }
+    ensures ok { OnOk result (out.new.items ≡ out.old.items ++ verdicts_text packet message name.now spread leg1 leg2) }
+    ensures err { OnErr result (BeginsWith out.new.items out.old.items) }
 {
     match (spread, leg1, leg2) {
         (Some(spread), Some(leg1), Some(leg2)) => {
@@ -76,7 +78,8 @@ fn put_spread<A: Allocator>(
     is_one_marked: bool,
 ) -> Result<(), Memory>
     requires { is_one_marked ≡ (spread.now.marked || leg1.now.marked || leg2.now.marked) }
-    ensures { OnOk result (out.new.items ≡ out.old.items ++ spread_text packet message (desk_standing packet spread.now) (desk_standing packet leg1.now) (desk_standing packet leg2.now)) }
+    ensures ok { OnOk result (out.new.items ≡ out.old.items ++ spread_text packet message (desk_standing packet spread.now) (desk_standing packet leg1.now) (desk_standing packet leg2.now)) }
+    ensures err { OnErr result (BeginsWith out.new.items out.old.items) }
 {
     if !is_one_marked {
         return Ok(());
@@ -106,7 +109,8 @@ fn put_audit_at<A: Allocator>(
 ) -> Result<(), Memory>
     requires marks { marked.now ≡ marks_of desks.now }
     requires under { IsUnder (length desks.now) spread.now }
-    ensures { OnOk result (out.new.items ≡ out.old.items ++ spread_line packet message desks.now spread.now) }
+    ensures ok { OnOk result (out.new.items ≡ out.old.items ++ spread_line packet message desks.now spread.now) }
+    ensures err { OnErr result (BeginsWith out.new.items out.old.items) }
 {
     put_spread(
         out,
@@ -140,6 +144,7 @@ pub(crate) fn put_audits<A: Allocator>(
     requires quiet { AreQuiet marked.now spreads.now due.old }
     ensures long { length due.new ≡ length due.old }
     ensures text { OnOk result (out.new.items ≡ out.old.items ++ flat_map (audit_text packet message (map (desk_standing packet) desks.now)) (map (desk_standing packet) desks.now)) }
+    ensures err { OnErr result (BeginsWith out.new.items out.old.items) }
 {
     let mut from = 0;
     while let Some(n) = due.next_from(from) {

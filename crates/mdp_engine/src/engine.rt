@@ -1,6 +1,6 @@
 //! The engine: what comes on a channel in, the lines that its moves owe out.
 
-ghost use Rattle.std.specs.Prelude.{◌≡◌, ◌++◌, [], ◌∷◌, List, ℕ, true, false, nat_lt, map, IfOk, IfErr, IsErr, OnOk};
+ghost use Rattle.std.specs.Prelude.{◌≡◌, ◌++◌, [], ◌∷◌, List, ℕ, true, false, nat_lt, map, IfOk, IfErr, IsErr, OnErr, OnOk};
 ghost use Rattle.std.specs.FinMap as map;
 ghost use Rattle.mdp_templates.specs.Packet.{PacketContent};
 ghost use Rattle.mdp_templates.specs.Instrument.{AreFit};
@@ -10,6 +10,7 @@ ghost use Rattle.mdp_arbiter.specs.Machine.{State, is_lost, state_at, trace};
 ghost use Rattle.mdp_arbiter.specs.Channel.{ids_of, channel_of};
 ghost use Rattle.mdp_arbiter.specs.Arbiter.{is_lost_now, state};
 ghost use Rattle.mdp_arbiter.specs.Standing.{StandsAt};
+ghost use Rattle.mdp_print.specs.Pieces.{BeginsWith};
 ghost use Rattle.mdp_desks.specs.Moments.{shown_lines};
 ghost use Rattle.mdp_engine.specs.Engine.{Advances, Stands};
 ghost use Rattle.mdp_engine.specs.Honest.{IsHonest};
@@ -117,6 +118,7 @@ impl<A: Allocator + Copy, W: Window<Packet<A>> + Drop> Engine<A, W> {
         ensures channel { OnOk result (self.new.arbiter.channel ≡ self.old.arbiter.channel) }
         ensures sound { OnOk result (self.new.has_failed ≡ false) }
         ensures fails { IfErr result (λ _. self.new.has_failed ≡ true) }
+        ensures err { OnErr result (BeginsWith self.new.held self.old.held) }
         ensures stays { self.old.has_failed ≡ true → IsErr result }
     {
         self.still_sound()?;
@@ -183,6 +185,7 @@ impl<A: Allocator + Copy, W: Window<Packet<A>> + Drop> Engine<A, W> {
             → Stands listed (es ++ event_of event ∷ []) drained self.new) }
         ensures channel { OnOk result (self.new.arbiter.channel ≡ self.old.arbiter.channel) }
         ensures sound { OnOk result (self.new.has_failed ≡ self.old.has_failed) }
+        ensures err { OnErr result (BeginsWith self.new.held self.old.held) }
     {
         if self.pass_at_once(&event)? {
             return Ok(());
@@ -199,6 +202,7 @@ impl<A: Allocator + Copy, W: Window<Packet<A>> + Drop> Engine<A, W> {
         ensures kept { IfOk result (λ passed. passed ≡ false → self.new ≡ self.old) }
         ensures channel { OnOk result (self.new.arbiter.channel ≡ self.old.arbiter.channel) }
         ensures sound { OnOk result (self.new.has_failed ≡ self.old.has_failed) }
+        ensures err { OnErr result (BeginsWith self.new.held self.old.held) }
     {
         let Event::Packet(packet) = event else {
             return Ok(false);
@@ -216,6 +220,7 @@ impl<A: Allocator + Copy, W: Window<Packet<A>> + Drop> Engine<A, W> {
         ensures keeps { OnOk result (state self.new.arbiter ≡ state self.old.arbiter) }
         ensures channel { OnOk result (self.new.arbiter.channel ≡ self.old.arbiter.channel) }
         ensures rest { OnOk result (self.new ≡ record self.old { arbiter = self.new.arbiter }) }
+        ensures err { OnErr result (BeginsWith self.new.held self.old.held) }
     {
         match event {
             Event::Packet(packet) => match self.arbiter.packet(packet) {
@@ -239,6 +244,7 @@ impl<A: Allocator + Copy, W: Window<Packet<A>> + Drop> Engine<A, W> {
         ensures advances { OnOk result (Advances self.old self.new) }
         ensures channel { OnOk result (self.new.arbiter.channel ≡ self.old.arbiter.channel) }
         ensures sound { OnOk result (self.new.has_failed ≡ self.old.has_failed) }
+        ensures err { OnErr result (BeginsWith self.new.held self.old.held) }
     {
         while let Some(step) = self.arbiter.step() {
             self.take_step(step)?;
@@ -252,6 +258,7 @@ impl<A: Allocator + Copy, W: Window<Packet<A>> + Drop> Engine<A, W> {
         ensures text { OnOk result (self.new.held ≡ self.old.held ++ stepped_text step self.old.desks) }
         ensures arbiter { OnOk result (self.new.arbiter ≡ self.old.arbiter) }
         ensures sound { OnOk result (self.new.has_failed ≡ self.old.has_failed) }
+        ensures err { OnErr result (BeginsWith self.new.held self.old.held) }
     {
         match step {
             Step::Pass(packet) => {

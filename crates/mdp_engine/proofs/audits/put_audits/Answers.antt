@@ -1,6 +1,9 @@
-use Rattle.std.proofs.Common.{◌≢◌, ◌<◌, ◌++◌, ℕ, List, false, length, get_or, sym, ap, ◌∙◌, arith}
+use Rattle.std.proofs.Common.{rules, ◌≢◌, ◌<◌, ◌++◌, ℕ, List, false, length, get_or, sym, ap, subst, ◌∙◌, arith}
 use Rattle.std.specs.List.{flat_map}
 use Rattle.std.proofs.lemmas.List.{length-set, get_or-set_other}
+use Rattle.mdp_print.specs.Pieces.{BeginsWith}
+use Rattle.mdp_print.proofs.Fronts.{begins_more}
+use Rattle.mdp_desks.proofs.Passing.{begins_first}
 use Rattle.mdp_engine.specs.Spreads.{spread_line}
 use Rattle.mdp_engine.proofs.Auditing.{audits_are, under_there}
 use Rattle.mdp_engine.proofs.Noting.{desks_silent, line_more, line_end}
@@ -28,7 +31,8 @@ loop-n-preserved g c =
       marks = λ k from.
           let other : k ≢ n = λ same. omega (arith, same, from) in
           ap (λ ms. get_or ms k false) c.put.ensures ∙ get_or-set_other due n k false false other ∙ was.marks k (omega (arith, from, first.behind));
-      text = line_more (spread_line c.args.packet c.args.message c.args.desks.now) c.args.spreads.now c.args.marked.now c.args.due.now due c.loop-n.from n _ c.loop-n.out.items c.put_audit_at.new.out.items _ (desks_silent c.args.packet c.args.message c.args.desks.now c.args.marked.now c.requires.marks) c.requires.quiet was.marks first.behind less first.before c.in_ok-put_audit_at.ensures was.text;
+      text = line_more (spread_line c.args.packet c.args.message c.args.desks.now) c.args.spreads.now c.args.marked.now c.args.due.now due c.loop-n.from n _ c.loop-n.out.items c.put_audit_at.new.out.items _ (desks_silent c.args.packet c.args.message c.args.desks.now c.args.marked.now c.requires.marks) c.requires.quiet was.marks first.behind less first.before c.in_ok-put_audit_at.ensures.ok was.text;
+      front = subst (λ (ys : List ℕ). BeginsWith ys c.args.out.now.items) (sym c.in_ok-put_audit_at.ensures.ok) (begins_more c.args.out.now.items c.loop-n.out.items _ was.front);
     }
 
 pub returns-clause-text : goal.returns-clause-text
@@ -43,3 +47,8 @@ returns-clause-text g c =
     line_end line spreads c.args.marked.now c.args.due.now c.loop-n.due c.loop-n.from c.loop-n.out.items (c.args.out.now.items ++ flat_map line spreads) (desks_silent c.args.packet c.args.message ds c.args.marked.now c.requires.marks) c.requires.quiet was.marks was.inside
     (λ i from under. none i from (omega (arith, under, long, c.requires.many))) was.text
     ∙ ap (λ (t : List ℕ). c.args.out.now.items ++ t) (sym whole)
+
+pub returns-in_err-put_audit_at-clause-err : goal.returns-in_err-put_audit_at-clause-err
+returns-in_err-put_audit_at-clause-err g c =
+    let front : BeginsWith c.put_audit_at.new.out.items c.args.out.now.items = begins_first c.args.out.now.items c.loop-n.out.items c.put_audit_at.new.out.items c.loop-n.invariant.front c.in_err-put_audit_at.ensures.err in
+    search rules

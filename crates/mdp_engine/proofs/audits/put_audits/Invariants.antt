@@ -1,5 +1,6 @@
 use Rattle.std.proofs.Common.{◌≡◌, ◌≤◌, ◌-◌, ◌++◌, ℕ, false, drop, length, get_or}
 use Rattle.std.specs.List.{flat_map}
+use Rattle.mdp_print.specs.Pieces.{BeginsWith}
 use Rattle.mdp_engine.specs.Spreads.{spread_line}
 use Rattle.mdp_engine.proofs.audits.put_audits.Given as goal
 
@@ -10,6 +11,7 @@ invariant-loop-n g l = record {
   long : length l.due ≡ length l.initial.due;
   marks : (k : ℕ) → l.from ≤ k → get_or l.due k false ≡ get_or l.initial.due k false;
   text : l.out.items ++ flat_map (spread_line l.packet l.message l.desks) (drop l.from l.spreads) ≡ l.initial.out.items ++ flat_map (spread_line l.packet l.message l.desks) l.spreads;
+  front : BeginsWith l.out.items l.initial.out.items;
 }
 
 -- each turn goes behind one mark

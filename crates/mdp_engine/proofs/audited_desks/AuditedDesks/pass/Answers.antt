@@ -1,6 +1,9 @@
-use Rattle.std.proofs.Common.{◌≡◌, ◌+◌, ◌++◌, ◌∷◌, ℕ, List, drop, append_assoc, ap, sym, ◌∙◌}
+use Rattle.std.proofs.Common.{◌≡◌, ◌+◌, ◌++◌, ◌∷◌, ℕ, List, drop, append_assoc, ap, sym, subst, rules, ◌∙◌}
 use Rattle.mdp_templates.specs.Packet.{MessageContent}
 use Rattle.mdp_templates.proofs.Spanning.{left_from}
+use Rattle.mdp_print.specs.Pieces.{BeginsWith}
+use Rattle.mdp_print.proofs.Fronts.{begins_more}
+use Rattle.mdp_desks.proofs.Passing.{begins_first}
 use Rattle.mdp_books.specs.Feed.{sent_as, sent_from}
 use Rattle.mdp_desks.specs.declared.desk.Desk.{Desk}
 use Rattle.mdp_desks.specs.Desks.{desks_after, desks_moment, passed_desks, passed_moments}
@@ -32,4 +35,10 @@ loop-n-preserved g c =
           ∙ ap (λ (t : List ℕ). out ++ t) (sym (flat_map-append moment_text here (passed_moments later (desks_after (sent_as k (n + 1) m) desks))))
           ∙ sym (ap (λ (l : List MessageContent). out ++ text_of_moments (passed_moments (sent_from k (n + 1) l) desks)) left)
           ∙ c.loop-n.invariant.text;
+      front = subst (λ (ys : List ℕ). BeginsWith ys c.args.out.now.items) (sym c.in_ok-take.ensures.text) (begins_more c.args.out.now.items out text c.loop-n.invariant.front);
     }
+
+pub returns-in_err-take-clause-err : goal.returns-in_err-take-clause-err
+returns-in_err-take-clause-err g c =
+    let front : BeginsWith c.take.new.out.items c.args.out.now.items = begins_first c.args.out.now.items c.loop-n.out.items c.take.new.out.items c.loop-n.invariant.front c.in_err-take.ensures.err in
+    search rules

@@ -1,4 +1,7 @@
-use Rattle.std.proofs.Common.{refl, sym, ap, subst, ◌∙◌}
+use Rattle.std.proofs.Common.{ℕ, List, refl, sym, ap, subst, rules, ◌∙◌}
+use Rattle.mdp_print.specs.Pieces.{BeginsWith}
+use Rattle.mdp_print.proofs.Fronts.{begins_more}
+use Rattle.mdp_desks.proofs.Passing.{begins_first}
 use Rattle.mdp_arbiter.specs.Arbiter.{View as ArbiterView}
 use Rattle.mdp_engine.specs.Engine.{View}
 use Rattle.mdp_engine.proofs.Moving.{MovesTo, moves_further, moves_settled}
@@ -12,6 +15,9 @@ loop-step-preserved g c =
       moves = moves_further c.args.self.now _ c.take_step.new.self c.step.new.self c.in-Some.step so_far kept c.in-Some.ensures.steps c.in-Some.ensures.channel c.in_ok-take_step.ensures.desks c.in_ok-take_step.ensures.text c.in_ok-take_step.ensures.arbiter;
       channel = ap (λ (v : ArbiterView). v.channel) c.in_ok-take_step.ensures.arbiter ∙ c.in-Some.ensures.channel ∙ kept;
       sound = c.in_ok-take_step.ensures.sound ∙ ap (λ (v : View). v.has_failed) c.self.view_is ∙ c.loop-step.invariant.sound;
+      front =
+          let so_far = subst (λ (v : View). BeginsWith v.held c.args.self.now.held) (sym c.self.view_is) c.loop-step.invariant.front in
+          subst (λ (t : List ℕ). BeginsWith t c.args.self.now.held) (sym c.in_ok-take_step.ensures.text) (begins_more c.args.self.now.held _ _ so_far);
     }
 
 pub returns-clause-advances : goal.returns-clause-advances
@@ -19,3 +25,9 @@ returns-clause-advances g c =
     let so_far = subst (λ (v : View). MovesTo c.args.self.now v) (sym c.self.view_is) c.loop-step.invariant.moves in
     let kept = ap (λ (v : View). v.arbiter.channel) c.self.view_is ∙ c.loop-step.invariant.channel in
     moves_settled c.args.self.now _ _ c.step.result c.in_default.is so_far kept c.step.ensures.steps c.in_default.ensures.channel refl refl
+
+pub returns-in_err-take_step-clause-err : goal.returns-in_err-take_step-clause-err
+returns-in_err-take_step-clause-err g c =
+    let so_far = subst (λ (v : View). BeginsWith v.held c.args.self.now.held) (sym c.self.view_is) c.loop-step.invariant.front in
+    let front : BeginsWith c.take_step.new.self.held c.args.self.now.held = begins_first c.args.self.now.held _ c.take_step.new.self.held so_far c.in_err-take_step.ensures.err in
+    search rules

@@ -1,5 +1,6 @@
 use Rattle.std.proofs.Common.{◌≡◌}
 use Rattle.mdp_arbiter.specs.Arbiter.{steps_left}
+use Rattle.mdp_print.specs.Pieces.{BeginsWith}
 use Rattle.mdp_engine.proofs.Moving.{MovesTo}
 use Rattle.mdp_engine.proofs.engine.Engine.move_on.Given as goal
 
@@ -9,6 +10,7 @@ invariant-loop-step g l = record {
   moves : MovesTo l.initial.self l.self;
   channel : l.self.arbiter.channel ≡ l.initial.self.arbiter.channel;
   sound : l.self.has_failed ≡ l.initial.self.has_failed;
+  front : BeginsWith l.self.held l.initial.self.held;
 }
 
 -- each step leaves fewer
