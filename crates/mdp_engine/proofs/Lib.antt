@@ -2,6 +2,7 @@ pub mod Fronts
 pub mod Agreeing
 pub mod Honesty
 pub mod HonestFeeds
+pub mod GivingUp
 pub mod Moving
 pub mod Auditing
 pub mod Merging

@@ -10,3 +10,4 @@ pub mod Rounds
 pub mod RoundLaws
 pub mod Marks
 pub mod MomentLaws
+pub mod GivenUp

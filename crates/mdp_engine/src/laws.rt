@@ -1,6 +1,7 @@
 //! What the definitions of the lines say of every complete feed, as functions that only carry a proof.
 
 ghost use Rattle.mdp_engine.specs.Engine.{LawOfOwedBooks, LawOfOwedText};
+ghost use Rattle.mdp_engine.specs.GivenUp.{LawOfARecovery};
 ghost use Rattle.mdp_engine.specs.Honest.{HonestMovesAgree, LawOfHonestFeeds};
 ghost use Rattle.mdp_engine.specs.Marks.{LawOfMarks};
 ghost use Rattle.mdp_engine.specs.MomentLaws.{LawOfHonestMoments, LawOfOwedMoments};
@@ -27,6 +28,12 @@ pub fn law_of_owed_books()
 /// have, and no snapshot is of a listed security.
 pub fn honest_feeds_exist()
     ensures { LawOfHonestFeeds }
+{}
+
+/// Proves that there are events which agree with a complete feed, and of which recovery jumps: packet 1 is lost, a snapshot that
+/// includes it comes, and packet 2 passes behind it.
+pub fn law_of_a_recovery()
+    ensures { LawOfARecovery }
 {}
 
 /// Proves that when a security is due can be read off the whole feed or off what stands behind its base: it is the
