@@ -1,11 +1,12 @@
 -- What is taken, round by round, and what is written of it.
 use Rattle.std.proofs.Common.{◌≡◌, ◌<◌, ℕ, zero, suc, Bool, true, false, List, [], ◌∷◌, ◌++◌, length, take, drop, map, set, get_or, replicate, refl, sym, ap, ◌∙◌, subst, append_assoc, arith}
-use Rattle.std.specs.Prelude.{Option, Result, Ok, Err, ◌&&◌}
+use Rattle.std.specs.Prelude.{Option, Result, Ok, Err, ◌&&◌, ◌||◌, not}
+use Rattle.std.specs.List.{AllByRecursion, list_any}
 use Rattle.std.proofs.lemmas.List.{append-nil, take-append-drop}
 use Rattle.mdp_lanes.specs.Boards.{Published}
 use Rattle.mdp_lanes.specs.Queues.{LaneReceiverView}
 use Rattle.mdp_lanes.specs.declared.step.Step.{Step}
-use Rattle.mdp_crew.specs.Rounds.{took, all_took, put, laid, one_each, Wide, all_tell, all_finish}
+use Rattle.mdp_crew.specs.Rounds.{IsToLast, took, all_took, put, laid, one_each, Wide, all_tell, all_finish, is_told, last_of, lasts}
 use Rattle.mdp_crew.specs.Collecting.{text_of_batch, kept_after_batch, text_of_batches, steps_of_batch, steps_of_batches, CutShort, IsCut, TakesOne, HasAll, HasSome, EndsCollecting, IsCollecting}
 use Rattle.mdp_crew.specs.Collecting.CutShort.{in_text, in_steps}
 use Rattle.mdp_crew.specs.Collecting.IsCut.{among_steps, in_last}
@@ -25,9 +26,42 @@ all_two : (a b : Bool) → (a && b) ≡ true → (a ≡ true) × (b ≡ true)
 all_two true b is = (refl, is)
 all_two false b is = absurd cc
 
+none_first : (a b : Bool) → (a || b) ≡ false → a ≡ false
+none_first true b none = absurd cc
+none_first false b none = refl
+
+none_later : (a b : Bool) → (a || b) ≡ false → b ≡ false
+none_later true b none = absurd cc
+none_later false b none = none
+
+pub none_told : (b : Bool) → not b ≡ true → b ≡ false
+none_told true is = absurd cc
+none_told false is = refl
+
 wide-append : (n : ℕ) (xs ys : List (List (List Report))) → Wide n xs → Wide n ys → Wide n (xs ++ ys)
 wide-append n [] ys first later = later
 wide-append n (x ∷ xs) ys first later = (first.0, wide-append n xs ys first.1 later)
+
+-- what went out of these rounds, all of which went out, and of more
+cut_on : (state state' : View) (rounds more : List (List (List Report))) (taken taken' taken'' : List ℕ) (board board' board'' : Option Published)
+    → ((later : List (List (List Report))) → text_of_batches state (rounds ++ later) ≡ text_of_batches state rounds ++ text_of_batches state' later)
+    → taken' ≡ taken ++ text_of_batches state rounds → board' ≡ published_on board (steps_of_batches rounds)
+    → IsCut state' more taken' taken'' board' board'' → IsCut state (rounds ++ more) taken taken'' board board''
+cut_on state state' rounds more taken taken' taken'' board board' board'' rest text steps (among_steps shown hidden all went published) =
+    let first = text_of_batches state rounds in
+    among_steps (steps_of_batches rounds ++ shown) hidden
+    (steps-append rounds more ∙ ap (λ (l : List Step). steps_of_batches rounds ++ l) all ∙ sym (append_assoc (steps_of_batches rounds) shown hidden))
+    (went ∙ ap (λ (t : List ℕ). t ++ text_of_batches state' more) text ∙ append_assoc taken first (text_of_batches state' more) ∙ ap (λ (t : List ℕ). taken ++ t) (sym (rest more)))
+    (published_more board board' board'' (steps_of_batches rounds) shown steps published)
+cut_on state state' rounds more taken taken' taken'' board board' board'' rest text steps (in_last done round sent left parts whole went published) =
+    let first = text_of_batches state rounds in
+    let next = text_of_batches state' done in
+    in_last (rounds ++ done) round sent left
+    (ap (λ (l : List (List (List Report))). rounds ++ l) parts ∙ sym (append_assoc rounds done (round ∷ [])))
+    (rest more ∙ ap (λ (t : List ℕ). first ++ t) whole ∙ sym (append_assoc first next (sent ++ left)) ∙ ap (λ (t : List ℕ). t ++ (sent ++ left)) (sym (rest done)))
+    (went ∙ ap (λ (t : List ℕ). t ++ (next ++ sent)) text ∙ append_assoc taken first (next ++ sent)
+    ∙ ap (λ (t : List ℕ). taken ++ t) (sym (append_assoc first next sent) ∙ ap (λ (t : List ℕ). t ++ sent) (sym (rest done))))
+    (published_more board board' board'' (steps_of_batches rounds) (steps_of_batches done) steps published ∙ ap (published_on board) (sym (steps-append rounds done)))
 
 module _ {A : Type 0} where
   -- ---- one post after another
@@ -57,6 +91,30 @@ module _ {A : Type 0} where
   length-took (p ∷ ps) [] = refl
   length-took (p ∷ ps) (row ∷ rows) = ap suc (length-took ps rows)
 
+  -- ---- the last answers
+
+  pub lasts_none : (round : List (Answer A)) → round ≡ lasts round []
+  lasts_none [] = refl
+  lasts_none (a ∷ round) = refl
+
+  pub length-lasts : (round : List (Answer A)) (rows : List (List (Answer A))) → length (lasts round rows) ≡ length round
+  length-lasts [] rows = refl
+  length-lasts (a ∷ round) [] = refl
+  length-lasts (a ∷ round) (row ∷ rows) = ap suc (length-lasts round rows)
+
+  lasts_next : (round : List (Answer A)) (rows : List (List (Answer A))) (a : Answer A) (row : List (Answer A)) → length rows < length round → a ≡ get_or (lasts round rows) (length rows) a
+      → set (lasts round rows) (length rows) (last_of a row) ≡ lasts round (rows ++ row ∷ [])
+  lasts_next [] rows a row h e = absurd (omega (arith, h))
+  lasts_next (b ∷ []) [] a row h e = λ i. last_of (e i) row ∷ []
+  lasts_next (b ∷ d ∷ round) [] a row h e = λ i. last_of (e i) row ∷ d ∷ round
+  lasts_next (b ∷ round) (r ∷ rows) a row h e = ap (λ (l : List (Answer A)). last_of b r ∷ l) (lasts_next round rows a row (omega (arith, h)) e)
+
+  pub lasts_step : (round : List (Answer A)) (rows : List (List (Answer A))) (now : List (Answer A)) (i : ℕ) (a : Answer A) (row : List (Answer A)) (left : Answer A)
+      → length rows ≡ i → now ≡ lasts round rows → i < length round → a ≡ get_or now i a → left ≡ last_of a row → set now i left ≡ lasts round (rows ++ row ∷ [])
+  lasts_step round rows now i a row left n is h at e =
+      let here : a ≡ get_or (lasts round rows) (length rows) a = at ∙ λ k. get_or (is k) (sym n k) a in
+      (λ k. set (is k) (sym n k) (e k)) ∙ lasts_next round rows a row (omega (arith, h, n)) here
+
   -- ---- rows put together
 
   abbrev pub joined : List (List (Answer A)) → List (List (Answer A)) → List (List (Answer A))
@@ -77,6 +135,18 @@ module _ {A : Type 0} where
       let here : took (took p x) y ≡ took p (x ++ y) = λ k. record p { answers = record p.answers { taken = append_assoc p.answers.taken x y k } } in
       ap (λ (q : Post A). q ∷ all_took (all_took ps xs) ys) here
       ∙ ap (λ (l : List (Post A)). took p (x ++ y) ∷ l) (took_took ps xs ys (omega (arith, long)))
+
+  last_on : (a : Answer A) (x y : List (Answer A)) → last_of (last_of a x) y ≡ last_of a (x ++ y)
+  last_on a [] y = refl
+  last_on a (b ∷ x) y = last_on b x y
+
+  pub lasts_lasts : (round : List (Answer A)) (xs ys : List (List (Answer A))) → length xs ≡ length round → lasts (lasts round xs) ys ≡ lasts round (joined xs ys)
+  lasts_lasts [] xs ys long = refl
+  lasts_lasts (a ∷ round) [] ys long = absurd (omega (arith, long))
+  lasts_lasts (a ∷ round) (x ∷ xs) [] long = refl
+  lasts_lasts (a ∷ round) (x ∷ xs) (y ∷ ys) long =
+      ap (λ (b : Answer A). b ∷ lasts (lasts round xs) ys) (last_on a x y)
+      ∙ ap (λ (l : List (Answer A)). last_of a (x ++ y) ∷ l) (lasts_lasts round xs ys (omega (arith, long)))
 
   abbrev nothing : ℕ → List (List (Answer A))
   nothing n = replicate n []
@@ -114,6 +184,11 @@ module _ {A : Type 0} where
   pub length-nothing : (n : ℕ) (x : List (Answer A)) → length (replicate n x) ≡ n
   length-nothing zero x = refl
   length-nothing (suc n) x = ap suc (length-nothing n x)
+
+  pub lasts_nothing : (round : List (Answer A)) (n : ℕ) → round ≡ lasts round (nothing n)
+  lasts_nothing [] n = refl
+  lasts_nothing (a ∷ round) zero = refl
+  lasts_nothing (a ∷ round) (suc n) = ap (λ (l : List (Answer A)). a ∷ l) (lasts_nothing round n)
 
   -- rounds, and then more rounds and these answers
   then_took : (ps now new : List (Post A)) (xs ys : List (List (List Report))) (more : List (List (Answer A))) → Wide (length ps) xs → Wide (length ps) ys → length more ≡ length ps
@@ -153,6 +228,29 @@ module _ {A : Type 0} where
   finished_laid (Failed ∷ answers) (suc n) long is = absurd cc
   finished_laid (Finished ∷ answers) (suc n) long is = ap (λ (l : List (List (Answer A))). (Finished ∷ []) ∷ l) (finished_laid answers n (omega (arith, long)) is)
 
+  -- ---- drained
+
+  -- what came after each of these answers goes to the last
+  ended_each : (round : List (Answer A)) (rows : List (List (Answer A))) → list_any is_told (lasts round rows) ≡ false → AllByRecursion IsToLast (joined (one_each round) rows)
+  ended_each [] rows none = tt
+  ended_each (a ∷ round) [] none = (none_first (is_told a) (list_any is_told round) none, ended_alone round (none_later (is_told a) (list_any is_told round) none))
+    where
+      ended_alone : (round : List (Answer A)) → list_any is_told round ≡ false → AllByRecursion IsToLast (one_each round)
+      ended_alone [] none = tt
+      ended_alone (a ∷ round) none = (none_first (is_told a) (list_any is_told round) none, ended_alone round (none_later (is_told a) (list_any is_told round) none))
+  ended_each (a ∷ round) (row ∷ rows) none =
+      (none_first (is_told (last_of a row)) (list_any is_told (lasts round rows)) none, ended_each round rows (none_later (is_told (last_of a row)) (list_any is_told (lasts round rows)) none))
+
+  -- where each of these answers tells reports, it isn't the last
+  told_ended : (round : List (Answer A)) (rows : List (List (Answer A))) → length rows ≡ length round → all_tell round ≡ true → list_any is_told (lasts round rows) ≡ false → AllByRecursion IsToLast rows
+  told_ended round [] long told none = tt
+  told_ended [] (row ∷ rows) long told none = absurd (omega (arith, long))
+  told_ended (Failed ∷ round) (row ∷ rows) long told none = absurd cc
+  told_ended (Finished ∷ round) (row ∷ rows) long told none = absurd cc
+  told_ended (Tells t ∷ round) ([] ∷ rows) long told none = absurd cc
+  told_ended (Tells t ∷ round) ((a ∷ row) ∷ rows) long told none =
+      (none_first (is_told (last_of a row)) (list_any is_told (lasts round rows)) none, told_ended round rows (omega (arith, long)) told (none_later (is_told (last_of a row)) (list_any is_told (lasts round rows)) none))
+
   -- ---- a turn
 
   pub length-each : (answers : List (Answer A)) → length (one_each answers) ≡ length answers
@@ -168,8 +266,8 @@ module _ {A : Type 0} where
   turned_on old new answers state state' taken taken' board board' long is took_is text steps kept_is =
       record { round = map told_in_answer answers; wide = told_wide answers is ∙ long; took_is = took_is ∙ ap (all_took old) (told_laid answers (length old) long is); text = text; steps = steps; kept_is = kept_is }
 
-  pub turned_broken : (old now new : List (Post A)) (answers : List (Answer A)) (more : List (List (Answer A))) (state : View) (taken : List ℕ) (board : Option Published) → length answers ≡ length old → now ≡ all_took old (one_each answers) → new ≡ all_took now more → HasSome old new state taken taken board board
-  turned_broken old now new answers more state taken board long took_is drained =
+  pub turned_broken : (old now new : List (Post A)) (answers : List (Answer A)) (more : List (List (Answer A))) (state : View) (taken : List ℕ) (board : Option Published) → length answers ≡ length old → now ≡ all_took old (one_each answers) → new ≡ all_took now more → list_any is_told (lasts answers more) ≡ false → HasSome old new state taken taken board board
+  turned_broken old now new answers more state taken board long took_is drained none =
       let first : length (one_each answers) ≡ length old = length-each answers ∙ long in
       record {
         rounds = [];
@@ -177,13 +275,14 @@ module _ {A : Type 0} where
         more = joined (one_each answers) more;
         long = length-joined (one_each answers) more ∙ first;
         took_is = drained ∙ ap (λ (l : List (Post A)). all_took l more) took_is ∙ took_took old (one_each answers) more first;
+        to_last = ended_each answers more none;
         out = among_steps [] [] refl (sym (append-nil taken)) (published_nothing board);
       }
 
   turned_short : (old now new : List (Post A)) (answers : List (Answer A)) (more : List (List (Answer A))) (state : View) (taken taken' : List ℕ) (board board' : Option Published)
-      → length answers ≡ length old → all_tell answers ≡ true → now ≡ all_took old (one_each answers) → length more ≡ length now → new ≡ all_took now more
+      → length answers ≡ length old → all_tell answers ≡ true → now ≡ all_took old (one_each answers) → length more ≡ length now → new ≡ all_took now more → list_any is_told (lasts answers more) ≡ false
       → IsCut state (map told_in_answer answers ∷ []) taken taken' board board' → HasSome old new state taken taken' board board'
-  turned_short old now new answers more state taken taken' board board' long is took_is many drained out =
+  turned_short old now new answers more state taken taken' board board' long is took_is many drained none out =
       let same : length more ≡ length old = many ∙ ap length took_is ∙ length-took old (one_each answers) in
       let wide : Wide (length old) (map told_in_answer answers ∷ []) = (told_wide answers is ∙ long, tt) in
       record {
@@ -192,20 +291,21 @@ module _ {A : Type 0} where
         more = more;
         long = same;
         took_is = then_took old now new (map told_in_answer answers ∷ []) [] more wide tt same (took_is ∙ ap (all_took old) (told_laid answers (length old) long is)) drained;
+        to_last = told_ended answers more (same ∙ sym long) is none;
         out = out;
       }
 
   pub turned_unwritten : (old now new : List (Post A)) (answers : List (Answer A)) (more : List (List (Answer A))) (state : View) (taken taken' : List ℕ) (board board' : Option Published) → length answers ≡ length old → all_tell answers ≡ true → now ≡ all_took old (one_each answers)
-      → length more ≡ length now → new ≡ all_took now more → CutShort state (map told_in_answer answers) taken taken' board board' → HasSome old new state taken taken' board board'
-  turned_unwritten old now new answers more state taken taken' board board' long is took_is many drained (in_text n text same) =
+      → length more ≡ length now → new ≡ all_took now more → list_any is_told (lasts answers more) ≡ false → CutShort state (map told_in_answer answers) taken taken' board board' → HasSome old new state taken taken' board board'
+  turned_unwritten old now new answers more state taken taken' board board' long is took_is many drained none (in_text n text same) =
       let round = map told_in_answer answers in
       let whole = text_of_batch state round in
-      turned_short old now new answers more state taken taken' board board' long is took_is many drained
+      turned_short old now new answers more state taken taken' board board' long is took_is many drained none
       (in_last [] round (take n whole) (drop n whole) refl (append-nil whole ∙ sym (take-append-drop n whole)) text (same ∙ published_nothing board))
-  turned_unwritten old now new answers more state taken taken' board board' long is took_is many drained (in_steps n text steps) =
+  turned_unwritten old now new answers more state taken taken' board board' long is took_is many drained none (in_steps n text steps) =
       let round = map told_in_answer answers in
       let all = steps_of_batch round in
-      turned_short old now new answers more state taken taken' board board' long is took_is many drained
+      turned_short old now new answers more state taken taken' board board' long is took_is many drained none
       (among_steps (take n all) (drop n all) (sym (steps-push [] round) ∙ sym (take-append-drop n all)) (text ∙ ap (λ (t : List ℕ). taken ++ t) (sym (append-nil (text_of_batch state round)))) steps)
 
   -- ---- all turns
@@ -268,27 +368,6 @@ module _ {A : Type 0} where
             ∙ ap (published_on board) (sym (steps-append so_far.rounds last.rounds));
       }
 
-  -- what went out of these rounds, all of which went out, and of more
-  cut_on : (state state' : View) (rounds more : List (List (List Report))) (taken taken' taken'' : List ℕ) (board board' board'' : Option Published)
-      → ((later : List (List (List Report))) → text_of_batches state (rounds ++ later) ≡ text_of_batches state rounds ++ text_of_batches state' later)
-      → taken' ≡ taken ++ text_of_batches state rounds → board' ≡ published_on board (steps_of_batches rounds)
-      → IsCut state' more taken' taken'' board' board'' → IsCut state (rounds ++ more) taken taken'' board board''
-  cut_on state state' rounds more taken taken' taken'' board board' board'' rest text steps (among_steps shown hidden all went published) =
-      let first = text_of_batches state rounds in
-      among_steps (steps_of_batches rounds ++ shown) hidden
-      (steps-append rounds more ∙ ap (λ (l : List Step). steps_of_batches rounds ++ l) all ∙ sym (append_assoc (steps_of_batches rounds) shown hidden))
-      (went ∙ ap (λ (t : List ℕ). t ++ text_of_batches state' more) text ∙ append_assoc taken first (text_of_batches state' more) ∙ ap (λ (t : List ℕ). taken ++ t) (sym (rest more)))
-      (published_more board board' board'' (steps_of_batches rounds) shown steps published)
-  cut_on state state' rounds more taken taken' taken'' board board' board'' rest text steps (in_last done round sent left parts whole went published) =
-      let first = text_of_batches state rounds in
-      let next = text_of_batches state' done in
-      in_last (rounds ++ done) round sent left
-      (ap (λ (l : List (List (List Report))). rounds ++ l) parts ∙ sym (append_assoc rounds done (round ∷ [])))
-      (rest more ∙ ap (λ (t : List ℕ). first ++ t) whole ∙ sym (append_assoc first next (sent ++ left)) ∙ ap (λ (t : List ℕ). t ++ (sent ++ left)) (sym (rest done)))
-      (went ∙ ap (λ (t : List ℕ). t ++ (next ++ sent)) text ∙ append_assoc taken first (next ++ sent)
-      ∙ ap (λ (t : List ℕ). taken ++ t) (sym (append_assoc first next sent) ∙ ap (λ (t : List ℕ). t ++ sent) (sym (rest done))))
-      (published_more board board' board'' (steps_of_batches rounds) (steps_of_batches done) steps published ∙ ap (published_on board) (sym (steps-append rounds done)))
-
   ended_some : (old now new : List (Post A)) (state state' : View) (taken taken' taken'' : List ℕ) (board board' board'' : Option Published) → HasSome now new state' taken' taken'' board' board'' → IsCollecting old now state state' taken taken' board board' → HasSome old new state taken taken'' board board''
   ended_some old now new state state' taken taken' taken'' board board' board'' last so_far =
       let long : length now ≡ length old = same_long old now so_far.rounds so_far.took_is in
@@ -299,6 +378,7 @@ module _ {A : Type 0} where
         more = last.more;
         long = last.long ∙ long;
         took_is = then_took old now new so_far.rounds last.rounds last.more so_far.wide wide (last.long ∙ long) so_far.took_is last.took_is;
+        to_last = last.to_last;
         out = cut_on state state' so_far.rounds last.rounds taken taken' taken'' board board' board'' so_far.rest so_far.text so_far.steps last.out;
       }
 

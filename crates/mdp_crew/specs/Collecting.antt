@@ -1,5 +1,6 @@
 -- What the collector has written and published of the rounds that it took.
 use Rattle.std.specs.Prelude.{◌≡◌, ℕ, List, [], ◌∷◌, ◌++◌, length, replicate, take, Option, Some, None, Result, Ok, Err}
+use Rattle.std.specs.List.{AllByRecursion}
 use Rattle.mdp_desks.specs.Reports.{Report}
 use Rattle.mdp_engine.specs.Rounds.{all_rounds_in, rounds_in, text_from}
 use Rattle.mdp_lanes.specs.Boards.{Published}
@@ -11,7 +12,7 @@ use Rattle.mdp_reports.specs.declared.answer.Answer.TheVariants.{Finished}
 use Rattle.mdp_crew.specs.declared.crew.Post.{Post}
 use Rattle.mdp_crew.specs.declared.stop.Stop.{Stop}
 use Rattle.mdp_crew.specs.Publishing.{published_on}
-use Rattle.mdp_crew.specs.Rounds.{Wide, all_took, laid}
+use Rattle.mdp_crew.specs.Rounds.{IsToLast, Wide, all_took, laid}
 
 -- what a collector makes of the reports of all workers on one batch, and what it has kept then
 abbrev pub text_of_batch : View → List (List Report) → List ℕ
@@ -63,13 +64,14 @@ pub data IsCut (collector : View) (rounds : List (List (List Report))) (taken ta
       → taken' ≡ taken ++ (text_of_batches collector done ++ sent) → board' ≡ published_on board (steps_of_batches done)
       → IsCut collector rounds taken taken' board board'
 
--- rounds were taken, of which so much went out, and then this and that
+-- rounds were taken, of which so much went out, and then what each worker still answered, to its last
 pub record HasSome {A : Type 0} (old new : List (Post A)) (collector : View) (taken taken' : List ℕ) (board board' : Option Published) : Type 0 where
   pub rounds : List (List (List Report))
   pub wide : Wide (length old) rounds
   pub more : List (List (Answer A))
   pub long : length more ≡ length old
   pub took_is : new ≡ all_took old (laid rounds more)
+  pub to_last : AllByRecursion IsToLast more
   pub out : IsCut collector rounds taken taken' board board'
 
 -- the collector has come to its end

@@ -1,5 +1,5 @@
 -- What was taken of all workers, round by round: a round is one answer of each.
-use Rattle.std.specs.Prelude.{◌≡◌, ℕ, List, [], ◌∷◌, ◌++◌, length, map, Bool, true, false}
+use Rattle.std.specs.Prelude.{◌≡◌, ℕ, List, [], ◌∷◌, ◌++◌, length, map, Bool, true, false, ⊥}
 use Rattle.std.specs.List.{AllByRecursion, list_all}
 use Rattle.mdp_desks.specs.Reports.{Report}
 use Rattle.mdp_reports.specs.declared.answer.Answer.{Answer}
@@ -49,3 +49,21 @@ all_tell answers = list_all is_told answers
 
 abbrev pub all_finish : {A : Type 0} → List (Answer A) → Bool
 all_finish answers = list_all is_finished answers
+
+-- ---- up to the last answers
+
+-- what was answered last, where these answers came after one
+abbrev pub last_of : {A : Type 0} → Answer A → List (Answer A) → Answer A
+last_of answer [] = answer
+last_of answer (a ∷ row) = last_of a row
+
+-- of each worker
+abbrev pub lasts : {A : Type 0} → List (Answer A) → List (List (Answer A)) → List (Answer A)
+lasts [] rows = []
+lasts (answer ∷ round) [] = answer ∷ round
+lasts (answer ∷ round) (row ∷ rows) = last_of answer row ∷ lasts round rows
+
+-- a worker's answers go to its last, which tells no reports
+abbrev pub IsToLast : {A : Type 0} → List (Answer A) → Type 0
+IsToLast [] = ⊥
+IsToLast (a ∷ row) = is_told (last_of a row) ≡ false

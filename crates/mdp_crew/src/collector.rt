@@ -1,11 +1,12 @@
 //! The collector's loop: it takes an answer of each worker, writes the text of that round and publishes its steps, and goes on until all
 //! have finished.
 
-ghost use Rattle.std.specs.Prelude.{◌≡◌, ◌<◌, ◌≤◌, ◌+◌, ◌-◌, ◌^◌, ℕ, [], ◌++◌, List, OnOk, IfErr, IfNone, IfOk, Result, Some, length, map, take, vec_len, vec_capacity};
+ghost use Rattle.std.specs.Prelude.{◌≡◌, ◌<◌, ◌≤◌, ◌+◌, ◌-◌, ◌^◌, ℕ, [], ◌++◌, false, not, List, OnOk, IfErr, IfNone, IfOk, Result, Some, length, map, take, vec_len, vec_capacity};
 ghost use Rattle.mdp_crew.specs.Collecting.{EndsCollecting, CutShort, TurnsTo, kept_after_batch, steps_of_batch, text_of_batch};
 ghost use Rattle.mdp_crew.specs.Counted.{HasCounted};
 ghost use Rattle.mdp_crew.specs.Publishing.{published_on};
-ghost use Rattle.mdp_crew.specs.Rounds.{all_finish, all_tell, all_took, is_finished, is_told, one_each};
+ghost use Rattle.std.specs.List.{list_any};
+ghost use Rattle.mdp_crew.specs.Rounds.{all_finish, all_tell, all_took, is_finished, is_told, last_of, lasts, one_each};
 ghost use Rattle.mdp_crew.specs.Stops.{FailsByStop, failed_writes};
 ghost use Rattle.mdp_reports.specs.FromAnswers.{told_in_answer};
 
@@ -64,7 +65,9 @@ fn all_are_finished<A: Allocator>(round: &[Answer<A>]) -> bool
 }
 
 // Tells whether no answer of a round tells reports.
-fn none_tells<A: Allocator>(round: &[Answer<A>]) -> bool {
+fn none_tells<A: Allocator>(round: &[Answer<A>]) -> bool
+    ensures { result ≡ not (list_any is_told round.now) }
+{
     !round.iter().any(tells)
 }
 
@@ -74,7 +77,8 @@ fn take_next<R: Wait, A: Allocator + Copy>(
     answers: &mut LaneReceiver<Answer<A>, A>,
     answer: &mut Answer<A>,
 )
-    ensures { (more : List (Answer A)) × (answers.new ≡ record answers.old { taken = answers.old.taken ++ more }) }
+    ensures { (more : List (Answer A)) × (answers.new ≡ record answers.old { taken = answers.old.taken ++ more })
+        × (answer.new ≡ last_of answer.old more) }
 {
     if !tells(answer) {
         return;
@@ -85,8 +89,8 @@ fn take_next<R: Wait, A: Allocator + Copy>(
 // Takes the next answer of each worker that has not ended.
 fn drain_round<R: Wait, A: Allocator + Copy>(rt: &R, posts: &mut [Post<A>], round: &mut [Answer<A>])
     requires { length round.old ≡ length posts.old }
-    ensures took { (more : List (List (Answer A))) × (length more ≡ length posts.old) × (posts.new ≡ all_took posts.old more) }
-    ensures long { length round.new ≡ length round.old }
+    ensures { (more : List (List (Answer A))) × (length more ≡ length posts.old) × (posts.new ≡ all_took posts.old more)
+        × (round.new ≡ lasts round.old more) }
 {
     for n in 0..posts.len() {
         take_next(rt, &mut posts[n].answers, &mut round[n]);
@@ -97,7 +101,8 @@ fn drain_round<R: Wait, A: Allocator + Copy>(rt: &R, posts: &mut [Post<A>], roun
 // first, the others would wait for room in their lanes, the arbiter for them, and that worker for the arbiter.
 fn drain_all<R: Wait, A: Allocator + Copy>(rt: &R, posts: &mut [Post<A>], round: &mut [Answer<A>])
     requires { length round.old ≡ length posts.old }
-    ensures { (more : List (List (Answer A))) × (length more ≡ length posts.old) × (posts.new ≡ all_took posts.old more) }
+    ensures { (more : List (List (Answer A))) × (length more ≡ length posts.old) × (posts.new ≡ all_took posts.old more)
+        × (list_any is_told (lasts round.old more) ≡ false) }
 {
     for _ in rt.forever() {
         if none_tells(round) {
