@@ -29,6 +29,27 @@ wide-append : (n : ℕ) (xs ys : List (List (List Report))) → Wide n xs → Wi
 wide-append n [] ys first later = later
 wide-append n (x ∷ xs) ys first later = (first.0, wide-append n xs ys first.1 later)
 
+-- what went out of these rounds, all of which went out, and of more
+cut_on : (state state' : View) (rounds more : List (List (List Report))) (taken taken' taken'' : List ℕ) (board board' board'' : Option Published)
+    → ((later : List (List (List Report))) → text_of_batches state (rounds ++ later) ≡ text_of_batches state rounds ++ text_of_batches state' later)
+    → taken' ≡ taken ++ text_of_batches state rounds → board' ≡ published_on board (steps_of_batches rounds)
+    → IsCut state' more taken' taken'' board' board'' → IsCut state (rounds ++ more) taken taken'' board board''
+cut_on state state' rounds more taken taken' taken'' board board' board'' rest text steps (among_steps shown hidden all went published) =
+    let first = text_of_batches state rounds in
+    among_steps (steps_of_batches rounds ++ shown) hidden
+    (steps-append rounds more ∙ ap (λ (l : List Step). steps_of_batches rounds ++ l) all ∙ sym (append_assoc (steps_of_batches rounds) shown hidden))
+    (went ∙ ap (λ (t : List ℕ). t ++ text_of_batches state' more) text ∙ append_assoc taken first (text_of_batches state' more) ∙ ap (λ (t : List ℕ). taken ++ t) (sym (rest more)))
+    (published_more board board' board'' (steps_of_batches rounds) shown steps published)
+cut_on state state' rounds more taken taken' taken'' board board' board'' rest text steps (in_last done round sent left parts whole went published) =
+    let first = text_of_batches state rounds in
+    let next = text_of_batches state' done in
+    in_last (rounds ++ done) round sent left
+    (ap (λ (l : List (List (List Report))). rounds ++ l) parts ∙ sym (append_assoc rounds done (round ∷ [])))
+    (rest more ∙ ap (λ (t : List ℕ). first ++ t) whole ∙ sym (append_assoc first next (sent ++ left)) ∙ ap (λ (t : List ℕ). t ++ (sent ++ left)) (sym (rest done)))
+    (went ∙ ap (λ (t : List ℕ). t ++ (next ++ sent)) text ∙ append_assoc taken first (next ++ sent)
+    ∙ ap (λ (t : List ℕ). taken ++ t) (sym (append_assoc first next sent) ∙ ap (λ (t : List ℕ). t ++ sent) (sym (rest done))))
+    (published_more board board' board'' (steps_of_batches rounds) (steps_of_batches done) steps published ∙ ap (published_on board) (sym (steps-append rounds done)))
+
 module _ {A : Type 0} where
   -- ---- one post after another
 
@@ -267,27 +288,6 @@ module _ {A : Type 0} where
             published_more board board' board'' (steps_of_batches so_far.rounds) (steps_of_batches last.rounds) so_far.steps last.steps
             ∙ ap (published_on board) (sym (steps-append so_far.rounds last.rounds));
       }
-
-  -- what went out of these rounds, all of which went out, and of more
-  cut_on : (state state' : View) (rounds more : List (List (List Report))) (taken taken' taken'' : List ℕ) (board board' board'' : Option Published)
-      → ((later : List (List (List Report))) → text_of_batches state (rounds ++ later) ≡ text_of_batches state rounds ++ text_of_batches state' later)
-      → taken' ≡ taken ++ text_of_batches state rounds → board' ≡ published_on board (steps_of_batches rounds)
-      → IsCut state' more taken' taken'' board' board'' → IsCut state (rounds ++ more) taken taken'' board board''
-  cut_on state state' rounds more taken taken' taken'' board board' board'' rest text steps (among_steps shown hidden all went published) =
-      let first = text_of_batches state rounds in
-      among_steps (steps_of_batches rounds ++ shown) hidden
-      (steps-append rounds more ∙ ap (λ (l : List Step). steps_of_batches rounds ++ l) all ∙ sym (append_assoc (steps_of_batches rounds) shown hidden))
-      (went ∙ ap (λ (t : List ℕ). t ++ text_of_batches state' more) text ∙ append_assoc taken first (text_of_batches state' more) ∙ ap (λ (t : List ℕ). taken ++ t) (sym (rest more)))
-      (published_more board board' board'' (steps_of_batches rounds) shown steps published)
-  cut_on state state' rounds more taken taken' taken'' board board' board'' rest text steps (in_last done round sent left parts whole went published) =
-      let first = text_of_batches state rounds in
-      let next = text_of_batches state' done in
-      in_last (rounds ++ done) round sent left
-      (ap (λ (l : List (List (List Report))). rounds ++ l) parts ∙ sym (append_assoc rounds done (round ∷ [])))
-      (rest more ∙ ap (λ (t : List ℕ). first ++ t) whole ∙ sym (append_assoc first next (sent ++ left)) ∙ ap (λ (t : List ℕ). t ++ (sent ++ left)) (sym (rest done)))
-      (went ∙ ap (λ (t : List ℕ). t ++ (next ++ sent)) text ∙ append_assoc taken first (next ++ sent)
-      ∙ ap (λ (t : List ℕ). taken ++ t) (sym (append_assoc first next sent) ∙ ap (λ (t : List ℕ). t ++ sent) (sym (rest done))))
-      (published_more board board' board'' (steps_of_batches rounds) (steps_of_batches done) steps published ∙ ap (published_on board) (sym (steps-append rounds done)))
 
   ended_some : (old now new : List (Post A)) (state state' : View) (taken taken' taken'' : List ℕ) (board board' board'' : Option Published) → HasSome now new state' taken' taken'' board' board'' → IsCollecting old now state state' taken taken' board board' → HasSome old new state taken taken'' board board''
   ended_some old now new state state' taken taken' taken'' board board' board'' last so_far =
