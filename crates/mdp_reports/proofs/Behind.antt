@@ -8,15 +8,15 @@ use Rattle.mdp_reports.specs.BoardSteps.{step_of_moment}
 use Rattle.mdp_reports.specs.Behind.{IsBehind, LawOfEarlyEnds, next_text}
 
 -- of two ways to cut one list the first ends no later, or the second does
-two_cuts : {X : Type 0} (xs ys as bs : List X) → xs ++ ys ≡ as ++ bs → ((c : List X) × (xs ≡ as ++ c)) ⊎ ((c : List X) × (as ≡ xs ++ c) × (ys ≡ c ++ bs))
-two_cuts [] ys as bs is = inr (as, refl, is)
-two_cuts (x ∷ xs) ys [] bs is = inl (x ∷ xs, refl)
-two_cuts {X} (x ∷ xs) ys (a ∷ as) bs is =
-    let first : x ≡ a = cc in
-    let rest : xs ++ ys ≡ as ++ bs = cc in
-    elim (two_cuts xs ys as bs rest) [
-      | inl within ↦ inl (within.0, ap (λ (l : List X). x ∷ l) within.1 ∙ ap (λ (y : X). y ∷ (as ++ within.0)) first)
-      | inr past ↦ inr (past.0, ap (λ (l : List X). a ∷ l) past.1 ∙ ap (λ (y : X). y ∷ (xs ++ past.0)) (sym first), past.2)
+two_cuts : {X : Type 0} (xs ys us vs : List X) → xs ++ ys ≡ us ++ vs → ((c : List X) × (xs ≡ us ++ c)) ⊎ ((c : List X) × (us ≡ xs ++ c) × (ys ≡ c ++ vs))
+two_cuts [] ys us vs is = inr (us, refl, is)
+two_cuts (x ∷ xs) ys [] vs is = inl (x ∷ xs, refl)
+two_cuts {X} (x ∷ xs) ys (u ∷ us) vs is =
+    let first : x ≡ u = cc in
+    let rest : xs ++ ys ≡ us ++ vs = cc in
+    elim (two_cuts xs ys us vs rest) [
+      | inl within ↦ inl (within.0, ap (λ (l : List X). x ∷ l) within.1 ∙ ap (λ (y : X). y ∷ (us ++ within.0)) first)
+      | inr past ↦ inr (past.0, ap (λ (l : List X). u ∷ l) past.1 ∙ ap (λ (y : X). y ∷ (xs ++ past.0)) (sym first), past.2)
     ]
 
 -- a beginning of the text of these moments: that of the first ones, and a part of the next one's
