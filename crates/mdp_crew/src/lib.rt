@@ -20,7 +20,6 @@ mod worker;
 pub use arbiter::Standing;
 pub use batch::Batch;
 pub use gate::{Gate, Open};
-pub use order::Order;
 pub use running::{CrewOutcome, run_crew};
 pub use starts::{Always, Starts};
 pub use stop::Stop;

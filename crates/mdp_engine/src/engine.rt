@@ -1,6 +1,6 @@
 //! The engine: what comes on a channel in, the lines that its moves owe out.
 
-ghost use Rattle.std.specs.Prelude.{◌≡◌, ◌++◌, [], ◌∷◌, List, ℕ, true, false, nat_lt, map, IfOk, IfErr, IsErr, OnErr, OnOk};
+ghost use Rattle.std.specs.Prelude.{◌≡◌, ◌≤◌, ◌++◌, [], ◌∷◌, List, ℕ, true, false, nat_lt, map, IfOk, IfErr, IsErr, OnErr, OnOk};
 ghost use Rattle.std.specs.FinMap as map;
 ghost use Rattle.mdp_templates.specs.Packet.{PacketContent};
 ghost use Rattle.mdp_templates.specs.Instrument.{AreFit};
@@ -19,9 +19,10 @@ ghost use Rattle.mdp_engine.specs.Steps.{event_of, stepped_desks, stepped_text};
 
 use crate::audited_desks::AuditedDesks;
 use crate::event::Event;
+use crate::taking::take_in;
 use mdp_arbiter::{Arbiter, Start, Step};
 use mdp_templates::{Instrument, Memory, Packet};
-use mdp_window::{Put, Window};
+use mdp_window::Window;
 use std::alloc::Allocator;
 use std::marker::Model;
 
@@ -82,6 +83,8 @@ impl<A: Allocator + Copy, W: Window<Packet<A>> + Drop> Engine<A, W> {
     /// Tells the number of the packet that passes next, from 1 to 4294967296.
     pub fn next(&self) -> u64
         ensures next { result ≡ self.now.arbiter.next }
+        ensures least { 1 ≤ result }
+        ensures most { result ≤ 4294967296 }
         ensures stands { (listed : List Instrument) (es : List Accepted) (drained : List ℕ) → Stands listed es drained self.now
             → result ≡ (state_at self.now.arbiter.channel es).next }
     {
@@ -222,21 +225,7 @@ impl<A: Allocator + Copy, W: Window<Packet<A>> + Drop> Engine<A, W> {
         ensures rest { OnOk result (self.new ≡ record self.old { arbiter = self.new.arbiter }) }
         ensures err { OnErr result (BeginsWith self.new.held self.old.held) }
     {
-        match event {
-            Event::Packet(packet) => match self.arbiter.packet(packet) {
-                Put::Kept => Ok(()),
-                Put::Back(_) => Ok(()),
-                Put::Memory(_) => Err(Memory),
-            },
-            Event::Snapshot(snapshot) => {
-                self.arbiter.snapshot(Box::into_inner(snapshot));
-                Ok(())
-            }
-            Event::Close => {
-                self.arbiter.close();
-                Ok(())
-            }
-        }
+        take_in(&mut self.arbiter, event)
     }
 
     // Makes moves until none is possible.

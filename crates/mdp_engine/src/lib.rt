@@ -8,10 +8,10 @@ mod event;
 mod laws;
 mod parts;
 mod spreads;
+mod taking;
 #[cfg(test)]
 mod tests;
 
-pub use audited_desks::AuditedDesks;
 pub use audits::{is_one_marked, put_verdicts};
 pub use engine::{Engine, replay};
 pub use event::Event;
@@ -22,3 +22,4 @@ pub use laws::{
 };
 pub use parts::{mark_spreads, parts_of};
 pub use spreads::{Spread, spreads_of};
+pub use taking::take_in;

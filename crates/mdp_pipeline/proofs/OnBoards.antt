@@ -56,3 +56,9 @@ module _ (listed : List Instrument) (room : ℕ) (from : Start) (a b s : List Re
       → IfErr outcome (λ (fault : RunFault). SaysSome listed room from a b s start taken (Some p) now) → ⊥
   board_is_there p now (Ok summary) none all begun = let same : None ≡ published_on (Some p) all.1 = sym none ∙ all.3 in cc
   board_is_there p now (Err fault) none all begun = let same : None ≡ published_on (Some p) begun.0 = sym none ∙ begun.1 in cc
+
+  -- and where there was none there is none
+  pub no_board : (q : Published) (now : Option Published) (outcome : Result Summary RunFault) → now ≡ Some q → IfOk outcome (SaysAll listed room from a b s start taken None now)
+      → IfErr outcome (λ (fault : RunFault). SaysSome listed room from a b s start taken None now) → ⊥
+  no_board q now (Ok summary) some all begun = let same : Some q ≡ published_on None all.1 = sym some ∙ all.3 in cc
+  no_board q now (Err fault) some all begun = let same : Some q ≡ published_on None begun.0 = sym some ∙ begun.1 in cc

@@ -16,7 +16,6 @@ mod summary;
 mod tests;
 mod threads;
 
-pub use decoding::{Decoded, read_record};
 pub use in_order::run_in_order;
 pub use summary::{RunFault, Summary};
 pub use threads::{run, run_published};

@@ -294,7 +294,6 @@ where
     requires least { 1 ≤ window }
     requires most { window ≤ 65536 }
     requires some_workers { 1 ≤ workers }
-    requires most_workers { workers ≤ 16 }
     ensures text { IfOk result (λ summary. (text : List ℕ) × (W.taken writer.new ≡ W.taken writer.old ++ text)
         × PrintsMerge instruments.now window start a.now b.now s.now text summary.next summary.lost) }
     ensures begins { IfErr result (λ _. BeginsMerge instruments.now window start a.now b.now s.now
@@ -319,9 +318,9 @@ where
         &mut board,
         writer,
     );
-    if let Some(publisher) = board {
-        publisher.end(rt);
-    }
+    let None = board else {
+        unreachable!()
+    };
     outcome
 }
 
@@ -357,7 +356,6 @@ where
     requires least { 1 ≤ window }
     requires most { window ≤ 65536 }
     requires some_workers { 1 ≤ workers }
-    requires most_workers { workers ≤ 16 }
     ensures board { result.0.board ≡ publisher.board }
     ensures text { IfOk result.1 (λ summary. (text : List ℕ) × (steps : List Step)
         × (W.taken writer.new ≡ W.taken writer.old ++ text) × (result.0 ≡ record publisher { steps = publisher.steps ++ steps })

@@ -25,7 +25,6 @@ pub use laws::{
     law_of_boards, law_of_early_ends, law_of_first_desks, law_of_first_steps, law_of_full_jumps,
     law_of_more_steps, law_of_reports, law_of_step_fronts,
 };
-pub use reporting::report;
 pub use reports::{Reports, Room};
 pub use rest::Rest;
 pub use row::{Heading, Line};

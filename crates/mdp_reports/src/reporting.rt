@@ -3,7 +3,7 @@
 ghost use Rattle.std.specs.Prelude.{◌≡◌, ◌++◌, length, map, slice_get, IfOk, OnOk};
 ghost use Rattle.mdp_books.specs.Feed.{sent_as, sent_in};
 ghost use Rattle.mdp_desks.specs.Desks.{desks_after, passed_desks};
-ghost use Rattle.mdp_reports.specs.Reporting.{desks_after_move, desks_after_moves, reports_at, reports_of_move, reports_of_moves, reports_passed, snapshots_at};
+ghost use Rattle.mdp_reports.specs.Reporting.{desks_after_move, reports_at, reports_of_move, reports_passed, snapshots_at};
 ghost use Rattle.mdp_steps.specs.Moves.{move_of};
 
 use crate::event_end::report_event_end;
@@ -105,28 +105,4 @@ pub fn report_turn<A: Allocator + Copy>(
             Ok(())
         }
     }
-}
-
-/// Appends the reports of these turns, one for each event end and each jump, by the desks of a worker's own securities, and makes their
-/// moves. The securities stand at these slots, from 0, among all listed ones, of which a jump has the snapshots.
-///
-/// # Errors
-///
-/// Memory ran out. Then neither the desks nor the reports are of more use.
-pub fn report<A: Allocator + Copy>(
-    alloc: A,
-    desks: &mut Desks<A>,
-    slots: &[u16],
-    turns: &[Turn<A>],
-    out: &mut Reports<A>,
-) -> Result<(), Memory>
-    requires { length slots.now ≡ length desks.old }
-    ensures many { length desks.new ≡ length desks.old }
-    ensures desks { OnOk result (desks.new ≡ desks_after_moves slots.now (map move_of turns.now) desks.old) }
-    ensures reports { OnOk result (out.new ≡ out.old ++ reports_of_moves slots.now (map move_of turns.now) desks.old) }
-{
-    for turn in turns {
-        report_turn(alloc, desks, slots, turn, out)?;
-    }
-    Ok(())
 }

@@ -129,17 +129,6 @@ fn rows_between(rows: &[Row], from: usize, to: usize) -> &[Row]
 }
 
 impl<A: Allocator + Copy> Reports<A> {
-    /// Makes a list with no reports; it takes no memory.
-    pub fn new(alloc: A) -> Reports<A>
-        ensures { result ≡ [] }
-    {
-        Reports {
-            bytes: Vec::new(alloc),
-            rows: Vec::new(alloc),
-            marks: Vec::new(alloc),
-        }
-    }
-
     /// Makes a list with no reports, with room for as much as others held, and a quarter more of bytes.
     ///
     /// # Errors

@@ -11,7 +11,7 @@ use crate::tests::channel::{
     Came, FAULTY, FAULTY_TEXT, PLAIN, PLAIN_TEXT, RECOVERED, RECOVERED_TEXT, events_of, listed,
 };
 use crate::tests::expected::{FAULTY_STEPS, PLAIN_STEPS, RECOVERED_STEPS};
-use crate::{Answer, BoardSteps, Collector, Posting, Reports, Worker};
+use crate::{Answer, BoardSteps, Collector, Posting, Reports, Room, Worker};
 use mdp_arbiter::{Arbiter, Start};
 use mdp_engine::replay;
 use mdp_steps::{Turn, feed_all};
@@ -38,6 +38,19 @@ fn workers_of<A: Allocator + Copy>(
     Ok(workers)
 }
 
+/// Appends a worker's reports of these turns.
+fn report_all<A: Allocator + Copy>(
+    alloc: A,
+    worker: &mut Worker<A>,
+    turns: &[Turn<A>],
+    out: &mut Reports<A>,
+) -> Result<(), Memory> {
+    for turn in turns {
+        worker.report_turn(alloc, turn, out)?;
+    }
+    Ok(())
+}
+
 /// The answers of the workers, one after another, to a batch of turns.
 fn answers_of<A: Allocator + Copy>(
     alloc: A,
@@ -46,8 +59,8 @@ fn answers_of<A: Allocator + Copy>(
 ) -> Result<Vec<Answer<A>, A>, Memory> {
     let mut answers = Vec::new(alloc);
     for n in 0..workers.len() {
-        let mut reports = Reports::new(alloc);
-        workers[n].report(alloc, turns, &mut reports)?;
+        let mut reports = Reports::with_room(alloc, Room::none())?;
+        report_all(alloc, &mut workers[n], turns, &mut reports)?;
         answers.push(Answer::Tells(reports))?;
     }
     Ok(answers)

@@ -4,10 +4,10 @@ ghost use Rattle.std.specs.Prelude.{◌≡◌, ◌≢◌, ◌++◌, ◌≤◌, �
 ghost use Rattle.mdp_templates.specs.Instrument.{HasDepth};
 ghost use Rattle.mdp_desks.specs.Desks.{desk_at_start};
 ghost use Rattle.mdp_desks.specs.Shares.{is_kept_by, own_part, own_slots};
-ghost use Rattle.mdp_reports.specs.Reporting.{desks_after_move, desks_after_moves, reports_of_move, reports_of_moves};
+ghost use Rattle.mdp_reports.specs.Reporting.{desks_after_move, reports_of_move};
 ghost use Rattle.mdp_steps.specs.Moves.{move_of};
 
-use crate::reporting::{report, report_turn};
+use crate::reporting::report_turn;
 use crate::reports::Reports;
 use mdp_desks::Desks;
 use mdp_steps::Turn;
@@ -126,24 +126,6 @@ impl<A: Allocator + Copy> Worker<A> {
         ensures reports { OnOk result (out.new ≡ out.old ++ reports_of_move self.old.slots (move_of turn.now) self.old.desks) }
     {
         report_turn(alloc, &mut self.desks, &self.slots, turn, out)?;
-        Ok(())
-    }
-
-    /// Appends its reports of these turns, one for each event end and each jump, and makes their moves.
-    ///
-    /// # Errors
-    ///
-    /// Memory ran out. Then neither the worker nor the reports are of more use.
-    pub fn report(
-        &mut self,
-        alloc: A,
-        turns: &[Turn<A>],
-        out: &mut Reports<A>,
-    ) -> Result<(), Memory>
-        ensures worker { OnOk result (self.new ≡ record self.old { desks = desks_after_moves self.old.slots (map move_of turns.now) self.old.desks }) }
-        ensures reports { OnOk result (out.new ≡ out.old ++ reports_of_moves self.old.slots (map move_of turns.now) self.old.desks) }
-    {
-        report(alloc, &mut self.desks, &self.slots, turns, out)?;
         Ok(())
     }
 }

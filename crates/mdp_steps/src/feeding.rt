@@ -1,9 +1,8 @@
 //! An arbiter takes in events, and hands on as turns the moves that they make possible.
 
-ghost use Rattle.std.specs.Prelude.{◌≡◌, [], ◌∷◌, ◌++◌, List, IfOk, OnOk, map};
+ghost use Rattle.std.specs.Prelude.{◌≡◌, [], ◌∷◌, ◌++◌, List, IfOk, map};
 ghost use Rattle.mdp_templates.specs.declared.instrument.Instrument.{Instrument};
 ghost use Rattle.mdp_arbiter.specs.Accepted.{Event as Accepted};
-ghost use Rattle.mdp_arbiter.specs.Arbiter.{state};
 ghost use Rattle.mdp_arbiter.specs.Machine.{snapshots_of};
 ghost use Rattle.mdp_arbiter.specs.Standing.{StandsAt};
 ghost use Rattle.mdp_engine.specs.Engine.{IsSettled};
@@ -13,9 +12,9 @@ ghost use Rattle.mdp_steps.specs.Moves.{move_of, stepped_move};
 
 use crate::turn::Turn;
 use mdp_arbiter::{Arbiter, Step};
-use mdp_engine::Event;
+use mdp_engine::{Event, take_in};
 use mdp_templates::{Memory, Packet, Snapshot};
-use mdp_window::{Put, Window};
+use mdp_window::Window;
 use std::alloc::Allocator;
 
 // Copies the snapshots that are there.
@@ -69,38 +68,8 @@ fn make_moves<A: Allocator + Copy, W: Window<Packet<A>> + Drop>(
     Ok(())
 }
 
-// Takes in an event, and makes no move.
-fn take_in<A: Allocator + Copy, W: Window<Packet<A>> + Drop>(
-    arbiter: &mut Arbiter<A, W>,
-    event: Event<A>,
-) -> Result<(), Memory>
-    ensures stands { OnOk result ((before : List Accepted) → StandsAt before arbiter.old → StandsAt (before ++ event_of event ∷ []) arbiter.new) }
-    ensures keeps { OnOk result (state arbiter.new ≡ state arbiter.old) }
-    ensures channel { OnOk result (arbiter.new.channel ≡ arbiter.old.channel) }
-{
-    match event {
-        Event::Packet(packet) => match arbiter.packet(packet) {
-            Put::Kept => Ok(()),
-            Put::Back(_) => Ok(()),
-            Put::Memory(_) => Err(Memory),
-        },
-        Event::Snapshot(snapshot) => {
-            arbiter.snapshot(Box::into_inner(snapshot));
-            Ok(())
-        }
-        Event::Close => {
-            arbiter.close();
-            Ok(())
-        }
-    }
-}
-
-/// Takes in an event, and appends the moves that are then possible as turns.
-///
-/// # Errors
-///
-/// Memory ran out. The turns that were appended are a beginning of those moves, and the arbiter is of no further use.
-pub fn feed<A: Allocator + Copy, W: Window<Packet<A>> + Drop>(
+// Takes in an event, and appends the moves that are then possible as turns.
+fn feed<A: Allocator + Copy, W: Window<Packet<A>> + Drop>(
     alloc: A,
     arbiter: &mut Arbiter<A, W>,
     event: Event<A>,

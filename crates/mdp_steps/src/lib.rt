@@ -7,6 +7,6 @@ mod steps;
 mod tests;
 mod turn;
 
-pub use feeding::{feed, feed_all};
+pub use feeding::feed_all;
 pub use steps::Steps;
 pub use turn::Turn;

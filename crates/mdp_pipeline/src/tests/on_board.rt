@@ -98,7 +98,6 @@ where
     R: Threads + Wait + Sync,
     A: Allocator + Copy + Send + Sync,
     requires some { 1 ≤ workers }
-    requires most_workers { workers ≤ 16 }
     requires least { 1 ≤ window }
     requires most { window ≤ 65536 }
 {
@@ -144,7 +143,6 @@ fn shows<R: Threads + Wait + Abort + Sync>(
     rows: Rows,
 )
     requires some { 1 ≤ workers }
-    requires most_workers { workers ≤ 16 }
     requires least { 1 ≤ window }
     requires most { window ≤ 65536 }
 {

@@ -99,7 +99,6 @@ where
     requires least { 1 ≤ window }
     requires most { window ≤ 65536 }
     requires some_workers { 1 ≤ workers }
-    requires most_workers { workers ≤ 16 }
 {
     let instruments = capture.instruments();
     if instruments.is_empty() || instruments.len() > 512 {
