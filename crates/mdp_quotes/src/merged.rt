@@ -134,9 +134,10 @@ fn first_of(way: Way, direct: &[Level], implied: &[Level]) -> Option<Total>
     }
 }
 
-/// Gives the first total of each side of a book whose sides are in order.
+/// Gives the first total of each side of a book whose sides are in order, as [`are_in_order`] tells.
 pub fn merged_top(sides: &Sides) -> TopOfBook
-    ensures { result ≡ top_of_quotes (merged_quotes sides.now) }
+    requires { quotes_of sides.now ≡ merged_quotes sides.now }
+    ensures { result ≡ top_of_quotes (quotes_of sides.now) }
 {
     TopOfBook {
         bid: first_of(
