@@ -1,4 +1,4 @@
-use Rattle.std.proofs.Common.{rules, sym, ◌∙◌, ap}
+use Rattle.std.proofs.Common.{rules}
 use Rattle.mdp_quotes.proofs.Merging.{quotes_merged}
 use Rattle.mdp_quotes.proofs.merged.are_in_order.Goals as goal
 
