@@ -5,8 +5,9 @@
 //! The first word is the window, 1 to 65536, and 1024 where none is given.
 #![tactic(auto)]
 
-ghost use Rattle.std.specs.Prelude.{◌≡◌, ◌≤◌, IfOk};
+ghost use Rattle.std.specs.Prelude.{◌≡◌, ◌≤◌, [], ◌∷◌, length, IfOk, IfSome};
 ghost use Rattle.mdp_lanes.specs.Boards.{IsFreshReader};
+ghost use Rattle.mdp_lanes.specs.Rows.{rows_after};
 ghost use Rattle.mdp_templates.specs.Instrument.{AreFit};
 
 use anyhow::bail;
@@ -167,8 +168,28 @@ fn start<'s, E, R: Threads + Wait + Sync>(
         .map_err(|_| AllocError)
 }
 
-/// Waits for a thread that watches, tells its reader of all that was published, and reads once more: that shows no less. Answers what
-/// the thread saw on the way, and the line of the end.
+/// Tells a reader of all that was published, and reads once more. Answers how many steps that are, and the rows as all of them left
+/// them; none where the board was let go.
+fn last_rows(
+    publisher: &mut Publisher<Global>,
+    reader: &mut Reader<Global>,
+) -> Option<(u64, [Row; 2])>
+    requires board { reader.old.board ≡ publisher.old.board }
+    requires slots { 2 ≤ reader.old.slots }
+    ensures publisher { publisher.new ≡ publisher.old }
+    ensures step { IfSome result (λ last. last.0 ≡ length publisher.old.steps) }
+    ensures rows { IfSome result (λ last. last.1 ≡ rows_after (0 ∷ 1 ∷ []) publisher.old.steps) }
+{
+    reader.learn(publisher.tell());
+    let mut rows = [Row::Never; 2];
+    let step = reader.read(&WATCHED, &mut rows)?;
+    if !publisher.tell().covers(reader) {
+        return None;
+    }
+    Some((step, rows))
+}
+
+/// Waits for a thread that watches, and reads once more. Answers what the thread saw on the way, and the line of the end.
 fn finish<R: Threads>(
     rt: &R,
     alloc: Global,
@@ -181,9 +202,7 @@ fn finish<R: Threads>(
     ensures { publisher.new ≡ publisher.old }
 {
     let Seen { mut reader, lines } = started?.join(rt);
-    reader.learn(publisher.tell());
-    let mut rows = [Row::Never; 2];
-    let Some(step) = reader.read(&WATCHED, &mut rows) else {
+    let Some((step, rows)) = last_rows(publisher, &mut reader) else {
         bail!("the board was let go");
     };
     let mut last = String::new(alloc);

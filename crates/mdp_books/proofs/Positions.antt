@@ -9,9 +9,6 @@ use Rattle.std.proofs.lemmas.Bool.Decides.{nat_tests}
 use Rattle.mdp_templates.specs.declared.entry.Level.{Level}
 use Rattle.mdp_books.specs.Side.{SideContent, after_new, is_position, HaveSizes, IsSide}
 
-HasSize : Level → Type 0
-HasSize x = FitsSigned w32 x.size
-
 -- what falls past the depth may go before the new level comes
 insert_below : (i m : ℕ) (x : Level) (side : List Level) → i ≤ m → insert (take m side) i x ≡ take (suc m) (insert side i x)
 insert_below zero m x side h = refl

@@ -56,7 +56,8 @@ impl<const CAPACITY: usize> Side<CAPACITY> {
     #[inline]
     pub fn levels(&self) -> &[Level]
         ensures items { result.now ≡ self.now.levels }
-        ensures few { length self.now.levels ≤ CAPACITY }
+        ensures few { length self.now.levels ≤ self.now.depth }
+        ensures deep { self.now.depth ≤ CAPACITY }
         ensures sizes { HaveSizes self.now.levels }
     {
         self.levels.levels()
@@ -66,7 +67,8 @@ impl<const CAPACITY: usize> Side<CAPACITY> {
     #[inline]
     pub fn printed(&self) -> &PrintedLevels<CAPACITY>
         ensures items { result.now ≡ self.now.levels }
-        ensures few { length self.now.levels ≤ CAPACITY }
+        ensures few { length self.now.levels ≤ self.now.depth }
+        ensures deep { self.now.depth ≤ CAPACITY }
         ensures sizes { HaveSizes self.now.levels }
     {
         &self.levels

@@ -1,7 +1,8 @@
 -- Each step of an end keeps the rule of the board.
-use Rattle.std.proofs.Common.{◌≡◌, ℕ, ◌+◌, ◌<◌, ◌≤◌, ◌≢◌, true, false, List, [], ◌∷◌, ◌++◌, length, set, replicate, refl, ap, sym, ◌∙◌, subst, ⊎_elim, arith, length-append}
+use Rattle.std.proofs.Common.{◌≡◌, ℕ, ◌≢◌, false, List, [], ◌∷◌, ◌++◌, length, set, replicate, refl, ap, sym, ◌∙◌, subst, ⊎_elim, arith}
 use Rattle.std.specs.Prelude.{is_err, IsOk, MatchResult, Ok, Err, Result}
-use Rattle.std.proofs.lemmas.List.{get_or-replicate, length-replicate}
+use Rattle.std.proofs.lemmas.List.{append-nil, get_or-replicate, length-replicate}
+use mathlib.Core.List.{IsPrefix}
 use mathlib.Core.Option.{some, some-ne-none}
 use lib.ListN.{get_elem?}
 use Rattle.crossbeam_utils.specs.Register.{Admits, TurnsAt, Forks, Merges}
@@ -11,9 +12,9 @@ use Rattle.mdp_lanes.specs.declared.row.Row.TheVariants.{Never}
 use Rattle.mdp_lanes.specs.declared.sheet.Sheet.{Sheet}
 use Rattle.mdp_lanes.specs.declared.update.Update.{Update}
 use Rattle.mdp_lanes.specs.declared.shown.Known.{Known}
-use Rattle.mdp_lanes.specs.Rows.{row_after}
 use Rattle.mdp_lanes.specs.Updates.{step_of, changed_rows, face, next_face}
 use Rattle.mdp_lanes.specs.Boards.{AreRowsAfter, newcomer, IsSheet, FitsSheet, IsBoard, knower, Finds, Continues}
+use Rattle.mdp_lanes.proofs.Fronts.{front_of_front}
 use Rattle.mdp_lanes.proofs.SheetSteps.{changed-length, changed_are}
 
 module _ {A : Type 0} where
@@ -31,10 +32,10 @@ module _ {A : Type 0} where
       ⊎_elim (all other u) (λ (same : v ≡ u). subst (FitsSheet s) same fit) (at_snoc views v u other at)
 
   newcomer_fits : (s : Sheet A) → FitsSheet s newcomer
-  newcomer_fits s = (omega arith, λ some_slot. absurd (omega arith))
+  newcomer_fits s = (omega arith, λ some_slot. absurd (omega arith), (s.front.log, refl))
 
   knower_fits : (s : Sheet A) → FitsSheet s (knower s)
-  knower_fits s = (omega arith, λ some_slot. refl)
+  knower_fits s = (omega arith, λ some_slot. refl, ([], append-nil s.front.log))
 
   -- ---- readers
 
@@ -43,7 +44,7 @@ module _ {A : Type 0} where
 
   pub looks : (seat : ℕ) (v : Known) (s : Sheet A) → TurnsAt (IsBoard {A = A}) seat v s s Finds
   looks seat v s views h at =
-      (knower s, (h.0, with_view s views seat (knower s) h.1 (knower_fits s)), (refl, h.0, h.1 seat v at))
+      (knower s, (h.0, with_view s views seat (knower s) h.1 (knower_fits s)), (refl, h.0, h.1 seat v at, refl))
 
   pub introduces : (seat : ℕ) (v : Known) → Forks (IsBoard {A = A}) seat v v v
   introduces seat v s views h at =
@@ -58,13 +59,14 @@ module _ {A : Type 0} where
 
   -- ---- the publisher
 
-  -- a copy of the same board with the same slots takes the place of another
+  -- a copy of the same board with the same slots, which goes on from another's steps, takes its place
   shows : (seat : ℕ) (v : Known) (x y : Sheet A) → length y.rows.items ≡ length x.rows.items → y.front.book ≡ x.front.book
-      → (IsSheet x → IsSheet y) → TurnsAt (IsBoard {A = A}) seat v x y Finds
-  shows seat v x y many board are views h at =
-      let fits : (w : Known) → FitsSheet x w → FitsSheet y w = λ w fit. (omega (arith, fit.0, many), λ some_slot. fit.1 some_slot ∙ sym board) in
+      → IsPrefix x.front.log y.front.log → (IsSheet x → IsSheet y) → TurnsAt (IsBoard {A = A}) seat v x y Finds
+  shows seat v x y many board longer are views h at =
+      let fits : (w : Known) → FitsSheet x w → FitsSheet y w =
+      λ w fit. (omega (arith, fit.0, many), λ some_slot. fit.1 some_slot ∙ sym board, front_of_front w.front.log x.front.log y.front.log fit.2 longer) in
       let all : AllFit y views = λ other w there. fits w (h.1 other w there) in
-      (knower y, (are h.0, with_view y views seat (knower y) all (knower_fits y)), (refl, are h.0, fits v (h.1 seat v at)))
+      (knower y, (are h.0, with_view y views seat (knower y) all (knower_fits y)), (refl, are h.0, fits v (h.1 seat v at), many))
 
   -- an update that goes on from what is shown
   pub publishes : (seat : ℕ) (v : Known) (x y : Sheet A) (u : Update A) → Continues x u → face y ≡ next_face (face x) u → TurnsAt (IsBoard {A = A}) seat v x y Finds
@@ -77,7 +79,7 @@ module _ {A : Type 0} where
             (subst (AreRowsAfter (changed_rows x.rows.items u.change)) (sym steps) (changed_are x.rows.items x.front.log u.change h.0)),
         ap (λ f. f.length) is ∙ (on.2 ∙ ap (λ f. length f.log) (sym front)),
       ) in
-      shows seat v x y (ap length rows ∙ changed-length x.rows.items u.change) (ap (λ f. f.book) front ∙ on.1) are
+      shows seat v x y (ap length rows ∙ changed-length x.rows.items u.change) (ap (λ f. f.book) front ∙ on.1) (step_of u.change ∷ [], sym steps) are
 
   -- an update that changes nothing
   pub shows_again : (seat : ℕ) (v : Known) (x y : Sheet A) (u : Update A) → ((rows : List Row) → changed_rows rows u.change ≡ rows)
@@ -87,7 +89,7 @@ module _ {A : Type 0} where
       let same : y.front ≡ x.front = ap (λ f. f.front) is ∙ front in
       let number : y.length ≡ x.length = ap (λ f. f.length) is ∙ many in
       let are : IsSheet x → IsSheet y = λ h. rw (rows, same, number) h in
-      shows seat v x y (ap length rows) (ap (λ f. f.book) same) are
+      shows seat v x y (ap length rows) (ap (λ f. f.book) same) ([], append-nil x.front.log ∙ ap (λ f. f.log) (sym same)) are
 
   -- what is pending behind nothing, once an update was appended, is that update
   pub pends_alone : (r : Result (Unit {0}) (Update A)) (pending before : List (Update A)) (u : Update A) → is_err r ≡ false

@@ -1,5 +1,5 @@
 -- What an update does to the rows of a copy is what its step does to each slot's row.
-use Rattle.std.proofs.Common.{All, ◌≡◌, ◌≢◌, ◌==◌, ℕ, ◌<◌, Bool, true, false, List, [], ◌∷◌, ◌++◌, length, replicate, get_or, set, fold, map, filter, refl, ap, sym, ◌∙◌, subst, arith, get_or-set_same, get_or-set_other, length-set, cond}
+use Rattle.std.proofs.Common.{All, ◌≡◌, ◌≢◌, ◌==◌, ℕ, ◌<◌, Bool, true, false, List, [], ◌∷◌, ◌++◌, length, get_or, fold, map, filter, refl, ap, sym, ◌∙◌, subst, arith, get_or-set_same, get_or-set_other, length-set, cond}
 use Rattle.std.proofs.lemmas.Bool.Decides.{nat_tests}
 use Rattle.std.proofs.lemmas.List.{get_or-replicate, length-replicate, ext_get_or, get_or-map, length-map}
 use Rattle.mdp_lanes.specs.declared.row.Row.{Row}

@@ -5,7 +5,7 @@ ghost use Rattle.left_right.specs.Sides.{view};
 ghost use Rattle.mdp_lanes.specs.declared.row.Row.TheVariants.{Never};
 ghost use Rattle.mdp_lanes.specs.declared.row.Row.{Row};
 ghost use Rattle.mdp_lanes.specs.Updates.{changed_rows};
-ghost use Rattle.mdp_lanes.specs.Boards.{Knows, IsFreshReader};
+ghost use Rattle.mdp_lanes.specs.Boards.{Knows, IsFreshReader, IsSheet};
 
 use crate::history::{self, Front};
 use crate::publisher::{BoardWriter, Publisher};
@@ -36,6 +36,7 @@ impl Board {
         requires slots { (1 ≤ slots) × (slots ≤ 512) }
         requires readers { (1 ≤ readers) × (readers ≤ 16) }
         ensures publisher { IfOk result (λ ends. ends.0.steps ≡ []) }
+        ensures slots { IfOk result (λ ends. ends.0.slots ≡ slots) }
         ensures many { IfOk result (λ ends. vec_len ends.1 ≡ readers) }
         ensures readers { IfOk result (λ ends. All (IsFreshReader ends.0.board slots) ends.1.items) }
     {
@@ -56,6 +57,7 @@ impl Board {
         };
         let publisher = Publisher {
             alloc,
+            slots,
             head,
             count: 0,
             front,
@@ -103,7 +105,9 @@ fn settle<R: Wait, A: Allocator + Copy>(
     ensures { OnOk result.1 (
         (result.0.desk.shown.value.front ≡ front.now)
         × (drop result.0.behind result.0.log.items ≡ [])
-        × Knows (view result.0.desk.place) front.now.book slots) }
+        × Knows (view result.0.desk.place) front.now.book slots
+        × (length result.0.desk.shown.value.rows.items ≡ slots)
+        × IsSheet result.0.desk.shown.value) }
 {
     let mut writer = writer;
     let update = unchanged(alloc, front);

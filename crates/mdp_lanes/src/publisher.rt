@@ -1,8 +1,8 @@
 //! The end of a board that publishes.
 
-ghost use Rattle.std.specs.Prelude.{◌≡◌, [], drop, MatchResult};
+ghost use Rattle.std.specs.Prelude.{◌≡◌, [], drop, length, vec_len, MatchResult};
 ghost use Rattle.mdp_lanes.specs.declared.step.Step.TheVariants.{Jump, Event};
-ghost use Rattle.mdp_lanes.specs.Boards.{with_step, Continues};
+ghost use Rattle.mdp_lanes.specs.Boards.{with_step, AreRowsAfter, Continues, IsSheet};
 ghost use Rattle.mdp_lanes.specs.Updates.{step_of};
 
 use crate::history::{self, Front, Head};
@@ -22,13 +22,15 @@ use std::sync::Wait;
 
 pub(crate) type BoardWriter<A> = Writer<Sheet<A>, Update<A>, Known, IsShown, A>;
 
-/// Publishes steps, one after the other. A contract sees its board and the steps that were published. End it by `end`.
+/// Publishes steps, one after the other. A contract sees its board, the number of slots, and the steps that were published. End it by
+/// `end`.
 pub struct Publisher<A: Allocator + Copy>
 where
     Sheet<A>: Absorb<Update<A>, State = Face>,
     IsShown: Protocol<Sheet<A>, Known>,
 {
     pub(crate) alloc: A,
+    pub(crate) slots: usize,
     pub(crate) head: Head,
     pub(crate) count: u64,
     pub(crate) front: Front,
@@ -41,17 +43,19 @@ where
     IsShown: Protocol<Sheet<A>, Known>,
 {
     ghost use Rattle.std.specs.Prelude.{◌≡◌, [], drop, length};
-    ghost use Rattle.mdp_lanes.specs.Boards.{Published};
+    ghost use Rattle.mdp_lanes.specs.Boards.{Published, IsSheet};
     ghost use Rattle.mdp_lanes.specs.History.{head_of};
 
     ghost Value = { Published };
 
-    ghost view = { λ p. record { board = p.front.book; steps = p.front.log } };
+    ghost view = { λ p. record { board = p.front.book; slots = p.slots; steps = p.front.log } };
 
     ghost invariant = { λ p.
         (p.head ≡ head_of p.front.book)
         × (p.count ≡ length p.front.log)
         × (p.writer.desk.shown.value.front ≡ p.front)
+        × (length p.writer.desk.shown.value.rows.items ≡ p.slots)
+        × IsSheet p.writer.desk.shown.value
         × (drop p.writer.behind p.writer.log.items ≡ []) };
 }
 
@@ -62,8 +66,11 @@ pub(crate) fn send<R: Wait, A: Allocator + Copy>(
     update: Update<A>,
 ) -> (BoardWriter<A>, Result<(), Memory>)
     requires pending { drop writer.behind writer.log.items ≡ [] }
+    requires sheet { IsSheet writer.desk.shown.value }
     requires continues { Continues writer.desk.shown.value update }
     ensures pending { drop result.0.behind result.0.log.items ≡ [] }
+    ensures sheet { IsSheet result.0.desk.shown.value }
+    ensures slots { length result.0.desk.shown.value.rows.items ≡ length writer.desk.shown.value.rows.items }
     ensures shown { MatchResult result.1
         (λ _. result.0.desk.shown.value.front ≡ update.front)
         (λ _. result.0.desk.shown.value.front ≡ writer.desk.shown.value.front) }
@@ -109,7 +116,7 @@ impl<A: Allocator + Copy> Publisher<A> {
     fn publish<R: Wait>(&mut self, rt: &R, change: Change<A>) -> Result<(), Memory>
         ensures { MatchResult result (λ _. self.new ≡ with_step self.old (step_of change)) (λ _. self.new ≡ self.old) }
     {
-        let Some(length) = self.count.checked_add(1) else {
+        let Some(count) = self.count.checked_add(1) else {
             return Err(Memory);
         };
         let mut front = self.front.again();
@@ -118,7 +125,7 @@ impl<A: Allocator + Copy> Publisher<A> {
         }
         let update = Update {
             change,
-            length,
+            length: count,
             front: front.again(),
         };
         replace_with(
@@ -129,21 +136,24 @@ impl<A: Allocator + Copy> Publisher<A> {
                 Result<(), Memory>,
             )
                 requires pending { drop writer.behind writer.log.items ≡ [] }
+                requires sheet { IsSheet writer.desk.shown.value }
                 requires continues { Continues writer.desk.shown.value update }
                 ensures pending { drop result.0.behind result.0.log.items ≡ [] }
+                ensures sheet { IsSheet result.0.desk.shown.value }
+                ensures slots { length result.0.desk.shown.value.rows.items ≡ length writer.desk.shown.value.rows.items }
                 ensures shown { MatchResult result.1
                     (λ _. result.0.desk.shown.value.front ≡ update.front)
                     (λ _. result.0.desk.shown.value.front ≡ writer.desk.shown.value.front) }
             { send(writer, rt, update) },
         )?;
-        self.count = length;
+        self.count = count;
         self.front = front;
         Ok(())
     }
 
     /// Makes a token of all that was published. A reader that learns it never shows less from then on.
     pub fn tell(&mut self) -> Told
-        ensures told { result ≡ self.old }
+        ensures told { (result.board ≡ self.old.board) × (result.steps ≡ self.old.steps) }
         ensures same { self.new ≡ self.old }
     {
         Told {
@@ -152,15 +162,25 @@ impl<A: Allocator + Copy> Publisher<A> {
         }
     }
 
-    /// Lets the board go. It waits for readers that are inside a read; a later read answers none.
-    pub fn end<R: Wait>(self, rt: &R) {
+    /// Lets the board go, and hands back the row of each slot as all steps left it, which is what readers saw last. It waits for readers
+    /// that are inside a read; a later read answers none.
+    pub fn end<R: Wait>(self, rt: &R) -> Vec<Row, A>
+        ensures many { vec_len result ≡ self.slots }
+        ensures rows { AreRowsAfter result.items self.steps }
+    {
         let Self {
             alloc: _,
+            slots: _,
             head: _head,
             count: _,
             front: _front,
             writer,
         } = self;
-        drop(writer.take(rt));
+        let Sheet {
+            rows,
+            length: _,
+            front: _,
+        } = Box::into_inner(writer.take(rt));
+        rows
     }
 }

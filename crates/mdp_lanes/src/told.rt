@@ -1,6 +1,11 @@
 //! What a publisher tells readers.
 
+ghost use Rattle.std.specs.Prelude.{◌≡◌, ◌↔◌, IsTrue};
+ghost use mathlib.Core.List.{IsPrefix};
+
 use crate::history::Front;
+use crate::reader::Reader;
+use std::alloc::Allocator;
 use std::marker::Model;
 
 /// A token of all that was published when it was made. A contract sees it as its board and those steps; it has their number alone.
@@ -12,11 +17,24 @@ pub struct Told {
 
 impl Model for Told {
     ghost use Rattle.std.specs.Prelude.{◌≡◌, length};
-    ghost use Rattle.mdp_lanes.specs.Boards.{Published};
+    ghost use Rattle.mdp_lanes.specs.Boards.{ToldView};
 
-    ghost Value = { Published };
+    ghost Value = { ToldView };
 
     ghost view = { λ t. record { board = t.front.book; steps = t.front.log } };
 
     ghost invariant = { λ t. t.count ≡ length t.front.log };
+}
+
+impl Told {
+    /// Tells whether all that this reader has read and was told of is among these steps; then it is a beginning of them. Of a token
+    /// that the publisher made after a read that is so, but no clause knows which of two calls in two threads came first.
+    pub fn covers<A: Allocator + Copy>(&self, reader: &Reader<A>) -> bool
+        requires { reader.now.board ≡ self.now.board }
+        ensures { IsTrue result ↔ IsPrefix reader.now.front self.now.steps }
+    {
+        let mut both = self.front.again();
+        both.learn(&reader.front);
+        reader.count <= self.count
+    }
 }

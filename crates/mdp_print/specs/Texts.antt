@@ -7,6 +7,7 @@ use Rattle.mdp_templates.specs.declared.entry.Level.{Level}
 use Rattle.mdp_text.specs.Levels.{quote_text, levels_text}
 use Rattle.mdp_books.specs.declared.book.Place.{Place}
 use Rattle.mdp_quotes.specs.declared.total.Total.{Total}
+use Rattle.mdp_quotes.specs.Quotes.{Quotes}
 use Rattle.mdp_quotes.specs.declared.verdict.Verdict.{Verdict}
 use Rattle.mdp_quotes.specs.declared.verdict.Verdict.TheVariants.{Neither, Missing, Extra, Better, Worse, Equal, EqualLess, EqualMore}
 use Rattle.mdp_templates.specs.declared.feed.Feed.{Feed}
@@ -39,6 +40,10 @@ implied_line head bids offers = sides_line (codes "I") head (levels_text bids) (
 -- C PACKET.MESSAGE NAME B LEVELS O LEVELS
 unfoldable pub consolidated_line : List ℕ → List Total → List Total → List ℕ
 consolidated_line head bids offers = sides_line (codes "C") head (totals_text bids) (totals_text offers)
+
+-- the line of a book's quotes
+abbrev pub quotes_line : List ℕ → Quotes → List ℕ
+quotes_line head quotes = consolidated_line head quotes.bids quotes.offers
 
 -- the place of an entry: PACKET.MESSAGE.ENTRY
 abbrev pub place_text : Place → List ℕ

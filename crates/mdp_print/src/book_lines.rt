@@ -1,8 +1,9 @@
 //! The lines of good books.
 
 ghost use Rattle.std.specs.Prelude.{◌≡◌, ◌+◌, ◌<◌, ◌≤◌, ◌++◌, ◌∷◌, [], length, codes, vec_len, vec_capacity, OnOk, OnErr};
+ghost use Rattle.mdp_quotes.specs.Consolidation.{quotes_of};
 ghost use Rattle.mdp_quotes.specs.Merged.{merged, merged_quotes};
-ghost use Rattle.mdp_print.specs.Texts.{direct_line, implied_line, consolidated_line, sides_line, totals_text};
+ghost use Rattle.mdp_print.specs.Texts.{direct_line, implied_line, consolidated_line, quotes_line, sides_line, totals_text};
 ghost use Rattle.mdp_print.specs.Pieces.{BeginsWith};
 
 use crate::head::Head;
@@ -73,9 +74,10 @@ fn put_merged_sides<A: Allocator>(
     head: &Head,
     sides: &Sides,
 ) -> Result<(), Memory>
-    ensures ok { OnOk result (out.new.items ≡ out.old.items ++ consolidated_line head.now (merged_quotes sides.now).bids (merged_quotes sides.now).offers) }
+    ensures ok { OnOk result (out.new.items ≡ out.old.items ++ quotes_line head.now (merged_quotes sides.now)) }
     ensures err { OnErr result (BeginsWith out.new.items out.old.items) }
-    ensures full { OnErr result (vec_capacity out.old < vec_len out.old + length (consolidated_line head.now (merged_quotes sides.now).bids (merged_quotes sides.now).offers)) }
+    ensures full { OnErr result
+        (vec_capacity out.old < vec_len out.old + length (quotes_line head.now (merged_quotes sides.now))) }
 {
     put_head(out, b'C', head)?;
     let implied = sides.implied_bids.printed();
@@ -141,16 +143,19 @@ pub fn put_consolidated<A: Allocator>(
     settle(out, start, outcome)
 }
 
-/// Appends the `C` line of a book whose sides are in order, as [`put_consolidated`] does of totals that were added up. The text
-/// of levels that stand alone at their price is copied from their sides.
+/// Appends the `C` line of a book whose sides are in order, as [`mdp_quotes::are_in_order`] tells; it is the one that
+/// [`put_consolidated`] appends of totals that were added up. The text of levels that stand alone at their price is copied from their
+/// sides.
 pub fn put_merged<A: Allocator>(
     out: &mut Vec<u8, A>,
     head: &Head,
     sides: &Sides,
 ) -> Result<(), Memory>
-    ensures ok { OnOk result (out.new.items ≡ out.old.items ++ consolidated_line head.now (merged_quotes sides.now).bids (merged_quotes sides.now).offers) }
+    requires order { quotes_of sides.now ≡ merged_quotes sides.now }
+    ensures ok { OnOk result (out.new.items ≡ out.old.items ++ quotes_line head.now (quotes_of sides.now)) }
     ensures err { OnErr result (out.new.items ≡ out.old.items) }
-    ensures full { OnErr result (vec_capacity out.old < vec_len out.old + length (consolidated_line head.now (merged_quotes sides.now).bids (merged_quotes sides.now).offers)) }
+    ensures full { OnErr result
+        (vec_capacity out.old < vec_len out.old + length (quotes_line head.now (quotes_of sides.now))) }
 {
     let start = out.len();
     let outcome = put_merged_sides(out, head, sides);

@@ -8,7 +8,7 @@ use crate::{
 };
 use arrayvec::ArrayString;
 use mdp_books::{Place, Side, Sides};
-use mdp_quotes::{Total, Verdict};
+use mdp_quotes::{Total, Verdict, are_in_order};
 use mdp_sbe::Refusal;
 use mdp_templates::{Feed, Level, Memory, Name};
 use refusing::Refusing;
@@ -101,6 +101,14 @@ fn prints_consolidated_sides(rt: HostRuntime) -> Result<(), Fail> {
     Ok(())
 }
 
+/// Appends the line of sides that are in order. Answers whether they are, and there was memory.
+fn merge<A: Allocator>(out: &mut Vec<u8, A>, head: &Head, sides: &Sides) -> bool {
+    if !are_in_order(sides) {
+        return false;
+    }
+    put_merged(out, head, sides).is_ok()
+}
+
 #[test]
 fn merges_sides_in_order(rt: HostRuntime) -> Result<(), Fail> {
     let mut out = Vec::new(rt.alloc());
@@ -112,7 +120,7 @@ fn merges_sides_in_order(rt: HostRuntime) -> Result<(), Fail> {
         implied_bids: Side::from_levels(2, &[level(100, 7), level(98, 10)]),
         implied_offers: Side::from_levels(2, &[level(102, 8), level(104, 9)]),
     };
-    assert!(rt; put_merged(&mut out, &head, &sides).is_ok());
+    assert!(rt; merge(&mut out, &head, &sides));
     // one side empty, both levels of the other at one implied price each
     let offers = [level(-5, i32::MAX), level(6, 0)];
     let alike = Sides {
@@ -121,8 +129,8 @@ fn merges_sides_in_order(rt: HostRuntime) -> Result<(), Fail> {
         implied_bids: Side::from_levels(2, &[level(9, 1), level(8, 2)]),
         implied_offers: Side::from_levels(2, &offers),
     };
-    assert!(rt; put_merged(&mut out, &head, &alike).is_ok());
-    assert!(rt; put_merged(&mut out, &head, &with_direct(&[], &[])).is_ok());
+    assert!(rt; merge(&mut out, &head, &alike));
+    assert!(rt; merge(&mut out, &head, &with_direct(&[], &[])));
     let lines =
         b"C 1.2 N B 100x7 99x1 98x12 97x3 O 101x4 102x8 103x2147483647 104x9\nC 1.2 N B 9x1 8x2 O -5x4294967294 6x0\nC 1.2 N B O\n";
     assert_eq!(rt; out.as_slice(), &lines[..]);

@@ -1,5 +1,5 @@
 -- Sides in order, merged, are what entering their levels makes.
-use Rattle.std.proofs.Common.{◌≡◌, ◌<◌, ◌≤◌, ◌+◌, ◌++◌, ℕ, zero, suc, ℤ, pos, List, [], ◌∷◌, Some, None, Bool, true, false, map, take, drop, length, refl, sym, ap, ◌∙◌, inl, inr, subst, arith}
+use Rattle.std.proofs.Common.{◌≡◌, ◌<◌, ◌≤◌, ◌+◌, ◌++◌, ℕ, zero, suc, ℤ, pos, List, [], ◌∷◌, Bool, true, false, map, take, drop, length, refl, sym, ap, ◌∙◌, inl, inr, subst, arith}
 use Rattle.std.specs.Prelude.{slice_get, slice_index_or, ◌&&◌, if◌then◌else◌}
 use Rattle.std.specs.Ordering.{int_eq}
 use Rattle.std.proofs.lemmas.List.Sums.{prefix_len_is}
@@ -14,7 +14,7 @@ use Rattle.mdp_quotes.specs.Computed.{consolidated_side}
 use Rattle.mdp_quotes.specs.Consolidation.{quotes_of}
 use Rattle.mdp_quotes.specs.Quotes.{Quotes}
 use Rattle.mdp_quotes.specs.Merged.{ahead_of, are_ordered, is_at_price, merged, merged_quotes, total_with}
-use Rattle.mdp_quotes.proofs.Prices.{true_or_false, same_or_not, ahead_trans, ahead_differs, ahead_or_behind}
+use Rattle.mdp_quotes.proofs.Prices.{true_or_false, same_or_not, ahead_trans}
 use Rattle.mdp_quotes.proofs.Computing.{entered_is}
 
 -- ---- a price that leads levels
@@ -134,15 +134,6 @@ quotes_merged sides bids implied_bids offers implied_offers =
 
 -- ---- the order, level by level
 
--- the levels from a place on are in order where the first two are and those behind them
-pub ordered_step :
-    (way : Way) (xs : List Level) (n : ℕ) (d : Level) → suc n < length xs
-    → are_ordered way (drop n xs) ≡ (is_ahead way (slice_index_or xs n d).price (slice_index_or xs (suc n) d).price && are_ordered way (drop (suc n) xs))
-ordered_step way [] n d inside = absurd (omega arith)
-ordered_step way (x ∷ []) n d inside = absurd (omega arith)
-ordered_step way (x ∷ y ∷ xs) zero d inside = refl
-ordered_step way (x ∷ y ∷ xs) (suc n) d inside = ordered_step way (y ∷ xs) n d (omega arith)
-
 -- one level is in order
 pub ordered_end : (way : Way) (xs : List Level) (n : ℕ) → length xs ≤ suc n → are_ordered way (drop n xs) ≡ true
 ordered_end way [] zero short = refl
@@ -150,41 +141,6 @@ ordered_end way [] (suc n) short = refl
 ordered_end way (x ∷ []) zero short = refl
 ordered_end way (x ∷ y ∷ xs) zero short = absurd (omega arith)
 ordered_end way (x ∷ xs) (suc n) short = ordered_end way xs n (omega arith)
-
--- ---- the first total
-
-pub first_alone : (x : Level) (xs : List Level) (way : Way) (ds : List Level) → slice_get ds 0 ≡ None → slice_get (merged way ds (x ∷ xs)) 0 ≡ Some (total_of x)
-first_alone x xs way [] none = refl
-first_alone x xs way (d ∷ ds) none = absurd (cc)
-
-some_same : (a b : Level) → Some a ≡ Some b → a ≡ b
-some_same a b e = cc
-
-pub first_past :
-    (x : Level) (xs : List Level) (way : Way) (ds : List Level) (b : Level) → slice_get ds 0 ≡ Some b → is_ahead way b.price x.price ≡ true
-    → slice_get (merged way ds (x ∷ xs)) 0 ≡ Some (total_of b)
-first_past x xs way [] b first ahead = absurd (cc)
-first_past x xs way (d ∷ ds) b first ahead =
-    let same : d ≡ b = some_same d b first in
-    ap (λ ts. slice_get ts 0) (merges_past way d x ds xs (rw same ahead)) ∙ ap (λ (y : Level). Some (total_of y)) same
-
-pub first_beside :
-    (x : Level) (xs : List Level) (way : Way) (ds : List Level) (b : Level) → slice_get ds 0 ≡ Some b → is_ahead way b.price x.price ≡ false
-    → slice_get (merged way ds (x ∷ xs)) 0 ≡ Some (total_with x (Some b))
-first_beside x xs way [] b first behind = absurd (cc)
-first_beside x xs way (d ∷ ds) b first behind =
-    let same : d ≡ b = some_same d b first in
-    let here : is_ahead way d.price x.price ≡ false = rw same behind in
-    subst (λ (y : Level). slice_get (merged way (d ∷ ds) (x ∷ xs)) 0 ≡ Some (total_with x (Some y))) same (rw here refl)
-
--- what stands first, and the others
-pub begins_with : (xs : List Level) (x : Level) → slice_get xs 0 ≡ Some x → xs ≡ x ∷ drop 1 xs
-begins_with [] x first = absurd (cc)
-begins_with (y ∷ xs) x first = ap (λ (z : Level). z ∷ xs) (some_same y x first)
-
-pub none_there : (xs : List Level) → slice_get xs 0 ≡ None → xs ≡ []
-none_there [] none = refl
-none_there (x ∷ xs) none = absurd (cc)
 
 -- ---- how many levels are better
 

@@ -17,6 +17,14 @@ are_ordered way [] = true
 are_ordered way (x ∷ []) = true
 are_ordered way (x ∷ y ∷ xs) = is_ahead way x.price y.price && are_ordered way (y ∷ xs)
 
+-- on each of the four sides each level has a better price than the next
+abbrev pub are_in_order : Sides → Bool
+are_in_order sides =
+    are_ordered Falling sides.bids.levels
+    && are_ordered Falling sides.implied_bids.levels
+    && are_ordered Rising sides.offers.levels
+    && are_ordered Rising sides.implied_offers.levels
+
 -- how many levels come before this one
 abbrev pub ahead_of : Way → Level → List Level → ℕ
 ahead_of way x levels = prefix_len (λ (y : Level). is_ahead way y.price x.price) levels

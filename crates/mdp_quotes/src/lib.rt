@@ -20,4 +20,4 @@ pub use live::Live;
 pub use merged::{Standing, are_in_order, merged_top, standing_of};
 pub use top::TopOfBook;
 pub use total::{Total, Way};
-pub use verdict::{Implied, Verdict, audit};
+pub use verdict::{Verdict, audit};

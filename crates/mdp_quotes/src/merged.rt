@@ -2,7 +2,8 @@
 
 ghost use Rattle.std.specs.Prelude.{◌≡◌, ◌≤◌, ◌∷◌, List, true, Some, length, slice_get};
 ghost use Rattle.mdp_quotes.specs.Consolidation.{quotes_of};
-ghost use Rattle.mdp_quotes.specs.Merged.{ahead_of, are_ordered, merged, merged_quotes, passed_by, total_with};
+ghost use Rattle.mdp_quotes.specs.Merged.{ahead_of, are_in_order, are_ordered, merged};
+ghost use Rattle.mdp_quotes.specs.Merged.{merged_quotes, passed_by, total_with};
 ghost use Rattle.mdp_quotes.specs.Order.{is_ahead};
 ghost use Rattle.mdp_quotes.specs.Top.{top_of_quotes};
 
@@ -34,7 +35,8 @@ fn is_ordered(levels: &[Level], way: Way) -> bool
 /// Tells whether on each of the four sides every level has a better price than the next, as on nearly every book. Then the totals are
 /// the direct levels, with each implied level put in at its price.
 pub fn are_in_order(sides: &Sides) -> bool
-    ensures { result ≡ true → quotes_of sides.now ≡ merged_quotes sides.now }
+    ensures tells { result ≡ are_in_order sides.now }
+    ensures merges { result ≡ true → quotes_of sides.now ≡ merged_quotes sides.now }
 {
     if !is_ordered(sides.bids.levels(), Way::Falling) {
         return false;
@@ -132,9 +134,10 @@ fn first_of(way: Way, direct: &[Level], implied: &[Level]) -> Option<Total>
     }
 }
 
-/// Gives the first total of each side of a book whose sides are in order.
+/// Gives the first total of each side of a book whose sides are in order, as [`are_in_order`] tells.
 pub fn merged_top(sides: &Sides) -> TopOfBook
-    ensures { result ≡ top_of_quotes (merged_quotes sides.now) }
+    requires { quotes_of sides.now ≡ merged_quotes sides.now }
+    ensures { result ≡ top_of_quotes (quotes_of sides.now) }
 {
     TopOfBook {
         bid: first_of(

@@ -1,9 +1,9 @@
 //! Totals by price, the best first.
 
-ghost use Rattle.std.specs.Prelude.{◌≡◌, ◌<◌, ◌≤◌, ◌++◌, ◌∷◌, [], true, length, take, slice_get, slice_set, slice_index_or};
+ghost use Rattle.std.specs.Prelude.{◌≡◌, ◌<◌, ◌≤◌, length, slice_get, slice_set, slice_index_or};
 ghost use Rattle.std.specs.List.{prefix_len};
 ghost use Rattle.mdp_books.specs.Side.{HaveSizes};
-ghost use Rattle.mdp_quotes.specs.Order.{is_ahead, AreInOrder};
+ghost use Rattle.mdp_quotes.specs.Order.{is_ahead};
 ghost use Rattle.mdp_quotes.specs.Entering.{with_level, with_levels, is_before, has_price, total_of, with, IsSmall, HasRoom};
 ghost use Rattle.mdp_quotes.specs.declared.total.Total.{Total};
 
@@ -33,7 +33,7 @@ pub struct Total {
 
 impl Way {
     /// Tells whether price `a` is better than price `b`.
-    pub fn is_ahead(self, a: i64, b: i64) -> bool
+    pub(crate) fn is_ahead(self, a: i64, b: i64) -> bool
         ensures { result ≡ is_ahead self a b }
     {
         match self {
@@ -118,33 +118,8 @@ fn enter(totals: &mut ArrayVec<Total, MOST_LEVELS>, way: Way, level: &Level)
     }
 }
 
-// Tells whether all totals have a better price than a level, which the last of them tells.
-#[inline]
-fn is_last(totals: &[Total], way: Way, level: &Level) -> bool
-    requires { AreInOrder way totals.now }
-    ensures { result ≡ true → with_level way level.now totals.now ≡ totals.now ++ total_of level.now ∷ [] }
-{
-    let count = totals.len();
-    count == 0 || is_before(&totals[count - 1], way, level)
-}
-
-// Puts levels behind the totals as long as each is the last, and tells how many. The levels of a side mostly come in order.
-fn append(totals: &mut ArrayVec<Total, MOST_LEVELS>, way: Way, levels: &[Level]) -> usize
-    requires sizes { HaveSizes levels.now }
-    requires room { HasRoom way (length levels.now) totals.old.items }
-    ensures inside { result ≤ length levels.now }
-    ensures totals { totals.new.items ≡ with_levels way (take result levels.now) totals.old.items }
-{
-    let mut count = 0;
-    while count < levels.len() && is_last(totals.as_slice(), way, &levels[count]) {
-        totals.push(total_of(&levels[count]));
-        count += 1;
-    }
-    count
-}
-
-// Adds the size of each level at its price, wherever that is.
-fn enter_each(totals: &mut ArrayVec<Total, MOST_LEVELS>, way: Way, levels: &[Level])
+/// Adds the size of each level at its price.
+pub fn enter_all(totals: &mut ArrayVec<Total, MOST_LEVELS>, way: Way, levels: &[Level])
     requires sizes { HaveSizes levels.now }
     requires room { HasRoom way (length levels.now) totals.old.items }
     ensures { totals.new.items ≡ with_levels way levels.now totals.old.items }
@@ -152,14 +127,4 @@ fn enter_each(totals: &mut ArrayVec<Total, MOST_LEVELS>, way: Way, levels: &[Lev
     for level in levels {
         enter(totals, way, level);
     }
-}
-
-/// Adds the size of each level at its price.
-pub fn enter_all(totals: &mut ArrayVec<Total, MOST_LEVELS>, way: Way, levels: &[Level])
-    requires sizes { HaveSizes levels.now }
-    requires room { HasRoom way (length levels.now) totals.old.items }
-    ensures { totals.new.items ≡ with_levels way levels.now totals.old.items }
-{
-    let count = append(totals, way, levels);
-    enter_each(totals, way, &levels[count..]);
 }

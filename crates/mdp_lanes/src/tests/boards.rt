@@ -19,6 +19,11 @@ const NEVER: Pair = [Row::Never; 2];
 
 const STALE: Pair = [Row::Stale; 2];
 
+const FAULTY: Row = Row::Fault {
+    packet: 6,
+    message: 1,
+};
+
 /// The row of a book whose best bid is 9 at 101, and which has no offer.
 fn top(message: u64) -> Row {
     let bid = Total {
@@ -76,11 +81,8 @@ fn publish_steps<R: Wait + Abort, A: Allocator + Copy>(
 )
     requires board { reader.old.board ≡ publisher.old.board }
     requires slots { reader.old.slots ≡ 2 }
+    ensures { (publisher.new.board ≡ publisher.old.board) × (reader.new.board ≡ reader.old.board) }
 {
-    let faulty = Row::Fault {
-        packet: 6,
-        message: 1,
-    };
     assert_eq!(rt; show(publisher, reader), Some((0, NEVER)));
     let _ = publisher.event(rt, &[(0, top(4))]);
     assert_eq!(rt; show(publisher, reader), Some((1, [top(4), Row::Never])));
@@ -88,21 +90,25 @@ fn publish_steps<R: Wait + Abort, A: Allocator + Copy>(
     assert_eq!(rt; show(publisher, reader), Some((2, STALE)));
     let _ = publisher.event(rt, &[]);
     assert_eq!(rt; show(publisher, reader), Some((3, STALE)));
-    let _ = publisher.event(rt, &[(1, faulty), (1, top(7)), (2, faulty)]);
+    let _ = publisher.event(rt, &[(1, FAULTY), (1, top(7)), (2, FAULTY)]);
     assert_eq!(rt; show(publisher, reader), Some((4, [Row::Stale, top(7)])));
-    let _ = publisher.event(rt, &[(0, faulty)]);
-    assert_eq!(rt; show(publisher, reader), Some((5, [faulty, top(7)])));
+    let _ = publisher.event(rt, &[(0, FAULTY)]);
+    assert_eq!(rt; show(publisher, reader), Some((5, [FAULTY, top(7)])));
 }
 
 #[test]
 fn a_reader_shows_each_step(rt: HostRuntime) -> Result<(), Fail> {
     let (mut publisher, mut reader, mut other) = board(&rt, rt.alloc()).ok_or("a board")?;
+    let opening = publisher.tell();
     publish_steps(&rt, &mut publisher, &mut reader);
+    assert!(rt; publisher.tell().covers(&reader));
+    assert!(rt; !opening.covers(&reader));
     let mut one = [Row::Never];
     assert_eq!(rt; other.read(&[1], &mut one), Some(5));
     assert_eq!(rt; one, [top(7)]);
     assert_eq!(rt; other.read(&[], &mut []), Some(5));
-    publisher.end(&rt);
+    let rows = publisher.end(&rt);
+    assert_eq!(rt; rows.as_slice(), [FAULTY, top(7)].as_slice());
     assert_eq!(rt; other.read(&[0], &mut one), None);
     assert_eq!(rt; one, [top(7)]);
     Ok(())

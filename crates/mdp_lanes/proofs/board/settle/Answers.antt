@@ -1,4 +1,4 @@
-use Rattle.std.proofs.Common.{◌≡◌, ◌≤◌, drop, fold, length, List, [], ◌∷◌, ap, sym, ◌∙◌, arith}
+use Rattle.std.proofs.Common.{◌≡◌, ◌≤◌, drop, fold, length, [], ◌∷◌, ap, sym, ◌∙◌, arith}
 use Rattle.left_right.specs.Sides.{view}
 use Rattle.mdp_lanes.specs.Updates.{face, next_face}
 use Rattle.mdp_lanes.specs.Boards.{knower}
@@ -36,4 +36,4 @@ returns g c =
     let many : length after.desk.shown.value.rows.items ≡ c.args.slots = ap length rows ∙ (ap (λ s. length s.rows.items) same ∙ c.requires.shown.1) in
     let knows : view after.desk.place ≡ knower after.desk.shown.value = seen.0 in
     let slots : c.args.slots ≤ (view after.desk.place).slots = omega (arith, many, ap (λ v. v.slots) knows) in
-    (front, values.1, (ap (λ v. v.front.book) knows ∙ ap (λ f. f.book) front, slots))
+    (front, values.1, (ap (λ v. v.front.book) knows ∙ ap (λ f. f.book) front, slots), many, seen.1)

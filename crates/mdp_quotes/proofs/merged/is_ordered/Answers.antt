@@ -1,4 +1,4 @@
-use Rattle.std.proofs.Common.{rules, ◌≤◌, ◌-◌, suc, length, sym, ◌∙◌, arith}
+use Rattle.std.proofs.Common.{◌≤◌, ◌-◌, suc, length, sym, ◌∙◌, arith}
 use Rattle.mdp_quotes.proofs.Merging.{ordered_end}
 use Rattle.mdp_quotes.proofs.merged.is_ordered.Goals as goal
 
