@@ -12,3 +12,5 @@ pub mod Following
 pub mod Bringing
 pub mod Holding
 pub mod Decoding
+pub mod Values
+pub mod Spelt

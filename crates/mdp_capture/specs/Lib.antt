@@ -5,6 +5,7 @@ pub mod Reader
 pub mod Line
 pub mod Capture
 pub mod Parsed
+pub mod Digits
 pub mod Draft
 pub mod Repeats
 pub mod Reading

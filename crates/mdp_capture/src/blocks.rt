@@ -4,6 +4,7 @@ ghost use Rattle.std.specs.Prelude.{◌≡◌, ◌≤◌, ◌*◌, [], length, t
 ghost use Rattle.hex.specs.Hex.{decode_of};
 ghost use Rattle.mdp_capture.specs.Repeats.{Spells};
 
+use crate::lanes::{LANES, put_lanes};
 use bytes::{Bytes, BytesMut};
 use std::alloc::{AllocError, Allocator};
 
@@ -24,7 +25,10 @@ fn put_bytes(digits: &[u8], bytes: &mut [u8]) -> bool
     requires { length digits.now ≡ 2 * length bytes.old }
     ensures { result ≡ true → decode_of digits.now ≡ Ok bytes.new }
 {
-    hex::decode_to_slice(digits, bytes).is_ok()
+    if bytes.len() < LANES {
+        return hex::decode_to_slice(digits, bytes).is_ok();
+    }
+    put_lanes(digits, bytes)
 }
 
 impl<A: Allocator + Copy> Blocks<A> {

@@ -7,6 +7,7 @@ mod capture;
 mod draft;
 mod fault;
 mod field;
+mod lanes;
 mod laws;
 mod line;
 mod over_threads;
