@@ -14,6 +14,7 @@ pub mod input;
 pub mod instruments;
 pub mod lines;
 pub mod live;
+pub mod notes;
 pub mod output;
 pub mod pcap;
 pub mod pieces;

@@ -36,6 +36,16 @@ pub struct Refusal {
     pub why: ListRefusal,
 }
 
+impl Refusal {
+    /// Gives what is told.
+    pub fn told(self) -> String {
+        match self.line {
+            0 => self.why.told(),
+            line => format!("line {line}: {}", self.why.told()),
+        }
+    }
+}
+
 /// What takes the records of a capture.
 pub trait TakesRecords {
     /// Lends a place for the bytes of the next datagram, with `DATAGRAM_ROOM` bytes.

@@ -1,44 +1,14 @@
-//! Records handled as they come, and what is told of them on standard error.
+//! Records of a capture, handled as they come.
 
-use crate::instruments::{Instrument, ListRefusal, Listing};
 use crate::input::Input;
-use crate::lines::{DATAGRAM_ROOM, LineReader, Refusal, Skip, TEXT_SLACK, TakesRecords};
+use crate::instruments::{Instrument, Listing};
+use crate::lines::{DATAGRAM_ROOM, LineReader, Skip, TEXT_SLACK, TakesRecords};
+use crate::notes::Notes;
 use crate::processor::{Work, quickly};
 use crate::receiver::{Feed, Receiver, Start};
 use crate::records::CaptureFault;
-use crate::shows::Shows;
+use crate::shows::{BooksAlone, Printer, Shows};
 use std::io::{Read, Write};
-
-/// Tells a line on standard error; a failed write there is passed over.
-pub fn tell(line: &str) {
-    let _ = writeln!(std::io::stderr(), "{line}");
-}
-
-/// Tells what the records up to a place made of the receiver.
-#[inline(always)]
-pub fn tell_news<S: Shows>(receiver: &mut Receiver<S>, kind: &str, place: u64) {
-    let news = receiver.take_news();
-    if let Some((next, highest)) = news.lost {
-        tell(&format!("{kind} {place}: 51 Lost {next} {highest}"));
-    }
-    if let Some((old, new)) = news.found {
-        tell(&format!("{kind} {place}: 52 Found {old} {new}"));
-    }
-}
-
-/// Tells why packets are missing at the end of a run, if they are.
-pub fn tell_end<S: Shows>(receiver: &Receiver<S>, instruments: &[Instrument]) {
-    let held = receiver.held();
-    if !receiver.is_lost() && held > 0 {
-        tell(&format!("53 Waits {} {held}", receiver.standing().next));
-    }
-    if receiver.is_lost()
-        && let Some(slot) = receiver.first_stale()
-    {
-        let instrument = &instruments[slot];
-        tell(&format!("54 NoSnapshot {} {}", instrument.id, String::from_utf8_lossy(&instrument.name)));
-    }
-}
 
 /// Makes what shows the books, once the instruments are known.
 pub trait MakesShows {
@@ -50,10 +20,39 @@ pub trait MakesShows {
     fn flush(shows: &mut Self::Shows);
 }
 
+/// Prints to a writer.
+pub struct MakesPrinter<W>(pub W);
+
+impl<W: Write + Clone> MakesShows for MakesPrinter<W> {
+    type Shows = Printer<W>;
+
+    fn shows(&mut self, instruments: &[Instrument]) -> Printer<W> {
+        Printer::new(instruments, self.0.clone())
+    }
+
+    fn flush(shows: &mut Printer<W>) {
+        shows.output.flush();
+    }
+}
+
+/// Keeps the books alone.
+pub struct MakesBooks;
+
+impl MakesShows for MakesBooks {
+    type Shows = BooksAlone;
+
+    fn shows(&mut self, _instruments: &[Instrument]) -> BooksAlone {
+        BooksAlone::default()
+    }
+
+    fn flush(_shows: &mut BooksAlone) {}
+}
+
 /// What handles each record of a capture as its line is read.
 struct Handler<M: MakesShows> {
     makes: M,
     start: Start,
+    notes: Notes,
     instruments: Vec<Instrument>,
     receiver: Option<Receiver<M::Shows>>,
     bytes: Vec<u8>,
@@ -82,7 +81,7 @@ impl<M: MakesShows> TakesRecords for Handler<M> {
         self.receiver();
         if let Some(receiver) = &mut self.receiver {
             receiver.datagram(feed, line.into(), &self.bytes[..length]);
-            tell_news(receiver, "line", line.into());
+            self.notes.tell_news(receiver, "line", line.into());
         }
     }
 
@@ -100,7 +99,7 @@ impl<M: MakesShows> TakesRecords for Handler<M> {
     }
 
     fn skipped(&mut self, line: u32, why: Skip) {
-        tell(&format!("line {line}: {}", why.told()));
+        self.notes.tell(&format!("line {line}: {}", why.told()));
     }
 
     fn listed(&mut self, instrument: &Instrument) {
@@ -142,8 +141,16 @@ pub fn run_capture<R: Read, M: MakesShows>(
     reader: R,
     start: Start,
     makes: M,
+    notes: Notes,
 ) -> (Result<Listing, CaptureFault>, Option<Receiver<M::Shows>>) {
-    let handler = Handler { makes, start, instruments: Vec::new(), receiver: None, bytes: vec![0; DATAGRAM_ROOM] };
+    let handler = Handler {
+        makes,
+        start,
+        notes,
+        instruments: Vec::new(),
+        receiver: None,
+        bytes: vec![0; DATAGRAM_ROOM],
+    };
     let mut running = Running { input: Input::new(reader, TEXT_SLACK), lines: LineReader::default(), handler };
     let outcome = quickly(&mut running);
     if let Some(receiver) = &mut running.handler.receiver {
@@ -155,13 +162,4 @@ pub fn run_capture<R: Read, M: MakesShows>(
     }
     let listing = outcome.and_then(|()| running.lines.into_listing().map_err(CaptureFault::from));
     (listing, running.handler.receiver)
-}
-
-/// Tells why a capture is refused.
-pub fn tell_refusal(Refusal { line, why }: Refusal) {
-    if line == 0 || why == ListRefusal::None {
-        tell(&why.told());
-    } else {
-        tell(&format!("line {line}: {}", why.told()));
-    }
 }

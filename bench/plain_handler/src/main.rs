@@ -3,7 +3,8 @@
 use plain_handler::arguments::{Arguments, HELP};
 use plain_handler::channel::{FeedAddresses, read_channel};
 use plain_handler::instruments::{Instrument, Listing};
-use plain_handler::live::{self, MakesShows, tell};
+use plain_handler::live::{self, MakesBooks, MakesPrinter, MakesShows};
+use plain_handler::notes::Notes::StandardError;
 use plain_handler::output::Output;
 use plain_handler::pcap::run_pcap;
 use plain_handler::receiver::Receiver;
@@ -28,7 +29,7 @@ trait Ends: Shows + Sized {
 impl Ends for Printer<&File> {
     fn finish(self, _standing: Standing) -> u8 {
         if self.output.has_failed() {
-            tell(&format!("42 Output after {} bytes", self.output.written()));
+            StandardError.tell(&format!("42 Output after {} bytes", self.output.written()));
             return 1;
         }
         0
@@ -43,32 +44,6 @@ impl Ends for BooksAlone {
         println!("event-ends {event_ends} books {books} faulty {faulty} jumps {jumps} sum {sum} next {next} {state}");
         0
     }
-}
-
-struct MakesPrinter<'a>(&'a File);
-
-impl<'a> MakesShows for MakesPrinter<'a> {
-    type Shows = Printer<&'a File>;
-
-    fn shows(&mut self, instruments: &[Instrument]) -> Self::Shows {
-        Printer::new(instruments, self.0)
-    }
-
-    fn flush(shows: &mut Self::Shows) {
-        shows.output.flush();
-    }
-}
-
-struct MakesBooks;
-
-impl MakesShows for MakesBooks {
-    type Shows = BooksAlone;
-
-    fn shows(&mut self, _instruments: &[Instrument]) -> BooksAlone {
-        BooksAlone::default()
-    }
-
-    fn flush(_shows: &mut BooksAlone) {}
 }
 
 fn main() -> ExitCode {
@@ -86,9 +61,9 @@ fn main() -> ExitCode {
             u8::from(output.has_failed())
         }
         Ok(arguments) if arguments.books_alone => run(&arguments, MakesBooks),
-        Ok(arguments) => run(&arguments, MakesPrinter(&stream(1))),
+        Ok(arguments) => run(&arguments, MakesPrinter(&*stream(1))),
         Err(why) => {
-            tell(&format!("{why}\n\nFor more information, try '--help'."));
+            StandardError.tell(&format!("{why}\n\nFor more information, try '--help'."));
             2
         }
     };
@@ -105,7 +80,7 @@ where
         Some(file) => match channel_of(file) {
             Ok((listing, addresses)) => run_frames(arguments, &listing, &addresses, makes),
             Err(why) => {
-                tell(&why);
+                StandardError.tell(&why);
                 2
             }
         },
@@ -132,7 +107,7 @@ fn finish_with_notes<S: Ends>(mut receiver: Receiver<S>, instruments: &[Instrume
     }
     receiver.put_end();
     if !receiver.shows().has_failed() {
-        live::tell_end(&receiver, instruments);
+        StandardError.tell_end(&receiver, instruments);
     }
     let standing = receiver.standing();
     receiver.into_shows().finish(standing)
@@ -150,7 +125,7 @@ where
         Ok(capture) => capture,
         Err(fault) => return refuse(fault),
     };
-    records.skipped.iter().for_each(|(line, why)| tell(&format!("line {line}: {}", why.told())));
+    records.skipped.iter().for_each(|(line, why)| StandardError.tell(&format!("line {line}: {}", why.told())));
     let instruments = listing.instruments();
     let mut receiver = Receiver::new(instruments, arguments.start, makes.shows(instruments));
     records::handle(&records, &mut receiver);
@@ -168,11 +143,11 @@ where
 fn refuse(fault: CaptureFault) -> u8 {
     match fault {
         CaptureFault::Refused(refusal) => {
-            live::tell_refusal(refusal);
+            StandardError.tell(&refusal.told());
             2
         }
         CaptureFault::Input => {
-            tell("43 Input");
+            StandardError.tell("43 Input");
             1
         }
     }
@@ -184,7 +159,7 @@ where
     M: MakesShows,
     M::Shows: Ends,
 {
-    let (outcome, receiver) = live::run_capture(&*stream(0), arguments.start, makes);
+    let (outcome, receiver) = live::run_capture(&*stream(0), arguments.start, makes, StandardError);
     match (outcome, receiver) {
         (Ok(listing), Some(receiver)) => finish_with_notes(receiver, listing.instruments()),
         (Ok(_), None) => 0,
@@ -199,12 +174,12 @@ where
     M::Shows: Ends,
 {
     let instruments = listing.instruments();
-    let (outcome, receiver) = run_pcap(&*stream(0), instruments, addresses, arguments.start, makes);
+    let (outcome, receiver) = run_pcap(&*stream(0), instruments, addresses, arguments.start, makes, StandardError);
     match outcome {
         Ok(()) => finish_with_notes(receiver, instruments),
         Err(fault) => {
             let status = if fault.ends_run() { finish_with_notes(receiver, instruments) } else { 0 };
-            tell(&fault.told());
+            StandardError.tell(&fault.told());
             status.max(fault.status())
         }
     }

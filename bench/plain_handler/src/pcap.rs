@@ -4,7 +4,8 @@ use crate::channel::{Address, FeedAddresses};
 use crate::input::Input;
 use crate::instruments::Instrument;
 use crate::lines::MOST_BYTES;
-use crate::live::{MakesShows, tell, tell_news};
+use crate::live::MakesShows;
+use crate::notes::Notes;
 use crate::processor::{Work, quickly};
 use crate::receiver::{Feed, Receiver, Start};
 use crate::shows::Shows;
@@ -180,6 +181,7 @@ struct Running<'a, R: Read, S: Shows> {
     addresses: &'a FeedAddresses,
     receiver: Receiver<S>,
     flush: fn(&mut S),
+    notes: Notes,
     form: Option<Form>,
     /// How many frames were read.
     frames: u64,
@@ -231,14 +233,14 @@ impl<R: Read, S: Shows> Running<'_, R, S> {
                     return;
                 };
                 if payload.len() > MOST_BYTES {
-                    return tell(&format!("frame {}: 23 TooLong", self.frames));
+                    return self.notes.tell(&format!("frame {}: 23 TooLong", self.frames));
                 }
                 let is_incremental = feed != Feed::S;
                 if is_incremental && !payload.is_empty() && payload == *before {
                     return self.receiver.repeat(feed, self.frames);
                 }
                 self.receiver.datagram(feed, self.frames, payload);
-                tell_news(&mut self.receiver, "frame", self.frames);
+                self.notes.tell_news(&mut self.receiver, "frame", self.frames);
                 if is_incremental {
                     *before = payload;
                 }
@@ -256,17 +258,17 @@ impl<R: Read, S: Shows> Running<'_, R, S> {
         match frame {
             Frame::Cut(address) => {
                 if let Some(feed) = self.addresses.feed_at(address) {
-                    tell(&format!("frame {number}: 55 FrameCut {}", feed.letter()));
+                    self.notes.tell(&format!("frame {number}: 55 FrameCut {}", feed.letter()));
                 }
             }
             Frame::HeadersCut if !self.has_told_cut => {
                 self.has_told_cut = true;
-                tell(&format!("frame {number}: 55 FrameCut -"));
+                self.notes.tell(&format!("frame {number}: 55 FrameCut -"));
             }
             Frame::Fragment(group) => match self.addresses.feeds_of_group(group) {
                 (None, _) => {}
-                (_, true) => tell(&format!("frame {number}: 56 Fragment -")),
-                (Some(feed), false) => tell(&format!("frame {number}: 56 Fragment {}", feed.letter())),
+                (_, true) => self.notes.tell(&format!("frame {number}: 56 Fragment -")),
+                (Some(feed), false) => self.notes.tell(&format!("frame {number}: 56 Fragment {}", feed.letter())),
             },
             _ => {}
         }
@@ -301,6 +303,7 @@ pub fn run_pcap<R: Read, M: MakesShows>(
     addresses: &FeedAddresses,
     start: Start,
     mut makes: M,
+    notes: Notes,
 ) -> (Result<(), PcapFault>, Receiver<M::Shows>) {
     let receiver = Receiver::new(instruments, start, makes.shows(instruments));
     let mut running = Running {
@@ -308,6 +311,7 @@ pub fn run_pcap<R: Read, M: MakesShows>(
         addresses,
         receiver,
         flush: M::flush,
+        notes,
         form: None,
         frames: 0,
         has_told_cut: false,

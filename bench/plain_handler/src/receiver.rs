@@ -140,6 +140,12 @@ impl<S: Shows> Receiver<S> {
         self.newest.iter().position(|newest| !newest.is_there || u64::from(newest.last) + self.window < self.highest)
     }
 
+    /// Tells whether something became of the receiver that wasn't taken out.
+    #[inline(always)]
+    pub fn has_news(&self) -> bool {
+        self.news.lost.is_some() | self.news.found.is_some()
+    }
+
     /// Takes out what the datagrams since the last call made of the receiver.
     pub fn take_news(&mut self) -> News {
         std::mem::take(&mut self.news)
