@@ -81,7 +81,8 @@ impl Feeds {
                 }
             }
         }
-        if self.shape.snapshot_every > 0 && number % self.shape.snapshot_every == 0 {
+        // No number but 0 is a multiple of 0.
+        if number.is_multiple_of(self.shape.snapshot_every) {
             let snapshot = self.packets.snapshot(self.turn, number);
             self.turn = (self.turn + 1) % self.packets.market.list.len();
             let time = now + PLACE * 9 / 10 + self.random.below(PLACE as usize) as u64;

@@ -16,6 +16,11 @@ const DEPTH: usize = 10;
 /// How many levels an implied side has at most.
 const IMPLIED_DEPTH: usize = 2;
 
+/// Tells whether a side is one of bids.
+fn is_bid(side: usize) -> bool {
+    side & 1 == 0
+}
+
 /// An instrument and its book.
 pub struct Security {
     pub id: i32,
@@ -36,7 +41,8 @@ impl Security {
         const MONTHS: [char; 4] = ['H', 'M', 'U', 'Z'];
         let (product, expiry) = (place / EXPIRIES, place % EXPIRIES);
         let letter = |number: usize| char::from(b'A' + (number % 26) as u8);
-        let name = format!("{}{}{}{}", letter(4 + product / 26), letter(18 + product), MONTHS[expiry % 4], 6 + expiry / 4);
+        let name =
+            format!("{}{}{}{}", letter(4 + product / 26), letter(18 + product), MONTHS[expiry % 4], 6 + expiry / 4);
         let middle = 3_100 + (650 * product as i64) % 9_100 + 12 * expiry as i64;
         Security {
             id: (2_000 + 41 * place + random.below(25)) as i32,
@@ -64,12 +70,12 @@ impl Security {
 
     /// Tells whether a price of a side is better than another.
     fn is_better(side: usize, price: i64, other: i64) -> bool {
-        if side % 2 == 0 { price > other } else { price < other }
+        if is_bid(side) { price > other } else { price < other }
     }
 
     /// One tick away from the other side.
     fn away(&self, side: usize) -> i64 {
-        if side % 2 == 0 { -self.tick } else { self.tick }
+        if is_bid(side) { -self.tick } else { self.tick }
     }
 
     fn best(&self, side: usize) -> Option<Level> {
@@ -89,7 +95,8 @@ pub struct Market {
 impl Market {
     pub fn new(shape: &Shape, seed: u64) -> Market {
         let mut random = Random::new(seed, "market");
-        let mut list: Vec<Security> = (0..shape.outrights).map(|place| Security::outright(place, &mut random)).collect();
+        let mut list: Vec<Security> =
+            (0..shape.outrights).map(|place| Security::outright(place, &mut random)).collect();
         let mut spreads_of = vec![Vec::new(); shape.outrights + shape.spreads];
         let mut pairs = std::collections::BTreeSet::new();
         while pairs.len() < shape.spreads {
@@ -161,7 +168,9 @@ impl Market {
         let price = match (this.sides[side].last(), this.best(1 - side)) {
             (Some(last), _) => last.price + ticks * away,
             // Bids stay below offers.
-            (None, Some(other)) if !Security::is_better(1 - side, other.price, this.middle + away) => other.price + away,
+            (None, Some(other)) if !Security::is_better(1 - side, other.price, this.middle + away) => {
+                other.price + away
+            }
             (None, _) => this.middle + away,
         };
         let place = this.sides[side].len();
@@ -314,7 +323,9 @@ impl Market {
         match self.random.pick(&[4, 2, 3, 1]) {
             0 => {
                 // The first level stays in front of the second.
-                if let Some(second) = levels.get(1).filter(|second| !Security::is_better(side, level.price, second.price)) {
+                if let Some(second) =
+                    levels.get(1).filter(|second| !Security::is_better(side, level.price, second.price))
+                {
                     level.price = second.price - away;
                 }
                 self.enter(security, side, Action::Change, 0, level)

@@ -4,6 +4,7 @@ use crate::book::Book;
 use crate::instruments::{Instrument, Kind};
 use crate::pieces::Piece;
 use crate::side::Level;
+use std::cmp::Ordering;
 
 /// The words of the verdicts.
 const VERDICTS: [&str; 8] = ["none", "missing", "extra", "better", "worse", "equal", "equal-less", "equal-more"];
@@ -49,7 +50,9 @@ impl Audits {
                 concerned[slot][place / 64] |= 1 << (place % 64);
             }
         }
-        let tails = VERDICTS.iter().flat_map(|bid| VERDICTS.map(|offer| Piece::of(&[format!("{bid} offer {offer}\n").as_bytes()])));
+        let tails = VERDICTS
+            .iter()
+            .flat_map(|bid| VERDICTS.map(|offer| Piece::of(&[format!("{bid} offer {offer}\n").as_bytes()])));
         Audits { words: spreads.len().div_ceil(64), tails: tails.collect(), spreads, concerned, due: [0; 8] }
     }
 
@@ -57,8 +60,8 @@ impl Audits {
     #[inline(always)]
     pub fn mark(&mut self, slot: usize) {
         let concerned = unsafe { self.concerned.get_unchecked(slot) };
-        for word in 0..self.words.min(8) {
-            self.due[word] |= concerned[word];
+        for (due, concerned) in self.due.iter_mut().zip(concerned).take(self.words) {
+            *due |= concerned;
         }
     }
 
@@ -87,8 +90,8 @@ impl Audits {
     #[inline(always)]
     pub unsafe fn put(&self, to: *mut u8, place: &Piece, spread: &Spread, books: [&Book; 3]) -> *mut u8 {
         let [own, bought, sold] = books;
-        let bid = verdict_of(own.implied_bids().best(), made_of(bought.bids().best(), sold.offers().best()), true);
-        let offer = verdict_of(own.implied_offers().best(), made_of(bought.offers().best(), sold.bids().best()), false);
+        let bid = verdict_of(own.implied_bids().best(), bought.bids().best(), sold.offers().best(), true);
+        let offer = verdict_of(own.implied_offers().best(), bought.offers().best(), sold.bids().best(), false);
         unsafe {
             let after = place.put(to);
             *to = b'A';
@@ -97,29 +100,77 @@ impl Audits {
     }
 }
 
-/// Gives what two legs make: the difference of the prices, and the smaller size.
+/// Gives the place of the verdict's word on a published level. The legs make a level where both have one: the
+/// difference of the prices, and the smaller size.
 #[inline(always)]
-fn made_of(bought: Option<&Level>, sold: Option<&Level>) -> Option<(i128, i32)> {
-    let (bought, sold) = (bought?, sold?);
-    Some((i128::from(bought.price) - i128::from(sold.price), bought.size.min(sold.size)))
+fn verdict_of(published: Option<&Level>, bought: Option<&Level>, sold: Option<&Level>, is_bid: bool) -> usize {
+    let (published, bought, sold) = match (published, bought, sold) {
+        (Some(published), Some(bought), Some(sold)) => (published, bought, sold),
+        (None, Some(_), Some(_)) => return 1,
+        (None, _, _) => return 0,
+        (Some(_), _, _) => return 2,
+    };
+    let order = match bought.price.checked_sub(sold.price) {
+        Some(made) => published.price.cmp(&made),
+        None => order_of_far_prices(published.price, bought.price, sold.price),
+    };
+    match order {
+        Ordering::Equal => match published.size.cmp(&bought.size.min(sold.size)) {
+            Ordering::Equal => 5,
+            Ordering::Less => 6,
+            Ordering::Greater => 7,
+        },
+        _ => 4 - usize::from((order == Ordering::Greater) == is_bid),
+    }
 }
 
-/// Gives the place of the verdict's word.
-#[inline(always)]
-fn verdict_of(published: Option<&Level>, made: Option<(i128, i32)>, is_bid: bool) -> usize {
-    let (published, (price, size)) = match (published, made) {
-        (None, None) => return 0,
-        (None, Some(_)) => return 1,
-        (Some(_), None) => return 2,
-        (Some(published), Some(made)) => (published, made),
-    };
-    let quoted = i128::from(published.price);
-    if quoted != price {
-        return if (quoted > price) == is_bid { 3 } else { 4 };
+/// Compares a published price with a difference that is no 64-bit number.
+#[cold]
+#[inline(never)]
+fn order_of_far_prices(published: i64, bought: i64, sold: i64) -> Ordering {
+    i128::from(published).cmp(&(i128::from(bought) - i128::from(sold)))
+}
+
+#[cfg(test)]
+mod tests {
+    use super::*;
+    use crate::side::{Side, Way};
+
+    /// A side of one level.
+    fn side(level: Option<(i64, i32)>) -> Side<2> {
+        let mut side = Side::new(2);
+        if let Some((price, size)) = level {
+            assert!(unsafe { side.insert::<false>(0, price, size, Way::Falling) });
+        }
+        side
     }
-    match published.size.cmp(&size) {
-        std::cmp::Ordering::Equal => 5,
-        std::cmp::Ordering::Less => 6,
-        std::cmp::Ordering::Greater => 7,
+
+    fn verdict(
+        published: Option<(i64, i32)>,
+        bought: Option<(i64, i32)>,
+        sold: Option<(i64, i32)>,
+    ) -> [&'static str; 2] {
+        let [published, bought, sold] = [published, bought, sold].map(side);
+        [true, false].map(|is_bid| VERDICTS[verdict_of(published.best(), bought.best(), sold.best(), is_bid)])
+    }
+
+    #[test]
+    fn verdicts_are_those_of_the_table() {
+        let level = |price, size| Some((price, size));
+        for (published, bought, sold, wanted) in [
+            (None, None, level(1, 1), ["none"; 2]),
+            (None, level(3, 1), level(1, 1), ["missing"; 2]),
+            (level(1, 1), level(3, 1), None, ["extra"; 2]),
+            (level(3, 1), level(3, 5), level(1, 4), ["better", "worse"]),
+            (level(1, 1), level(3, 5), level(1, 4), ["worse", "better"]),
+            (level(2, 4), level(3, 5), level(1, 4), ["equal"; 2]),
+            (level(2, 3), level(3, 5), level(1, 4), ["equal-less"; 2]),
+            (level(2, 5), level(3, 5), level(1, 4), ["equal-more"; 2]),
+            // Differences beyond 64 bits, which no published price equals.
+            (level(i64::MIN, 1), level(i64::MIN, 1), level(1, 1), ["better", "worse"]),
+            (level(i64::MAX - 1, 1), level(i64::MAX - 1, 1), level(-9, 1), ["worse", "better"]),
+        ] {
+            assert_eq!(verdict(published, bought, sold), wanted, "{published:?} {bought:?} {sold:?}");
+        }
     }
 }

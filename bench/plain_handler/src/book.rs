@@ -242,3 +242,161 @@ unsafe fn put_slowly(mut to: *mut u8, sums: Vec<(i64, i64)>) -> *mut u8 {
     }
     to
 }
+
+#[cfg(test)]
+mod tests {
+    use super::*;
+    use std::fmt::Write;
+
+    /// A book that is kept slowly: levels in lists, and text put together when it is asked for.
+    struct Slow {
+        sides: [Vec<(i64, i32)>; 4],
+        depths: [usize; 4],
+        fault: Option<Fault>,
+    }
+
+    impl Slow {
+        fn apply(&mut self, entry: &Entry, place: Fault) {
+            let (levels, depth) = (&mut self.sides[entry.side()], self.depths[entry.side()]);
+            let at = entry.level as usize - 1;
+            let is_possible = match entry.action {
+                0 => at <= levels.len() && at < depth,
+                _ => at < levels.len(),
+            };
+            if self.fault.is_some() || !is_possible {
+                self.fault = self.fault.or(Some(place));
+                return;
+            }
+            match entry.action {
+                0 => levels.insert(at, (entry.price, entry.size)),
+                1 => levels[at] = (entry.price, entry.size),
+                _ => _ = levels.remove(at),
+            }
+            levels.truncate(depth);
+        }
+
+        fn sums(&self, side: usize) -> Vec<(i64, i64)> {
+            let mut sums = std::collections::BTreeMap::new();
+            for (price, size) in self.sides[side].iter().chain(&self.sides[side + 2]) {
+                *sums.entry(*price).or_insert(0) += i64::from(*size);
+            }
+            if side == 0 { sums.into_iter().rev().collect() } else { sums.into_iter().collect() }
+        }
+
+        fn text(&self) -> String {
+            if let Some(Fault { packet, message, entry }) = self.fault {
+                return format!("F 5.2 NEAR {packet}.{message}.{entry}\n");
+            }
+            let wide = |side: usize| self.sides[side].iter().map(|level| (level.0, i64::from(level.1))).collect();
+            let mut text = String::new();
+            for (letter, bids, offers) in
+                [('D', wide(0), wide(1)), ('I', wide(2), wide(3)), ('C', self.sums(0), self.sums(1))]
+            {
+                let bids: Vec<(i64, i64)> = bids;
+                write!(text, "{letter} 5.2 NEAR B").unwrap();
+                bids.iter().for_each(|(price, size)| write!(text, " {price}x{size}").unwrap());
+                write!(text, " O").unwrap();
+                offers.iter().for_each(|(price, size)| write!(text, " {price}x{size}").unwrap());
+                text.push('\n');
+            }
+            text
+        }
+    }
+
+    /// Numbers that follow from a seed.
+    struct Random(u64);
+
+    impl Random {
+        fn below(&mut self, most: u64) -> u64 {
+            self.0 = self.0.wrapping_mul(6_364_136_223_846_793_005).wrapping_add(1_442_695_040_888_963_407);
+            (self.0 >> 33) % most
+        }
+
+        fn price(&mut self) -> i64 {
+            match self.below(8) {
+                0 => [i64::MIN, i64::MAX - 1, 0, -1, 9_999_999_999_999_999, i64::MIN + 1][self.below(6) as usize],
+                _ => self.below(12) as i64 - 6,
+            }
+        }
+
+        fn size(&mut self) -> i32 {
+            match self.below(4) {
+                0 => [0, i32::MAX - 1, 9_999, 10_000, 99_999_999, 100_000_000][self.below(6) as usize],
+                _ => self.below(1000) as i32,
+            }
+        }
+    }
+
+    fn text_of(book: &Book) -> String {
+        let place = Piece::of(&[b"? 5.2 "]);
+        let title = Piece::of(&[b"NEAR B"]);
+        let mut bytes = vec![b'#'; BOOK_ROOM];
+        let start = bytes.as_mut_ptr();
+        let length = unsafe { book.put(start, &place, &title).offset_from(start) } as usize;
+        String::from_utf8(bytes[..length].to_vec()).unwrap()
+    }
+
+    /// Runs entries that are mostly possible, in any order of prices, and compares after each one.
+    fn compare(depth: usize, seed: u64, steps: u32) {
+        let mut random = Random(seed);
+        let depths = [depth, depth, 2, 2];
+        let mut book = Book::new(depth);
+        let mut slow = Slow { sides: Default::default(), depths, fault: None };
+        for step in 1..=steps {
+            let side = random.below(4) as usize;
+            let count = slow.sides[side].len() as u64;
+            let mut entry = Entry::of_side(side, random.below(3) as u8);
+            let most = if side < 2 { 10 } else { 2 };
+            let possible = if entry.action == 0 { (count + 1).min(depths[side] as u64) } else { count.max(1) };
+            let range = if random.below(200) == 0 { most } else { possible };
+            (entry.level, entry.price, entry.size) = (1 + random.below(range) as u8, random.price(), random.size());
+            let place = Fault { packet: step, message: 2, entry: 3 };
+            unsafe { book.apply::<true>(&entry, place) };
+            slow.apply(&entry, place);
+            assert_eq!(text_of(&book), slow.text(), "step {step} of seed {seed}");
+            if !book.is_faulty() {
+                assert_eq!(book.quotes(), [0, 1].map(|side| slow.sums(side).first().copied()));
+            }
+        }
+    }
+
+    #[test]
+    fn books_have_the_slow_text_whatever_comes() {
+        for depth in [1, 2, 5, 10] {
+            (0..300).for_each(|seed| compare(depth, seed, 120));
+        }
+    }
+
+    #[test]
+    fn ordered_books_have_the_slow_text_too() {
+        // Prices by level, so that sides stay in order and the quick way is gone; each third has the direct price.
+        for seed in 0..200 {
+            let mut random = Random(seed);
+            let mut book = Book::new(10);
+            let mut slow = Slow { sides: Default::default(), depths: [10, 10, 2, 2], fault: None };
+            for step in 1..=40 {
+                let side = random.below(4) as usize;
+                let count = slow.sides[side].len() as u64;
+                let most = if side < 2 { 10 } else { 2 };
+                let mut entry = Entry::of_side(side, u8::from(count >= most));
+                entry.level = 1 + random.below((count + 1).min(most)) as u8;
+                let way = [-1, 1][side & 1];
+                let place = |at: usize| slow.sides[side].get(at).map(|level| level.0);
+                let at = entry.level as usize - 1;
+                let before = if at > 0 { place(at - 1) } else { None };
+                let after = if entry.action == 0 { place(at) } else { place(at + 1) };
+                entry.price = match (before, after) {
+                    (None, None) => random.below(9) as i64 * 1000,
+                    (Some(before), None) => before + way * (1 + random.below(3) as i64) * 1000,
+                    (None, Some(after)) => after - way * (1 + random.below(3) as i64) * 1000,
+                    (Some(before), Some(after)) => (before + after) / 2,
+                };
+                entry.size = random.size();
+                let place = Fault { packet: step, message: 2, entry: 3 };
+                unsafe { book.apply::<true>(&entry, place) };
+                slow.apply(&entry, place);
+                assert_eq!(text_of(&book), slow.text(), "step {step} of seed {seed}");
+            }
+        }
+    }
+}

@@ -119,10 +119,8 @@ mod wide {
             unsafe {
                 let first = values_of(_mm256_loadu_si256(text.add(at).cast()));
                 let second = values_of(_mm256_loadu_si256(text.add(at + 32).cast()));
-                let pairs = _mm256_packus_epi16(
-                    _mm256_maddubs_epi16(first, weights),
-                    _mm256_maddubs_epi16(second, weights),
-                );
+                let pairs =
+                    _mm256_packus_epi16(_mm256_maddubs_epi16(first, weights), _mm256_maddubs_epi16(second, weights));
                 let in_order = _mm256_permute4x64_epi64(pairs, 0b11_01_10_00);
                 _mm256_storeu_si256(bytes.add(at / 2).cast(), in_order);
                 if no_digits(_mm256_or_si256(first, second)) != 0 {
@@ -142,10 +140,8 @@ mod wide {
     #[inline]
     pub unsafe fn are_same(one: *const u8, other: *const u8, length: usize) -> bool {
         let differ = |at: usize| unsafe {
-            let first = _mm256_cmpeq_epi8(
-                _mm256_loadu_si256(one.add(at).cast()),
-                _mm256_loadu_si256(other.add(at).cast()),
-            );
+            let first =
+                _mm256_cmpeq_epi8(_mm256_loadu_si256(one.add(at).cast()), _mm256_loadu_si256(other.add(at).cast()));
             let second = _mm256_cmpeq_epi8(
                 _mm256_loadu_si256(one.add(at + 32).cast()),
                 _mm256_loadu_si256(other.add(at + 32).cast()),

@@ -96,9 +96,7 @@ pub fn instrument_of(fields: &[&[u8]]) -> Option<Instrument> {
     let kind = match *rest {
         [b"O"] => Kind::Outright { depth: 10 },
         [b"O", depth] => Kind::Outright { depth: number_of(depth, 10)? as u8 },
-        [b"C", bought, sold] => {
-            Kind::Calendar { bought: number_of(bought, MOST_ID)?, sold: number_of(sold, MOST_ID)? }
-        }
+        [b"C", bought, sold] => Kind::Calendar { bought: number_of(bought, MOST_ID)?, sold: number_of(sold, MOST_ID)? },
         _ => return None,
     };
     Some(Instrument { id, name: name.to_vec(), kind })

@@ -214,7 +214,9 @@ impl LineReader {
                 records.close(self.line);
                 None
             }
-            [b"A" | b"B" | b"S", digits] if !digits.is_empty() => self.read_datagram(fields[0][0], digits, records).err(),
+            [b"A" | b"B" | b"S", digits] if !digits.is_empty() => {
+                self.read_datagram(fields[0][0], digits, records).err()
+            }
             [b"I", ref rest @ ..] => match instrument_of(rest) {
                 Some(instrument) => return self.list(instrument, records),
                 None => Some(Skip::LineForm),

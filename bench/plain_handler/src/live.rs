@@ -143,14 +143,8 @@ pub fn run_capture<R: Read, M: MakesShows>(
     makes: M,
     notes: Notes,
 ) -> (Result<Listing, CaptureFault>, Option<Receiver<M::Shows>>) {
-    let handler = Handler {
-        makes,
-        start,
-        notes,
-        instruments: Vec::new(),
-        receiver: None,
-        bytes: vec![0; DATAGRAM_ROOM],
-    };
+    let handler =
+        Handler { makes, start, notes, instruments: Vec::new(), receiver: None, bytes: vec![0; DATAGRAM_ROOM] };
     let mut running = Running { input: Input::new(reader, TEXT_SLACK), lines: LineReader::default(), handler };
     let outcome = quickly(&mut running);
     if let Some(receiver) = &mut running.handler.receiver {

@@ -21,20 +21,22 @@ impl<W: Write> Output<W> {
         Output { buffer: Vec::with_capacity(FULL + ROOM), writer, written: 0, has_failed: false }
     }
 
-    /// Lets `put` put text behind what is held; it is given a place, and gives the place after what it put.
-    ///
-    /// # Safety
-    /// `put` writes to at most `ROOM` bytes.
+    /// Lends a place with `ROOM` bytes for the next text.
     #[inline(always)]
-    pub unsafe fn put(&mut self, put: impl FnOnce(*mut u8) -> *mut u8) {
+    pub fn room(&mut self) -> *mut u8 {
         if self.buffer.len() >= FULL {
             self.flush();
         }
-        unsafe {
-            let start = self.buffer.as_mut_ptr();
-            let end = put(start.add(self.buffer.len()));
-            self.buffer.set_len(end.offset_from(start) as usize);
-        }
+        unsafe { self.buffer.as_mut_ptr().add(self.buffer.len()) }
+    }
+
+    /// Takes the text that was put into the place that was lent last, up to its end.
+    ///
+    /// # Safety
+    /// The end lies at most `ROOM` bytes behind that place, and all bytes before it were written.
+    #[inline(always)]
+    pub unsafe fn put_up_to(&mut self, end: *mut u8) {
+        unsafe { self.buffer.set_len(end.offset_from(self.buffer.as_ptr()) as usize) };
     }
 
     /// Puts a text of any length.

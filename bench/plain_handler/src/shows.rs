@@ -67,7 +67,10 @@ impl<W: Write> Printer<W> {
             if desk.is_live(own, packet) && desk.is_live(bought, packet) && desk.is_live(sold, packet) {
                 let books = [desk.book(own), desk.book(bought), desk.book(sold)];
                 // Safety: a line has at most 128 bytes.
-                unsafe { self.output.put(|to| self.audits.put(to, place, spread, books)) };
+                unsafe {
+                    let end = self.audits.put(self.output.room(), place, spread, books);
+                    self.output.put_up_to(end);
+                }
             }
         }
     }
@@ -102,7 +105,8 @@ impl<W: Write> Shows for Printer<W> {
             // Safety: the lines of a book take at most `BOOK_ROOM`.
             unsafe {
                 let title = self.titles.get_unchecked(slot);
-                self.output.put(|to| book.put(to, &place, title));
+                let end = book.put(self.output.room(), &place, title);
+                self.output.put_up_to(end);
             }
             self.audits.mark(slot);
         }

@@ -297,6 +297,12 @@ impl Entry {
         }
     }
 
+    /// Makes an entry of a side and an action; level, price and size are set behind it.
+    #[cfg(test)]
+    pub fn of_side(side: usize, action: u8) -> Entry {
+        Entry { price: 0, size: 0, security: 1, level: 1, action, kind: b"01EF"[side] }
+    }
+
     /// Gives the side of the entry: 0 bid, 1 offer, 2 implied bid, 3 implied offer.
     #[inline(always)]
     pub fn side(&self) -> usize {
