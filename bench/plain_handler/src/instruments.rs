@@ -1,5 +1,7 @@
 //! The listed instruments of a channel.
 
+use std::collections::{BTreeMap, BTreeSet};
+
 /// The most instruments of a channel.
 pub const MOST_INSTRUMENTS: usize = 512;
 
@@ -42,6 +44,9 @@ impl ListRefusal {
 #[derive(Default, Clone)]
 pub struct Listing {
     list: Vec<Instrument>,
+    /// All ids, and whether they are outrights'.
+    ids: BTreeMap<u32, bool>,
+    names: BTreeSet<Vec<u8>>,
 }
 
 impl Listing {
@@ -58,7 +63,7 @@ impl Listing {
         if self.list.len() == MOST_INSTRUMENTS {
             return Err(ListRefusal::TooMany);
         }
-        if self.list.iter().any(|other| other.id == instrument.id || other.name == instrument.name) {
+        if self.ids.contains_key(&instrument.id) || self.names.contains(&instrument.name) {
             return Err(ListRefusal::DuplicateId);
         }
         if let Kind::Calendar { bought, sold } = instrument.kind
@@ -66,12 +71,14 @@ impl Listing {
         {
             return Err(ListRefusal::UnknownLeg);
         }
+        self.ids.insert(instrument.id, matches!(instrument.kind, Kind::Outright { .. }));
+        self.names.insert(instrument.name.clone());
         self.list.push(instrument);
         Ok(())
     }
 
     fn has_outright(&self, id: u32) -> bool {
-        self.list.iter().any(|other| other.id == id && matches!(other.kind, Kind::Outright { .. }))
+        self.ids.get(&id).copied().unwrap_or(false)
     }
 }
 

@@ -3,7 +3,8 @@
 use plain_handler::channel::read_channel;
 use plain_handler::live::MakesPrinter;
 use plain_handler::notes::Notes;
-use plain_handler::pcap::{PcapFault, run_pcap};
+use plain_handler::pcap::run_pcap;
+use plain_handler::pcap_file::PcapFault;
 use plain_handler::receiver::Start;
 use std::cell::RefCell;
 use std::io::{self, Read, Write};
@@ -97,6 +98,37 @@ fn pcap(frames: &[Vec<u8>], bytes_of: fn(u32) -> [u8; 4]) -> Vec<u8> {
     file
 }
 
+/// A pcapng file of two sections: enhanced packets, and simple ones behind an interface that is not read.
+fn pcapng(frames: &[Vec<u8>]) -> Vec<u8> {
+    let block = |kind: u32, bytes_of: fn(u32) -> [u8; 4], body: &[u8]| {
+        let padded = body.len().next_multiple_of(4);
+        let mut block = [bytes_of(kind), bytes_of(12 + padded as u32)].concat();
+        block.extend(body);
+        block.resize(8 + padded, 0);
+        block.extend(bytes_of(12 + padded as u32));
+        block
+    };
+    let section = |bytes_of: fn(u32) -> [u8; 4]| {
+        block(0x0a0d_0d0a, bytes_of, &[bytes_of(0x1a2b_3c4d), [0; 4], [255; 4], [255; 4]].concat())
+    };
+    let (first, second) = frames.split_at(frames.len() / 2);
+    let mut file = section(u32::to_le_bytes);
+    file.extend(block(1, u32::to_le_bytes, &[147, 0, 0, 0, 0, 0, 0, 0]));
+    file.extend(block(1, u32::to_le_bytes, &[1, 0, 0, 0, 0, 0, 4, 0]));
+    for frame in first {
+        let numbers = [1, 0, 0, frame.len() as u32, frame.len() as u32].map(u32::to_le_bytes);
+        file.extend(block(6, u32::to_le_bytes, &[numbers.as_flattened(), frame].concat()));
+        file.extend(block(77, u32::to_le_bytes, b"not known"));
+    }
+    file.extend(section(u32::to_be_bytes));
+    file.extend(block(1, u32::to_be_bytes, &[0, 1, 0, 0, 0, 0, 0, 0]));
+    for frame in second {
+        let length = (frame.len() as u32).to_be_bytes();
+        file.extend(block(3, u32::to_be_bytes, &[length.as_slice(), frame].concat()));
+    }
+    file
+}
+
 /// Frames of a feed, frames of none, and refused datagrams.
 fn frames() -> Vec<Vec<u8>> {
     let one = packet(1, 100);
@@ -123,6 +155,7 @@ fn lines_bear_the_numbers_of_frames_in_both_orders_of_bytes_and_all_pieces() {
     for bytes_of in [u32::to_le_bytes, u32::to_be_bytes] {
         for piece in [1, 2, 7, 1 << 20] {
             assert_eq!(run(&pcap(&frames(), bytes_of), piece), (TEXT.to_owned(), Ok(())));
+            assert_eq!(run(&pcapng(&frames()), piece), (TEXT.to_owned(), Ok(())));
         }
     }
 }
@@ -167,7 +200,7 @@ fn frames_that_bring_no_datagram_change_nothing() {
 fn other_files_and_other_links_are_refused() {
     let mut link = pcap(&frames(), u32::to_le_bytes);
     link[20] = 147;
-    assert_eq!(run(&link, 1 << 20).1, Err(PcapFault::LinkType));
+    assert_eq!(run(&link, 1 << 20).1, Err(PcapFault::LinkType(1)));
     assert_eq!(run(b"I 1 NEAR O\nA 00\n and more of the same", 1 << 20).1, Err(PcapFault::NotPcap));
     let mut long = pcap(&frames()[..2], u32::to_le_bytes);
     long[24 + 8..24 + 12].copy_from_slice(&262_145u32.to_le_bytes());
@@ -175,13 +208,15 @@ fn other_files_and_other_links_are_refused() {
 }
 
 #[test]
-fn a_bent_byte_ends_no_run_with_a_panic() {
-    let file = pcap(&frames(), u32::to_le_bytes);
-    for place in 0..file.len() {
-        for change in [0x01, 0x80, 0xff] {
-            let mut bent = file.clone();
-            bent[place] ^= change;
-            assert!(run(&bent, 1 << 20).0.contains("Z "));
+fn a_bent_byte_or_a_cut_ends_no_run_with_a_panic() {
+    for file in [pcap(&frames(), u32::to_le_bytes), pcapng(&frames())] {
+        for place in 0..file.len() {
+            for change in [0x01, 0x80, 0xff] {
+                let mut bent = file.clone();
+                bent[place] ^= change;
+                assert!(run(&bent, 1 << 20).0.contains("Z "));
+            }
+            assert!(run(&file[..place], 1 << 20).0.contains("Z "));
         }
     }
 }

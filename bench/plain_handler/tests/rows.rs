@@ -68,6 +68,45 @@ fn each_row_gives_its_text_live() {
     }
 }
 
+/// What `--books` prints of a run, by its text.
+fn counts_of(text: &str) -> String {
+    let lines = |letter: char| text.lines().filter(move |line| line.starts_with(letter));
+    let ends: std::collections::BTreeSet<&str> =
+        lines('C').chain(lines('F')).map(|line| line.split(' ').nth(1).unwrap()).collect();
+    let mut sum = 0u64;
+    for line in lines('C') {
+        let (bids, offers) = line.split_once(" B").unwrap().1.rsplit_once(" O").unwrap();
+        for best in [bids, offers].iter().filter_map(|levels| levels.split(' ').nth(1)) {
+            let (price, size) = best.split_once('x').unwrap();
+            sum = sum.wrapping_add(price.parse::<i64>().unwrap() as u64).wrapping_add(size.parse().unwrap());
+        }
+    }
+    let faulty = lines('F').count();
+    let end = lines('Z').next().unwrap().strip_prefix("Z ").unwrap();
+    let (books, jumps) = (lines('C').count() + faulty, lines('J').count());
+    format!("{} books {books} faulty {faulty} jumps {jumps} sum {sum} next {end}\n", ends.len())
+}
+
+#[test]
+fn books_alone_are_those_of_the_text() {
+    for row in fs::read_dir(root().join("tests/rows")).unwrap() {
+        let row = row.unwrap().path();
+        if !row.join("stdout").exists() || fs::read(row.join("status")).unwrap() != b"0\n" {
+            continue;
+        }
+        let mut words = words(&row.join("args"));
+        words.push("--books".to_owned());
+        let output = run(&words, &row.join("capture"));
+        // Event ends that print nothing are counted too, so their number is at least that of the text.
+        let (first, rest) = std::str::from_utf8(&output.stdout).unwrap().split_once(" books ").unwrap();
+        let wanted = counts_of(&fs::read_to_string(row.join("stdout")).unwrap());
+        let (least, wanted) = wanted.split_once(" books ").unwrap();
+        assert_eq!(rest, wanted, "{}", row.display());
+        let event_ends: u64 = first.strip_prefix("event-ends ").unwrap().parse().unwrap();
+        assert!(event_ends >= least.parse().unwrap());
+    }
+}
+
 #[test]
 fn each_example_gives_its_text() {
     for example in ["plain", "recovery", "join", "spread"] {
@@ -85,4 +124,20 @@ fn a_text_that_cannot_be_written_is_told() {
     let output = command.stdin(input).stdout(full).stderr(Stdio::piped()).spawn().unwrap().wait_with_output().unwrap();
     assert_eq!(output.status.code(), Some(1));
     assert_eq!(output.stderr, b"42 Output after 0 bytes\n");
+}
+#[test]
+fn the_example_of_a_pcap_file_gives_its_text() {
+    let channel = Path::new(env!("CARGO_TARGET_TMPDIR")).join("recovery.channel");
+    let mut text = fs::read_to_string(root().join("examples/recovery.capture")).unwrap();
+    text.retain(|character| character != '\r');
+    let mut lines: Vec<&str> = text.lines().filter(|line| line.starts_with('I')).collect();
+    // The file was made by text2pcap, which sends all feeds to one address.
+    lines.extend(["F A 10.2.2.2 14310", "F B 10.2.2.2 15310", "F S 10.2.2.2 14320"]);
+    fs::write(&channel, lines.join("\n")).unwrap();
+    let words = ["--window", "4", "--channel", channel.to_str().unwrap()].map(String::from);
+    let output = run(&words, &root().join("examples/recovery.pcap"));
+    assert_eq!(
+        String::from_utf8_lossy(&output.stdout),
+        fs::read_to_string(root().join("examples/recovery.txt")).unwrap()
+    );
 }
