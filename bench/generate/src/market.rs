@@ -73,7 +73,7 @@ impl Security {
         if is_bid(side) { price > other } else { price < other }
     }
 
-    /// One tick away from the other side.
+    /// Gives the step of one tick away from the other side.
     fn away(&self, side: usize) -> i64 {
         if is_bid(side) { -self.tick } else { self.tick }
     }
@@ -119,7 +119,7 @@ impl Market {
         &mut self.random
     }
 
-    /// The sides that are filled before the market moves, each as often as it gets a level, the last one first.
+    /// Gives the sides that are filled before the market moves, each as often as it gets a level, the last one first.
     pub fn opening(&self) -> Vec<(usize, usize)> {
         let levels = |security: &Security| if security.legs.is_some() && !self.is_deep { DEPTH / 2 } else { DEPTH };
         let sides = |(place, security)| [0, 1].map(|side| std::iter::repeat_n((place, side), levels(security)));
@@ -292,7 +292,7 @@ impl Market {
         }
     }
 
-    /// The price and size that an implied quote goes by: what the legs make, or the security's own best level.
+    /// Gives the price and size that an implied quote goes by: what the legs make, or the security's own best level.
     fn implied_level(&mut self, security: usize, side: usize) -> Level {
         let size = self.size();
         let takes_size = self.random.happens(6_000);

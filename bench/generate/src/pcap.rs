@@ -8,7 +8,7 @@ use crate::text::write_instruments;
 use std::io::{self, Write};
 use std::net::Ipv4Addr;
 
-/// Where a feed is sent to. A and S share a port, and are told apart by their groups.
+/// Gives the group and port that a feed is sent to. A and S share a port, and are told apart by their groups.
 fn address_of(feed: Feed) -> (Ipv4Addr, u16) {
     match feed {
         Feed::A => (Ipv4Addr::new(224, 0, 31, 1), 14_310),

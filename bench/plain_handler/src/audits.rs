@@ -136,7 +136,7 @@ mod tests {
     use super::*;
     use crate::side::{Side, Way};
 
-    /// A side of one level.
+    /// Makes a side of one level, or of none.
     fn side(level: Option<(i64, i32)>) -> Side<2> {
         let mut side = Side::new(2);
         if let Some((price, size)) = level {

@@ -128,7 +128,7 @@ mod tests {
         String::from_utf8(bytes[..length].to_vec()).unwrap()
     }
 
-    /// Numbers around each power of ten and of two.
+    /// Gives numbers around each power of ten and of two.
     fn edges() -> impl Iterator<Item = u64> {
         let tens = (0..20).map(|power| 10u64.pow(power));
         let twos = (0..64).map(|power| 1u64 << power);

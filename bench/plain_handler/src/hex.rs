@@ -183,7 +183,7 @@ mod tests {
         answers
     }
 
-    /// The plain answer, by the standard library.
+    /// Gives the plain answer, by the standard library.
     fn plain(text: &[u8]) -> (usize, Vec<u8>) {
         let count = text.iter().take_while(|byte| byte.is_ascii_hexdigit()).count();
         let value = |digit: u8| (digit as char).to_digit(16).unwrap() as u8;

@@ -31,12 +31,12 @@ impl Skip {
 
 /// A capture that is refused, and at which line.
 #[derive(Clone, Copy, PartialEq, Eq, Debug)]
-pub struct Refusal {
+pub struct CaptureRefusal {
     pub line: u32,
     pub why: ListRefusal,
 }
 
-impl Refusal {
+impl CaptureRefusal {
     /// Gives what is told.
     pub fn told(self) -> String {
         match self.line {
@@ -79,6 +79,33 @@ impl Before {
     const NONE: Before = Before { digits: 0, length: usize::MAX / 2 };
 }
 
+/// Gives the feed of a line that begins as a datagram's does.
+///
+/// # Safety
+/// Two bytes are readable.
+#[inline(always)]
+unsafe fn feed_at(at: *const u8) -> Option<Feed> {
+    match unsafe { (*at, *at.add(1)) } {
+        (b'A', b' ') => Some(Feed::A),
+        (b'B', b' ') => Some(Feed::B),
+        (b'S', b' ') => Some(Feed::S),
+        _ => None,
+    }
+}
+
+/// Gives the length of a line's end, if one stands there.
+///
+/// # Safety
+/// Two bytes are readable.
+#[inline(always)]
+unsafe fn line_end_at(at: *const u8) -> Option<usize> {
+    match unsafe { (*at, *at.add(1)) } {
+        (b'\n', _) => Some(1),
+        (b'\r', b'\n') => Some(2),
+        _ => None,
+    }
+}
+
 /// Reads lines.
 #[derive(Default)]
 pub struct LineReader {
@@ -90,9 +117,9 @@ pub struct LineReader {
 
 impl LineReader {
     /// Gives the instruments that were listed.
-    pub fn into_listing(self) -> Result<Listing, Refusal> {
+    pub fn into_listing(self) -> Result<Listing, CaptureRefusal> {
         if self.listing.is_empty() {
-            return Err(Refusal { line: 0, why: ListRefusal::None });
+            return Err(CaptureRefusal { line: 0, why: ListRefusal::None });
         }
         Ok(self.listing)
     }
@@ -109,7 +136,7 @@ impl LineReader {
         end: usize,
         is_last: bool,
         records: &mut impl TakesRecords,
-    ) -> Result<usize, Refusal> {
+    ) -> Result<usize, CaptureRefusal> {
         let mut at = 0;
         let mut before = Before::NONE;
         while at < end {
@@ -141,12 +168,7 @@ impl LineReader {
     ) -> Option<usize> {
         unsafe {
             let start = text.as_ptr();
-            let feed = match (*start.add(at), *start.add(at + 1)) {
-                (b'A', b' ') => Feed::A,
-                (b'B', b' ') => Feed::B,
-                (b'S', b' ') => Feed::S,
-                _ => return None,
-            };
+            let feed = feed_at(start.add(at))?;
             let digits = at + 2;
             if feed != Feed::S && before.length <= end - at - 2 {
                 let length = before.length;
@@ -162,11 +184,7 @@ impl LineReader {
                 return None;
             }
             let after = digits + count;
-            let next = match (*start.add(after), *start.add(after + 1)) {
-                (b'\n', _) => after + 1,
-                (b'\r', b'\n') => after + 2,
-                _ => return None,
-            };
+            let next = after + line_end_at(start.add(after))?;
             self.count_record();
             records.datagram(feed, self.line, count / 2);
             if feed != Feed::S {
@@ -191,7 +209,7 @@ impl LineReader {
         at: usize,
         is_last: bool,
         records: &mut impl TakesRecords,
-    ) -> Result<Option<usize>, Refusal> {
+    ) -> Result<Option<usize>, CaptureRefusal> {
         let rest = &text[at..];
         let (line, next) = match rest.iter().position(|&byte| byte == b'\n') {
             Some(length) => (rest[..length].strip_suffix(b"\r").unwrap_or(&rest[..length]), at + length + 1),
@@ -206,7 +224,7 @@ impl LineReader {
     }
 
     /// Reads a line that isn't empty, without its end.
-    fn read_line(&mut self, line: &[u8], records: &mut impl TakesRecords) -> Result<(), Refusal> {
+    fn read_line(&mut self, line: &[u8], records: &mut impl TakesRecords) -> Result<(), CaptureRefusal> {
         let fields: Vec<&[u8]> = line.split(|&byte| byte == b' ').take(8).collect();
         let skip = match *fields {
             [b"X"] => {
@@ -245,8 +263,8 @@ impl LineReader {
         Ok(())
     }
 
-    fn list(&mut self, instrument: Instrument, records: &mut impl TakesRecords) -> Result<(), Refusal> {
-        let refused = |why| Refusal { line: self.line, why };
+    fn list(&mut self, instrument: Instrument, records: &mut impl TakesRecords) -> Result<(), CaptureRefusal> {
+        let refused = |why| CaptureRefusal { line: self.line, why };
         if self.has_record {
             return Err(refused(ListRefusal::InstrumentLate));
         }

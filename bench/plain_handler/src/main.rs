@@ -15,7 +15,7 @@ use std::mem::ManuallyDrop;
 use std::os::fd::FromRawFd;
 use std::process::ExitCode;
 
-/// A standard stream without a buffer, which isn't closed at the end.
+/// Gives a standard stream without a buffer, which isn't closed at the end.
 fn stream(descriptor: i32) -> ManuallyDrop<File> {
     // Safety: standard streams are open, and nothing here closes them.
     ManuallyDrop::new(unsafe { File::from_raw_fd(descriptor) })

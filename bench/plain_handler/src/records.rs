@@ -2,7 +2,7 @@
 
 use crate::input::Input;
 use crate::instruments::{Instrument, Listing};
-use crate::lines::{DATAGRAM_ROOM, LineReader, Refusal, Skip, TEXT_SLACK, TakesRecords};
+use crate::lines::{CaptureRefusal, DATAGRAM_ROOM, LineReader, Skip, TEXT_SLACK, TakesRecords};
 use crate::processor::{Work, quickly};
 use crate::receiver::{Feed, Receiver};
 use crate::shows::Shows;
@@ -70,12 +70,12 @@ impl TakesRecords for Records {
 
 /// Why a capture can't be handled.
 pub enum CaptureFault {
-    Refused(Refusal),
+    Refused(CaptureRefusal),
     Input,
 }
 
-impl From<Refusal> for CaptureFault {
-    fn from(refusal: Refusal) -> CaptureFault {
+impl From<CaptureRefusal> for CaptureFault {
+    fn from(refusal: CaptureRefusal) -> CaptureFault {
         CaptureFault::Refused(refusal)
     }
 }

@@ -198,7 +198,7 @@ unsafe fn check_group(message: Message, size: usize, least: usize, least_entry: 
     }
 }
 
-/// What is told of an entry of a book that is refused.
+/// Tells why an entry of a book is refused.
 #[cold]
 #[inline(never)]
 fn entry_refusal(entry: Entry) -> Refusal {

@@ -179,7 +179,7 @@ fn message(template: u16, block: u16, body: &[u8]) -> Vec<u8> {
     bytes
 }
 
-/// A group with entries of a length, each with a price, a size, and bytes at two places.
+/// Makes a group with entries of a length, each with a price, a size, and bytes at two places.
 fn group(each: usize, entries: &[(i64, i32, usize, &[u8])]) -> Vec<u8> {
     let mut bytes = vec![each as u8, 0, entries.len() as u8];
     for (price, size, at, tail) in entries {
@@ -191,7 +191,7 @@ fn group(each: usize, entries: &[(i64, i32, usize, &[u8])]) -> Vec<u8> {
     bytes
 }
 
-/// A datagram with messages of all kinds of the incremental feeds.
+/// Makes a datagram with messages of all kinds of the incremental feeds.
 fn packet() -> Vec<u8> {
     let entries = [(100, 5, 24, &[1, 0, b'0'][..]), (-7, 0, 24, &[10, 1, b'1']), (i64::MAX, -1, 24, &[2, 2, b'E'])];
     let book = [vec![0; 11], group(32, &entries)].concat();
@@ -206,7 +206,7 @@ fn packet() -> Vec<u8> {
     [vec![7, 0, 0, 0, 0, 0, 0, 0, 0, 0, 0, 0], messages.concat()].concat()
 }
 
-/// A datagram with two snapshots and something else.
+/// Makes a datagram with two snapshots and something else.
 fn snapshot() -> Vec<u8> {
     let tail = |level, kind| [level, 0, 0, 0, 0, kind];
     let tails = [tail(2, b'0'), tail(1, b'0'), tail(1, b'F'), tail(77, b'J')];

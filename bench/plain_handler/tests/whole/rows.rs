@@ -4,12 +4,12 @@ use std::fs;
 use std::path::{Path, PathBuf};
 use std::process::{Command, Output, Stdio};
 
-/// The root folder of the repository.
+/// Gives the root folder of the repository.
 fn root() -> PathBuf {
     Path::new(env!("CARGO_MANIFEST_DIR")).join("../..")
 }
 
-/// The words of a file, one a line; none where there is no such file.
+/// Gives the words of a file, one a line; none where there is no such file.
 fn words(file: &Path) -> Vec<String> {
     fs::read_to_string(file).unwrap_or_default().lines().map(String::from).collect()
 }
@@ -20,7 +20,7 @@ fn run(words: &[String], capture: &Path) -> Output {
     command.args(words).stdin(Stdio::from(input)).output().unwrap()
 }
 
-/// The texts that a row allows: one, or any of several.
+/// Gives the texts that a row allows: one, or any of several.
 fn wanted_texts(row: &Path) -> Vec<Vec<u8>> {
     let is_text = |name: &str| name == "stdout" || name.starts_with("stdout.");
     let files = fs::read_dir(row).unwrap().map(|file| file.unwrap());
@@ -68,7 +68,7 @@ fn each_row_gives_its_text_live() {
     }
 }
 
-/// What `--books` prints of a run, by its text.
+/// Gives what `--books` prints of a run, by its text.
 fn counts_of(text: &str) -> String {
     let lines = |letter: char| text.lines().filter(move |line| line.starts_with(letter));
     let ends: std::collections::BTreeSet<&str> =

@@ -1,46 +1,17 @@
 //! Pcap files: the text is that of their whole frames, wherever they end.
 
+use crate::streams::{Slow, Text};
 use plain_handler::channel::read_channel;
 use plain_handler::live::MakesPrinter;
 use plain_handler::notes::Notes;
 use plain_handler::pcap::run_pcap;
 use plain_handler::pcap_file::PcapFault;
 use plain_handler::receiver::Start;
-use std::cell::RefCell;
-use std::io::{self, Read, Write};
-use std::rc::Rc;
 
 const CHANNEL: &str = "I 1 NEAR O\nF A 224.0.31.1 14310\nF S 224.0.31.43 14310\nF B 224.0.32.1 15310\n";
 const A: ([u8; 4], u16) = ([224, 0, 31, 1], 14310);
 const B: ([u8; 4], u16) = ([224, 0, 32, 1], 15310);
 const S: ([u8; 4], u16) = ([224, 0, 31, 43], 14310);
-
-/// A text that several own.
-#[derive(Clone, Default)]
-struct Text(Rc<RefCell<Vec<u8>>>);
-
-impl Write for Text {
-    fn write(&mut self, bytes: &[u8]) -> io::Result<usize> {
-        self.0.borrow_mut().extend_from_slice(bytes);
-        Ok(bytes.len())
-    }
-
-    fn flush(&mut self) -> io::Result<()> {
-        Ok(())
-    }
-}
-
-/// Gives its bytes a few at a time.
-struct Slow<'a>(&'a [u8], usize);
-
-impl Read for Slow<'_> {
-    fn read(&mut self, buffer: &mut [u8]) -> io::Result<usize> {
-        let count = self.1.min(self.0.len()).min(buffer.len());
-        buffer[..count].copy_from_slice(&self.0[..count]);
-        self.0 = &self.0[count..];
-        Ok(count)
-    }
-}
 
 /// Runs over a pcap file that comes in pieces, and gives its text and the fault that ended it.
 fn run(file: &[u8], piece: usize) -> (String, Result<(), PcapFault>) {
@@ -55,7 +26,7 @@ fn run(file: &[u8], piece: usize) -> (String, Result<(), PcapFault>) {
     (String::from_utf8(text).unwrap(), outcome)
 }
 
-/// A packet with one new best bid.
+/// Makes a packet with one new best bid.
 fn packet(number: u32, price: i64) -> Vec<u8> {
     let mut bytes = number.to_le_bytes().to_vec();
     bytes.extend([0; 8]);
@@ -70,7 +41,7 @@ fn packet(number: u32, price: i64) -> Vec<u8> {
     bytes
 }
 
-/// An Ethernet frame with a UDP datagram, and the tags of virtual networks before its IPv4 packet.
+/// Makes an Ethernet frame with a UDP datagram, and the tags of virtual networks before its IPv4 packet.
 fn frame(address: ([u8; 4], u16), payload: &[u8], tags: &[u16]) -> Vec<u8> {
     let (group, port) = address;
     let mut frame = vec![0; 12];
@@ -87,7 +58,7 @@ fn frame(address: ([u8; 4], u16), payload: &[u8], tags: &[u16]) -> Vec<u8> {
     frame
 }
 
-/// A pcap file, by the bytes of its numbers.
+/// Makes a pcap file, by the bytes of its numbers.
 fn pcap(frames: &[Vec<u8>], bytes_of: fn(u32) -> [u8; 4]) -> Vec<u8> {
     let mut file: Vec<u8> = [0xa1b2_c3d4, 2 | 4 << 16, 0, 0, 65_535, 1].into_iter().flat_map(bytes_of).collect();
     for frame in frames {
@@ -98,7 +69,7 @@ fn pcap(frames: &[Vec<u8>], bytes_of: fn(u32) -> [u8; 4]) -> Vec<u8> {
     file
 }
 
-/// A pcapng file of two sections: enhanced packets, and simple ones behind an interface that is not read.
+/// Makes a pcapng file of two sections: enhanced packets, and simple ones behind an interface that is not read.
 fn pcapng(frames: &[Vec<u8>]) -> Vec<u8> {
     let block = |kind: u32, bytes_of: fn(u32) -> [u8; 4], body: &[u8]| {
         let padded = body.len().next_multiple_of(4);
@@ -129,7 +100,7 @@ fn pcapng(frames: &[Vec<u8>]) -> Vec<u8> {
     file
 }
 
-/// Frames of a feed, frames of none, and refused datagrams.
+/// Makes frames of a feed, frames of none, and refused datagrams.
 fn frames() -> Vec<Vec<u8>> {
     let one = packet(1, 100);
     vec![

@@ -1,46 +1,18 @@
 //! A capture that comes in pieces gives the text of the whole.
 
+use crate::streams::{Slow, Text};
 use plain_handler::live::{MakesPrinter, run_capture};
 use plain_handler::notes::Notes;
 use plain_handler::receiver::{Receiver, Start};
 use plain_handler::records::{handle, read_capture};
 use plain_handler::shows::Printer;
-use std::cell::RefCell;
 use std::fs;
-use std::io::{self, Read, Write};
+use std::io::{self, Read};
 use std::path::Path;
-use std::rc::Rc;
-
-/// A text that several own.
-#[derive(Clone, Default)]
-struct Text(Rc<RefCell<Vec<u8>>>);
-
-impl Write for Text {
-    fn write(&mut self, bytes: &[u8]) -> io::Result<usize> {
-        self.0.borrow_mut().extend_from_slice(bytes);
-        Ok(bytes.len())
-    }
-
-    fn flush(&mut self) -> io::Result<()> {
-        Ok(())
-    }
-}
-
-/// Gives its bytes a few at a time.
-struct Slow<'a>(&'a [u8], usize);
-
-impl Read for Slow<'_> {
-    fn read(&mut self, buffer: &mut [u8]) -> io::Result<usize> {
-        let count = self.1.min(self.0.len()).min(buffer.len());
-        buffer[..count].copy_from_slice(&self.0[..count]);
-        self.0 = &self.0[count..];
-        Ok(count)
-    }
-}
 
 const START: Start = Start { window: 4, joins: false };
 
-/// The text of a capture that comes in pieces and is handled once all of it is there; none where it is refused.
+/// Gives the text of a capture that comes in pieces and is handled once all of it is there; none where it is refused.
 fn whole(capture: &[u8], piece: usize) -> Option<Vec<u8>> {
     let (listing, records) = read_capture(Slow(capture, piece), capture.len()).ok()?;
     let mut text = Vec::new();
@@ -50,7 +22,7 @@ fn whole(capture: &[u8], piece: usize) -> Option<Vec<u8>> {
     Some(text)
 }
 
-/// The text of a capture that comes in pieces and is handled as it comes; none where it is refused.
+/// Gives the text of a capture that comes in pieces and is handled as it comes; none where it is refused.
 fn live(capture: &[u8], piece: usize) -> Option<Vec<u8>> {
     let text = Text::default();
     let (listing, receiver) = run_capture(Slow(capture, piece), START, MakesPrinter(text.clone()), Notes::Nowhere);
@@ -59,7 +31,7 @@ fn live(capture: &[u8], piece: usize) -> Option<Vec<u8>> {
     Some(text.0.take())
 }
 
-/// The captures of all rows and examples.
+/// Gives the captures of all rows and examples.
 fn captures() -> Vec<Vec<u8>> {
     let root = Path::new(env!("CARGO_MANIFEST_DIR")).join("../..");
     let rows = fs::read_dir(root.join("tests/rows")).unwrap().map(|row| row.unwrap().path().join("capture"));
