@@ -144,3 +144,68 @@ impl Iterator for Feeds {
         }
     }
 }
+
+#[cfg(test)]
+mod tests {
+    use super::*;
+    use crate::market::Market;
+    use std::collections::BTreeMap;
+
+    fn arrivals(preset: &str, change: impl FnOnce(&mut Shape)) -> Vec<Arrival> {
+        let mut shape = Shape::of_preset(preset).unwrap();
+        shape.packets = Some(3_000);
+        change(&mut shape);
+        Feeds::new(Packets::new(Market::new(&shape, 5)), shape, 5).collect()
+    }
+
+    /// Gives the first copy of each packet's number.
+    fn first_copies(arrivals: &[Arrival]) -> BTreeMap<u32, &[u8]> {
+        let mut copies = BTreeMap::new();
+        for arrival in arrivals.iter().filter(|arrival| arrival.feed != Feed::S) {
+            let number = u32::from_le_bytes(*arrival.bytes.first_chunk().unwrap());
+            copies.entry(number).or_insert(arrival.bytes.as_slice());
+        }
+        copies
+    }
+
+    #[test]
+    fn a_seed_gives_the_same_packets_whatever_is_lost() {
+        let one = arrivals("lossy", |_| {});
+        assert!(one == arrivals("lossy", |_| {}));
+        let other = arrivals("lossy", |shape| (shape.lost, shape.late, shape.bursts) = (0, 0, 0));
+        let (one, other) = (first_copies(&one), first_copies(&other));
+        assert_eq!(other.len(), 3_000);
+        assert_eq!(one.len(), 3_000 - 20 * BURST_LENGTH as usize);
+        assert!(one.iter().all(|(number, bytes)| other[number] == *bytes));
+    }
+
+    #[test]
+    fn arrivals_come_in_the_order_of_their_times() {
+        let arrivals = arrivals("endless", |_| {});
+        assert!(arrivals.is_sorted_by_key(|arrival| arrival.time));
+        let count = |feed| arrivals.iter().filter(|arrival| arrival.feed == feed).count();
+        assert_eq!(count(Feed::S), 3_000 / 64);
+        assert!((2_950..3_030).contains(&count(Feed::A)) && (2_950..3_030).contains(&count(Feed::B)));
+    }
+
+    #[test]
+    fn a_spoilt_copy_stands_beside_a_whole_one() {
+        let spoilt = arrivals("day", |shape| (shape.spoilt, shape.late) = (1_000, 0));
+        let whole = arrivals("day", |shape| shape.late = 0);
+        let copies = |arrivals: &[Arrival]| -> BTreeMap<u32, Vec<Vec<u8>>> {
+            let mut copies: BTreeMap<u32, Vec<Vec<u8>>> = BTreeMap::new();
+            for arrival in arrivals {
+                let number = u32::from_le_bytes(*arrival.bytes.first_chunk().unwrap());
+                copies.entry(number).or_default().push(arrival.bytes.clone());
+            }
+            copies
+        };
+        let whole = copies(&whole);
+        let mut changed = 0;
+        for (number, copies) in copies(&spoilt) {
+            assert!(copies.contains(&whole[&number][0]));
+            changed += usize::from(copies.iter().any(|copy| *copy != whole[&number][0]));
+        }
+        assert!((200..400).contains(&changed), "{changed}");
+    }
+}
