@@ -49,6 +49,32 @@ pub enum Frame<'a> {
 /// Finds the datagram of a frame.
 #[inline(always)]
 pub fn frame_of(link: Link, frame: &[u8]) -> Frame<'_> {
+    if link == Link::Ethernet
+        && let Some(datagram) = plain_datagram(frame)
+    {
+        return datagram;
+    }
+    any_frame(link, frame)
+}
+
+/// Finds the datagram of an Ethernet frame without tags and of a packet without options, if it is whole.
+#[inline(always)]
+fn plain_datagram(frame: &[u8]) -> Option<Frame<'_>> {
+    const HEADERS: usize = 42;
+    let head: &[u8; HEADERS] = frame.first_chunk()?;
+    let is_plain = head[12..15] == [0x08, 0x00, 0x45] && big16(head, 20) & 0x3fff == 0 && head[23] == 17;
+    let end = 34 + usize::from(big16(head, 38));
+    if !is_plain || end < HEADERS || usize::from(big16(head, 16)) + 14 < end {
+        return None;
+    }
+    let payload = frame.get(HEADERS..end)?;
+    Some(Frame::Datagram(Address { group: big32(head, 30), port: big16(head, 36) }, payload))
+}
+
+/// Finds the datagram of any frame.
+#[cold]
+#[inline(never)]
+fn any_frame(link: Link, frame: &[u8]) -> Frame<'_> {
     const IPV4: u16 = 0x0800;
     let (header, kind_at) = match link {
         Link::RawIp => return packet_of(frame),
@@ -76,7 +102,6 @@ pub fn frame_of(link: Link, frame: &[u8]) -> Frame<'_> {
 }
 
 /// Finds the datagram of an IPv4 packet.
-#[inline(always)]
 fn packet_of(packet: &[u8]) -> Frame<'_> {
     if packet.len() < 20 {
         return Frame::HeadersCut;

@@ -69,19 +69,6 @@ unsafe fn decode_by_table(text: *const u8, bytes: *mut u8, most: usize) -> usize
     at
 }
 
-/// Tells whether two texts of a length are the same.
-///
-/// # Safety
-/// Both are readable over this length. Where `WIDE`, the processor has 256-bit vectors.
-#[inline(always)]
-pub unsafe fn are_same<const WIDE: bool>(one: *const u8, other: *const u8, length: usize) -> bool {
-    #[cfg(target_arch = "x86_64")]
-    if WIDE && length >= 64 {
-        return unsafe { wide::are_same(one, other, length) };
-    }
-    unsafe { std::slice::from_raw_parts(one, length) == std::slice::from_raw_parts(other, length) }
-}
-
 #[cfg(target_arch = "x86_64")]
 mod wide {
     use std::arch::x86_64::*;
@@ -133,29 +120,6 @@ mod wide {
                 return at;
             }
         }
-    }
-
-    /// As `super::are_same`, of at least 64 bytes.
-    #[target_feature(enable = "avx2")]
-    #[inline]
-    pub unsafe fn are_same(one: *const u8, other: *const u8, length: usize) -> bool {
-        let differ = |at: usize| unsafe {
-            let first =
-                _mm256_cmpeq_epi8(_mm256_loadu_si256(one.add(at).cast()), _mm256_loadu_si256(other.add(at).cast()));
-            let second = _mm256_cmpeq_epi8(
-                _mm256_loadu_si256(one.add(at + 32).cast()),
-                _mm256_loadu_si256(other.add(at + 32).cast()),
-            );
-            _mm256_movemask_epi8(_mm256_and_si256(first, second)) != -1
-        };
-        let mut at = 0;
-        while at + 64 < length {
-            if differ(at) {
-                return false;
-            }
-            at += 64;
-        }
-        !differ(length - 64)
     }
 }
 
@@ -212,23 +176,6 @@ mod tests {
             let mut bytes = vec![9];
             assert_eq!(decode_field(text.as_bytes(), &mut bytes), wanted, "{text}");
             assert_eq!(bytes.len(), if wanted { 1 + text.len() / 2 } else { 1 });
-        }
-    }
-
-    #[test]
-    fn texts_are_the_same_where_no_byte_differs() {
-        let text: Vec<u8> = (0..=255).cycle().take(400).collect();
-        for length in [0, 1, 63, 64, 65, 128, 129, 320, 400] {
-            for changed in (0..400).step_by(13) {
-                let mut other = text.clone();
-                other[changed] ^= 1;
-                let wanted = changed >= length;
-                assert_eq!(unsafe { are_same::<false>(text.as_ptr(), other.as_ptr(), length) }, wanted);
-                #[cfg(target_arch = "x86_64")]
-                if crate::processor::is_wide() {
-                    assert_eq!(unsafe { are_same::<true>(text.as_ptr(), other.as_ptr(), length) }, wanted);
-                }
-            }
         }
     }
 }

@@ -24,6 +24,7 @@ pub mod processor;
 pub mod receiver;
 pub mod records;
 pub mod refusal;
+pub mod same;
 pub mod shows;
 pub mod side;
 pub mod slots;

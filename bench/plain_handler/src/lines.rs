@@ -3,6 +3,7 @@
 use crate::hex;
 use crate::instruments::{Instrument, ListRefusal, Listing, instrument_of};
 use crate::receiver::Feed;
+use crate::same::are_same;
 
 /// The most bytes of a datagram.
 pub const MOST_BYTES: usize = 2048;
@@ -172,7 +173,7 @@ impl LineReader {
             let digits = at + 2;
             if feed != Feed::S && before.length <= end - at - 2 {
                 let length = before.length;
-                if hex::are_same::<WIDE>(start.add(before.digits), start.add(digits), length) {
+                if are_same::<WIDE>(start.add(before.digits), start.add(digits), length) {
                     self.count_record();
                     records.repeat(feed, self.line);
                     before.digits = digits;

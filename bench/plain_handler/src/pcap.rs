@@ -10,6 +10,7 @@ use crate::notes::Notes;
 use crate::pcap_file::{FrameFinder, Next, PcapFault};
 use crate::processor::{Work, quickly};
 use crate::receiver::{Feed, Receiver, Start};
+use crate::same::are_same;
 use crate::shows::Shows;
 use std::io::Read;
 
@@ -30,7 +31,7 @@ type Before<'a> = &'a [u8];
 impl<R: Read, S: Shows> Running<'_, R, S> {
     /// Reads the whole frames of the bytes at hand, and tells how many bytes they are.
     #[inline(always)]
-    fn read_frames(&mut self) -> Result<usize, PcapFault> {
+    fn read_frames<const WIDE: bool>(&mut self) -> Result<usize, PcapFault> {
         let (buffer, end) = self.input.bytes();
         // Safety: the input doesn't change while frames are handled.
         let bytes: &[u8] = unsafe { std::slice::from_raw_parts(buffer.as_ptr(), end) };
@@ -39,7 +40,7 @@ impl<R: Read, S: Shows> Running<'_, R, S> {
         loop {
             match self.finder.next(&bytes[at..])? {
                 Next::Frame(link, frame, length) => {
-                    self.take(frame_of(link, frame), &mut before);
+                    self.take::<WIDE>(frame_of(link, frame), &mut before);
                     at += length;
                 }
                 Next::Other(length) => at += length,
@@ -49,7 +50,7 @@ impl<R: Read, S: Shows> Running<'_, R, S> {
     }
 
     #[inline(always)]
-    fn take<'a>(&mut self, frame: Frame<'a>, before: &mut Before<'a>) {
+    fn take<'a, const WIDE: bool>(&mut self, frame: Frame<'a>, before: &mut Before<'a>) {
         match frame {
             Frame::Datagram(address, payload) => {
                 let Some(feed) = self.addresses.feed_at(address) else {
@@ -59,7 +60,10 @@ impl<R: Read, S: Shows> Running<'_, R, S> {
                     return self.notes.tell(&format!("frame {}: 23 TooLong", self.finder.frames()));
                 }
                 let is_incremental = feed != Feed::S;
-                if is_incremental && !payload.is_empty() && payload == *before {
+                // Safety: both have this length.
+                let is_same = payload.len() == before.len()
+                    && unsafe { are_same::<WIDE>(payload.as_ptr(), before.as_ptr(), payload.len()) };
+                if is_incremental && !payload.is_empty() && is_same {
                     return self.receiver.repeat(feed, self.finder.frames());
                 }
                 self.receiver.datagram(feed, self.finder.frames(), payload);
@@ -105,7 +109,7 @@ impl<R: Read, S: Shows> Work for &mut Running<'_, R, S> {
     fn run<const WIDE: bool>(self) -> Self::Output {
         while !self.input.is_over() {
             self.input.read_more().map_err(|_| PcapFault::Input)?;
-            let count = self.read_frames()?;
+            let count = self.read_frames::<WIDE>()?;
             self.input.take(count);
             (self.flush)(self.receiver.shows());
             if self.receiver.shows().has_failed() {

@@ -81,12 +81,13 @@ pub struct Receiver<S: Shows> {
     next: u64,
     /// The first number that the window covers; more than `next` where packets were given up.
     first: u64,
-    /// The highest number that came.
+    /// The highest number that was kept ahead; while packets are given up, the highest that came.
     highest: u64,
     window: u64,
     /// Packets ahead, each at its number's place; what lies below `first` is nobody's.
     ring: Vec<Held>,
-    joins: bool,
+    /// Packets were given up, or it joined, and no jump made up for that yet.
+    is_lost: bool,
     newest: Vec<Newest>,
     /// The least number of all newest snapshots, if there is one of each security.
     least: Option<u64>,
@@ -110,7 +111,7 @@ impl<S: Shows> Receiver<S> {
             highest: 0,
             window: start.window.into(),
             ring: vec![Held::default(); places],
-            joins: start.joins,
+            is_lost: start.joins,
             newest: vec![Newest::default(); instruments.len()],
             least: None,
             is_least_old: false,
@@ -123,7 +124,7 @@ impl<S: Shows> Receiver<S> {
 
     #[inline(always)]
     pub fn is_lost(&self) -> bool {
-        self.first > self.next || self.joins
+        self.is_lost
     }
 
     pub fn standing(&self) -> Standing {
@@ -179,7 +180,6 @@ impl<S: Shows> Receiver<S> {
             return;
         }
         if number == self.next && !self.is_lost() {
-            self.highest = self.highest.max(number);
             // Safety: the datagram was accepted.
             unsafe { self.pass(data) };
         } else if number >= self.first {
@@ -187,7 +187,7 @@ impl<S: Shows> Receiver<S> {
         } else {
             return;
         }
-        if self.is_lost() || self.ring[self.place_of(self.next)].number as u64 == self.next {
+        if self.is_lost() || self.number_at(self.place_of(self.next)) == self.next {
             quickly(GoOn { receiver: self });
         }
     }
@@ -251,6 +251,13 @@ impl<S: Shows> Receiver<S> {
         number as usize & (self.ring.len() - 1)
     }
 
+    /// Gives the number of the packet that is kept at a place of the window.
+    #[inline(always)]
+    fn number_at(&self, place: usize) -> u64 {
+        // Safety: a place is below the length, which is a power of two.
+        u64::from(unsafe { self.ring.get_unchecked(place) }.number)
+    }
+
     /// Lets a packet pass.
     ///
     /// # Safety
@@ -276,9 +283,9 @@ impl<S: Shows> Receiver<S> {
         held.data.extend_from_slice(data);
         self.highest = self.highest.max(number);
         if number >= self.first + self.window {
-            let was_lost = self.is_lost();
             self.first = number + 1 - self.window;
-            if !was_lost {
+            if !self.is_lost {
+                self.is_lost = true;
                 self.news.lost = Some((self.next, number));
             }
         }
@@ -299,7 +306,7 @@ impl<S: Shows> Receiver<S> {
         let old = self.next;
         self.next = least + 1;
         self.first = self.first.max(self.next);
-        self.joins = false;
+        self.is_lost = false;
         let snapshots = self.newest.iter().map(Newest::snapshot);
         if S::TEXT {
             self.desk.rebase::<true>(snapshots);
@@ -319,7 +326,7 @@ impl<S: Shows> Receiver<S> {
         }
         loop {
             let place = self.place_of(self.next);
-            if u64::from(self.ring[place].number) != self.next {
+            if self.number_at(place) != self.next {
                 return;
             }
             let data = std::mem::take(&mut self.ring[place].data);
