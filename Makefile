@@ -1,17 +1,22 @@
 # make run    proves and builds the program, and runs it on an example
 # make test   the merge gate and the rows; the last line is 'N passed, M failed'
+# make bench PRESET=day   the program beside a handler in plain Rust; bench/README.md has the presets
 # make wrong-bodies   tries the wrong bodies that the gate has no time for; CRATE=NAME those of one crate
 
 SHELL := /bin/bash
 program := crates/mdp_handler/out/mdp_handler
+PRESET := day
 
-.PHONY: run test wrong-bodies build
+.PHONY: run test bench wrong-bodies build
 
 run: build
 	@$(program) < examples/plain.capture
 
 test:
 	@tests/run_all.sh
+
+bench:
+	@bench/compare.sh $(PRESET)
 
 wrong-bodies:
 	@tests/run_wrong_bodies.sh $(CRATE)

@@ -1,0 +1,211 @@
+//! The way of packets over the feeds: what is lost, late or repeated, and in which order all of it comes.
+
+use crate::packets::Packets;
+use crate::random::Random;
+use crate::shape::{BURST_LENGTH, MOST_PLACES_LATE, Shape};
+use std::cmp::Reverse;
+use std::collections::{BTreeSet, BinaryHeap};
+
+/// The feeds of a channel.
+#[derive(Clone, Copy, PartialEq, Eq, PartialOrd, Ord, Debug)]
+pub enum Feed {
+    A,
+    B,
+    S,
+}
+
+impl Feed {
+    pub fn letter(self) -> u8 {
+        match self {
+            Feed::A => b'A',
+            Feed::B => b'B',
+            Feed::S => b'S',
+        }
+    }
+}
+
+/// How long after one packet the next one is sent; times are in thousandths of this.
+pub const PLACE: u64 = 1000;
+
+/// A datagram that comes.
+#[derive(Clone, PartialEq, Eq, PartialOrd, Ord, Debug)]
+pub struct Arrival {
+    /// When it comes, in thousandths of a place.
+    pub time: u64,
+    /// Tells arrivals of one time apart.
+    serial: u64,
+    pub feed: Feed,
+    pub bytes: Vec<u8>,
+}
+
+/// All datagrams in the order in which they come.
+pub struct Feeds {
+    packets: Packets,
+    shape: Shape,
+    /// Its own numbers, so that the packets of a seed are the same whatever is lost.
+    random: Random,
+    /// The number of the packet that is sent next; none where all were sent.
+    next: Option<u32>,
+    /// Packets that are lost on both feeds.
+    lost: BTreeSet<u32>,
+    waiting: BinaryHeap<Reverse<Arrival>>,
+    serial: u64,
+    /// The security whose snapshot comes next.
+    turn: usize,
+}
+
+impl Feeds {
+    pub fn new(packets: Packets, shape: Shape, seed: u64) -> Feeds {
+        let mut random = Random::new(seed, "feeds");
+        let lost = bursts(&shape, &mut random);
+        Feeds { packets, shape, random, next: Some(1), lost, waiting: BinaryHeap::new(), serial: 0, turn: 0 }
+    }
+
+    fn put(&mut self, time: u64, feed: Feed, bytes: Vec<u8>) {
+        self.serial += 1;
+        self.waiting.push(Reverse(Arrival { time, serial: self.serial, feed, bytes }));
+    }
+
+    /// Sends a packet on both feeds, and a snapshot where it is time for one.
+    fn send(&mut self, number: u32) {
+        let bytes = self.packets.packet(number);
+        let now = u64::from(number) * PLACE;
+        let is_lost_on_a = self.random.happens(self.shape.lost);
+        let is_lost_on_b = self.random.happens(self.shape.lost) && !is_lost_on_a;
+        let is_spoilt = self.random.happens(self.shape.spoilt) && !is_lost_on_a && !is_lost_on_b;
+        let spoilt = [Feed::A, Feed::B][self.random.below(2)];
+        if !self.lost.contains(&number) {
+            for (feed, lag, is_lost) in [(Feed::A, PLACE / 10, is_lost_on_a), (Feed::B, PLACE * 6 / 10, is_lost_on_b)] {
+                if !is_lost {
+                    self.send_on(feed, now + lag, &bytes, is_spoilt && feed == spoilt);
+                }
+            }
+        }
+        // No number but 0 is a multiple of 0.
+        if number.is_multiple_of(self.shape.snapshot_every) {
+            let snapshot = self.packets.snapshot(self.turn, number);
+            self.turn = (self.turn + 1) % self.packets.market.list.len();
+            let time = now + PLACE * 9 / 10 + self.random.below(PLACE as usize) as u64;
+            self.put(time, Feed::S, snapshot);
+        }
+    }
+
+    /// Sends a packet on one feed, now and then late, twice or spoilt.
+    fn send_on(&mut self, feed: Feed, mut time: u64, bytes: &[u8], is_spoilt: bool) {
+        if self.random.happens(self.shape.late) {
+            time += self.places();
+        }
+        if self.random.happens(self.shape.repeated) {
+            let again = time + self.places();
+            self.put(again, feed, bytes.to_vec());
+        }
+        let mut bytes = bytes.to_vec();
+        if is_spoilt {
+            // A byte more than a cut packet, which could else end right after a message.
+            bytes.truncate(13 + self.random.below(bytes.len() - 13));
+            bytes.push(1);
+        }
+        self.put(time, feed, bytes);
+    }
+
+    /// Gives one to eight places.
+    fn places(&mut self) -> u64 {
+        PLACE * (1 + self.random.below(MOST_PLACES_LATE) as u64)
+    }
+}
+
+/// Chooses the packets that are lost on both feeds: so many in a row, evenly spread, with some play.
+fn bursts(shape: &Shape, random: &mut Random) -> BTreeSet<u32> {
+    let span = shape.packets.unwrap_or(0) / (shape.bursts + 1);
+    (1..=shape.bursts)
+        .flat_map(|place| {
+            let first = span * place + random.below(span as usize / 4 + 1) as u32;
+            first..first + BURST_LENGTH
+        })
+        .collect()
+}
+
+impl Iterator for Feeds {
+    type Item = Arrival;
+
+    fn next(&mut self) -> Option<Arrival> {
+        loop {
+            let Some(number) = self.next else {
+                return self.waiting.pop().map(|Reverse(arrival)| arrival);
+            };
+            // Nothing that is sent from here on comes before this time.
+            let is_due = |first: &Reverse<Arrival>| first.0.time < u64::from(number) * PLACE;
+            if self.waiting.peek().is_some_and(is_due) {
+                return self.waiting.pop().map(|Reverse(arrival)| arrival);
+            }
+            self.send(number);
+            let last = self.shape.packets.unwrap_or(u32::MAX);
+            self.next = number.checked_add(1).filter(|next| *next <= last);
+        }
+    }
+}
+
+#[cfg(test)]
+mod tests {
+    use super::*;
+    use crate::market::Market;
+    use std::collections::BTreeMap;
+
+    fn arrivals(preset: &str, change: impl FnOnce(&mut Shape)) -> Vec<Arrival> {
+        let mut shape = Shape::of_preset(preset).unwrap();
+        shape.packets = Some(3_000);
+        change(&mut shape);
+        Feeds::new(Packets::new(Market::new(&shape, 5)), shape, 5).collect()
+    }
+
+    /// Gives the first copy of each packet's number.
+    fn first_copies(arrivals: &[Arrival]) -> BTreeMap<u32, &[u8]> {
+        let mut copies = BTreeMap::new();
+        for arrival in arrivals.iter().filter(|arrival| arrival.feed != Feed::S) {
+            let number = u32::from_le_bytes(*arrival.bytes.first_chunk().unwrap());
+            copies.entry(number).or_insert(arrival.bytes.as_slice());
+        }
+        copies
+    }
+
+    #[test]
+    fn a_seed_gives_the_same_packets_whatever_is_lost() {
+        let one = arrivals("lossy", |_| {});
+        assert!(one == arrivals("lossy", |_| {}));
+        let other = arrivals("lossy", |shape| (shape.lost, shape.late, shape.bursts) = (0, 0, 0));
+        let (one, other) = (first_copies(&one), first_copies(&other));
+        assert_eq!(other.len(), 3_000);
+        assert_eq!(one.len(), 3_000 - 20 * BURST_LENGTH as usize);
+        assert!(one.iter().all(|(number, bytes)| other[number] == *bytes));
+    }
+
+    #[test]
+    fn arrivals_come_in_the_order_of_their_times() {
+        let arrivals = arrivals("endless", |_| {});
+        assert!(arrivals.is_sorted_by_key(|arrival| arrival.time));
+        let count = |feed| arrivals.iter().filter(|arrival| arrival.feed == feed).count();
+        assert_eq!(count(Feed::S), 3_000 / 64);
+        assert!((2_950..3_030).contains(&count(Feed::A)) && (2_950..3_030).contains(&count(Feed::B)));
+    }
+
+    #[test]
+    fn a_spoilt_copy_stands_beside_a_whole_one() {
+        let spoilt = arrivals("day", |shape| (shape.spoilt, shape.late) = (1_000, 0));
+        let whole = arrivals("day", |shape| shape.late = 0);
+        let copies = |arrivals: &[Arrival]| -> BTreeMap<u32, Vec<Vec<u8>>> {
+            let mut copies: BTreeMap<u32, Vec<Vec<u8>>> = BTreeMap::new();
+            for arrival in arrivals {
+                let number = u32::from_le_bytes(*arrival.bytes.first_chunk().unwrap());
+                copies.entry(number).or_default().push(arrival.bytes.clone());
+            }
+            copies
+        };
+        let whole = copies(&whole);
+        let mut changed = 0;
+        for (number, copies) in copies(&spoilt) {
+            assert!(copies.contains(&whole[&number][0]));
+            changed += usize::from(copies.iter().any(|copy| *copy != whole[&number][0]));
+        }
+        assert!((200..400).contains(&changed), "{changed}");
+    }
+}

@@ -1,0 +1,130 @@
+//! `generate`: writes the capture or the pcap file of a made-up channel to standard output.
+
+mod datagram;
+mod feeds;
+mod market;
+mod packets;
+mod pcap;
+mod random;
+mod shape;
+mod text;
+
+use feeds::Feeds;
+use market::Market;
+use packets::Packets;
+use pcap::PcapWriter;
+use shape::{PRESETS, Shape};
+use std::fs::File;
+use std::io::{self, BufWriter, Write};
+use std::process::ExitCode;
+
+const HELP: &str = "\
+Usage: generate PRESET [options] > file
+
+Presets: small, day, wide, lossy, deep, endless (goes on for as long as it is read)
+
+      --form FORM     text (a capture) or pcap [default: text]
+      --channel FILE  with pcap: writes the instruments and the feeds' addresses to FILE
+      --seed N        the same seed gives the same bytes [default: 1]
+      --packets N     packets of the complete feed, in place of the preset's
+      --spoilt N      of 10,000 datagrams so many are spoilt on one feed [default: 0]
+  -h, --help          prints this
+";
+
+/// In which form datagrams are written.
+#[derive(Clone, PartialEq, Eq, Debug)]
+enum Form {
+    Text,
+    Pcap,
+}
+
+struct Arguments {
+    shape: Shape,
+    form: Form,
+    channel: Option<String>,
+    seed: u64,
+}
+
+impl Arguments {
+    /// Reads the words behind the program's name; none where help is asked for.
+    fn of(mut words: impl Iterator<Item = String>) -> Result<Option<Arguments>, String> {
+        let preset = words.next().ok_or("no preset")?;
+        if preset == "--help" || preset == "-h" {
+            return Ok(None);
+        }
+        let no_preset = || format!("no preset {preset}; there are {}", PRESETS.join(", "));
+        let shape = Shape::of_preset(&preset).ok_or_else(no_preset)?;
+        let mut arguments = Arguments { shape, form: Form::Text, channel: None, seed: 1 };
+        while let Some(word) = words.next() {
+            if word == "--help" || word == "-h" {
+                return Ok(None);
+            }
+            let value = words.next().ok_or(format!("{word} wants a value"))?;
+            arguments.take(&word, value)?;
+        }
+        if (arguments.form == Form::Pcap) != arguments.channel.is_some() {
+            return Err("--form pcap and --channel FILE go together".to_owned());
+        }
+        Ok(Some(arguments))
+    }
+
+    fn take(&mut self, word: &str, value: String) -> Result<(), String> {
+        let no_number = |_| format!("{word} {value}: no such number");
+        match (word, value.as_str()) {
+            ("--form", "text") => self.form = Form::Text,
+            ("--form", "pcap") => self.form = Form::Pcap,
+            ("--form", _) => return Err(format!("no form {value}; there are text and pcap")),
+            ("--channel", _) => self.channel = Some(value),
+            ("--seed", _) => self.seed = value.parse().map_err(no_number)?,
+            ("--packets", _) => self.shape.packets = Some(value.parse().map_err(no_number)?),
+            ("--spoilt", _) => self.shape.spoilt = value.parse().map_err(no_number)?,
+            _ => return Err(format!("no option {word}")),
+        }
+        Ok(())
+    }
+}
+
+/// Writes all that was asked for.
+fn generate(arguments: Arguments) -> io::Result<()> {
+    let Arguments { shape, form, channel, seed } = arguments;
+    let market = Market::new(&shape, seed);
+    let mut out = BufWriter::with_capacity(1 << 18, io::stdout().lock());
+    if let Some(file) = channel {
+        let mut file = BufWriter::new(File::create(file)?);
+        pcap::write_channel(&market, &mut file)?;
+        file.flush()?;
+    }
+    if form == Form::Pcap {
+        let mut writer = PcapWriter::new(out, seed)?;
+        for arrival in Feeds::new(Packets::new(market), shape, seed) {
+            writer.write_arrival(&arrival)?;
+        }
+        return writer.flush();
+    }
+    text::write_instruments(&market, &mut out)?;
+    let mut line = Vec::new();
+    for arrival in Feeds::new(Packets::new(market), shape, seed) {
+        text::write_arrival(&arrival, &mut line, &mut out)?;
+    }
+    out.flush()
+}
+
+fn main() -> ExitCode {
+    let outcome = match Arguments::of(std::env::args().skip(1)) {
+        Ok(Some(arguments)) => generate(arguments),
+        Ok(None) => io::stdout().write_all(HELP.as_bytes()),
+        Err(why) => {
+            eprintln!("{why}\n\n{HELP}");
+            return ExitCode::from(2);
+        }
+    };
+    match outcome {
+        Ok(()) => ExitCode::SUCCESS,
+        // Whoever read has had enough.
+        Err(why) if why.kind() == io::ErrorKind::BrokenPipe => ExitCode::SUCCESS,
+        Err(why) => {
+            eprintln!("{why}");
+            ExitCode::FAILURE
+        }
+    }
+}

@@ -1,0 +1,89 @@
+//! The packets of the complete feed.
+
+use crate::datagram::{Datagram, Entry};
+use crate::market::Market;
+
+/// The sending time of packet 0, in nanoseconds since 1970.
+const FIRST_TIME: u64 = 1_750_000_000_000_000_000;
+
+/// How far apart packets are sent, in nanoseconds.
+pub const PACKET_TIME: u64 = 25_000;
+
+/// Gives the sending time of a packet in nanoseconds since 1970.
+pub fn time_of(packet: u32) -> u64 {
+    FIRST_TIME + u64::from(packet) * PACKET_TIME
+}
+
+/// Makes packet after packet.
+pub struct Packets {
+    pub market: Market,
+    /// What is left of the market's opening, the next one last.
+    opening: Vec<(usize, usize)>,
+    /// How many messages the event at hand still has.
+    messages_left: usize,
+    /// Which securities the event at hand is about.
+    securities: Vec<usize>,
+}
+
+impl Packets {
+    pub fn new(market: Market) -> Packets {
+        let opening = market.opening();
+        Packets { market, opening, messages_left: 0, securities: Vec::new() }
+    }
+
+    /// Makes the packet of a number.
+    pub fn packet(&mut self, number: u32) -> Vec<u8> {
+        const HOW_MANY: [u32; 3] = [60, 27, 13];
+        let time = time_of(number);
+        let mut datagram = Datagram::new(number, time);
+        for _ in 0..=self.market.random().pick(&HOW_MANY) {
+            self.put_message(&mut datagram, time);
+        }
+        datagram.into_bytes()
+    }
+
+    fn put_message(&mut self, datagram: &mut Datagram, time: u64) {
+        const TRADE: u16 = 42;
+        if self.market.random().happens(100) {
+            return datagram.put_heartbeat();
+        }
+        if self.market.random().happens(200) {
+            return datagram.put_plain(TRADE, &[7; 40]);
+        }
+        if self.messages_left == 0 {
+            self.messages_left = 1 + self.market.random().pick(&[74, 17, 6, 3]);
+            self.securities = self.market.securities_of_event();
+        }
+        self.messages_left -= 1;
+        let ends_event = self.messages_left == 0;
+        if ends_event && self.market.random().happens(200) {
+            return datagram.put_event_end(self.market.random().below(6));
+        }
+        let entries = self.entries();
+        let has_orders = self.market.random().happens(500);
+        datagram.put_book(time, ends_event, &entries, has_orders);
+    }
+
+    /// Makes the entries of a message; the first messages open the market.
+    fn entries(&mut self) -> Vec<Entry> {
+        const HOW_MANY: [u32; 6] = [36, 29, 15, 10, 6, 4];
+        const OPENING: usize = 6;
+        let count = if self.opening.is_empty() { 1 + self.market.random().pick(&HOW_MANY) } else { OPENING };
+        let mut entries = Vec::with_capacity(count);
+        for _ in 0..count {
+            entries.push(match self.opening.pop() {
+                Some((security, side)) => self.market.append(security, side),
+                None => self.market.entry_for_one_of(&self.securities),
+            });
+        }
+        entries
+    }
+
+    /// Makes the datagram of a snapshot of one security as it is after packet `last`.
+    pub fn snapshot(&self, security: usize, last: u32) -> Vec<u8> {
+        let security = &self.market.list[security];
+        let mut datagram = Datagram::new(1, 0);
+        datagram.put_snapshot(security.id, last, &security.sides);
+        datagram.into_bytes()
+    }
+}
