@@ -70,7 +70,8 @@ pub(crate) fn send<R: Wait, A: Allocator + Copy>(
     requires continues { Continues writer.desk.shown.value update }
     ensures pending { drop result.0.behind result.0.log.items ≡ [] }
     ensures sheet { IsSheet result.0.desk.shown.value }
-    ensures slots { length result.0.desk.shown.value.rows.items ≡ length writer.desk.shown.value.rows.items }
+    ensures slots { length result.0.desk.shown.value.rows.items
+        ≡ length writer.desk.shown.value.rows.items }
     ensures shown { MatchResult result.1
         (λ _. result.0.desk.shown.value.front ≡ update.front)
         (λ _. result.0.desk.shown.value.front ≡ writer.desk.shown.value.front) }
@@ -140,7 +141,8 @@ impl<A: Allocator + Copy> Publisher<A> {
                 requires continues { Continues writer.desk.shown.value update }
                 ensures pending { drop result.0.behind result.0.log.items ≡ [] }
                 ensures sheet { IsSheet result.0.desk.shown.value }
-                ensures slots { length result.0.desk.shown.value.rows.items ≡ length writer.desk.shown.value.rows.items }
+                ensures slots { length result.0.desk.shown.value.rows.items
+                    ≡ length writer.desk.shown.value.rows.items }
                 ensures shown { MatchResult result.1
                     (λ _. result.0.desk.shown.value.front ≡ update.front)
                     (λ _. result.0.desk.shown.value.front ≡ writer.desk.shown.value.front) }

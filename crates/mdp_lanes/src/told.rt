@@ -27,8 +27,8 @@ impl Model for Told {
 }
 
 impl Told {
-    /// Tells whether all that this reader has read and was told of is among these steps; then it is a beginning of them. Of a token
-    /// that the publisher made after a read that is so, but no clause knows which of two calls in two threads came first.
+    /// Tells whether all that this reader has read and was told of is among these steps, of which it is then a beginning. A token that
+    /// the publisher made after the reader's last read covers it, but no clause knows which of two calls came first.
     pub fn covers<A: Allocator + Copy>(&self, reader: &Reader<A>) -> bool
         requires { reader.now.board ≡ self.now.board }
         ensures { IsTrue result ↔ IsPrefix reader.now.front self.now.steps }

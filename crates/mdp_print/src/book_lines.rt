@@ -3,7 +3,8 @@
 ghost use Rattle.std.specs.Prelude.{◌≡◌, ◌+◌, ◌<◌, ◌≤◌, ◌++◌, ◌∷◌, [], length, codes, vec_len, vec_capacity, OnOk, OnErr};
 ghost use Rattle.mdp_quotes.specs.Consolidation.{quotes_of};
 ghost use Rattle.mdp_quotes.specs.Merged.{merged, merged_quotes};
-ghost use Rattle.mdp_print.specs.Texts.{direct_line, implied_line, consolidated_line, quotes_line, sides_line, totals_text};
+ghost use Rattle.mdp_print.specs.Texts.{direct_line, implied_line, consolidated_line};
+ghost use Rattle.mdp_print.specs.Texts.{quotes_line, sides_line, totals_text};
 ghost use Rattle.mdp_print.specs.Pieces.{BeginsWith};
 
 use crate::head::Head;
@@ -74,10 +75,11 @@ fn put_merged_sides<A: Allocator>(
     head: &Head,
     sides: &Sides,
 ) -> Result<(), Memory>
-    ensures ok { OnOk result (out.new.items ≡ out.old.items ++ quotes_line head.now (merged_quotes sides.now)) }
+    ensures ok { OnOk result
+        (out.new.items ≡ out.old.items ++ quotes_line head.now (merged_quotes sides.now)) }
     ensures err { OnErr result (BeginsWith out.new.items out.old.items) }
-    ensures full { OnErr result
-        (vec_capacity out.old < vec_len out.old + length (quotes_line head.now (merged_quotes sides.now))) }
+    ensures full { OnErr result (vec_capacity out.old
+        < vec_len out.old + length (quotes_line head.now (merged_quotes sides.now))) }
 {
     put_head(out, b'C', head)?;
     let implied = sides.implied_bids.printed();
@@ -152,10 +154,11 @@ pub fn put_merged<A: Allocator>(
     sides: &Sides,
 ) -> Result<(), Memory>
     requires order { quotes_of sides.now ≡ merged_quotes sides.now }
-    ensures ok { OnOk result (out.new.items ≡ out.old.items ++ quotes_line head.now (quotes_of sides.now)) }
+    ensures ok { OnOk result
+        (out.new.items ≡ out.old.items ++ quotes_line head.now (quotes_of sides.now)) }
     ensures err { OnErr result (out.new.items ≡ out.old.items) }
-    ensures full { OnErr result
-        (vec_capacity out.old < vec_len out.old + length (quotes_line head.now (quotes_of sides.now))) }
+    ensures full { OnErr result (vec_capacity out.old
+        < vec_len out.old + length (quotes_line head.now (quotes_of sides.now))) }
 {
     let start = out.len();
     let outcome = put_merged_sides(out, head, sides);
