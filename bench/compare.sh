@@ -62,11 +62,13 @@ row() {
 }
 # The n-th figure of a command's line of by_turns.
 figure() { sed -n "$2p" "$tmp/$1" | cut -d' ' -f"$3"; }
-less() { awk -v a="$1" -v b="$2" 'BEGIN { print a - b }'; }
+megabytes() { figure "$1" "$2" 5 | awk '{ print $1 / 1024 }'; }
+minus() { awk -v a="$1" -v b="$2" 'BEGIN { print a - b }'; }
 
 commit=$(git -C "$here" rev-parse --short HEAD 2> "$tmp/told" || echo unknown)
 datagrams=$(grep -c '^[ABS] ' "$tmp/whole")
-echo "\`$preset\`, seed $seed: $datagrams datagrams, $bytes bytes of text, commit $commit; $(nproc) processors, load $(cut -d' ' -f1-3 /proc/loadavg)"
+echo "\`$preset\`, seed $seed: $datagrams datagrams, $bytes bytes of text."
+echo "Commit $commit, $(date -u +%Y-%m-%d), $(nproc) processors, load $(cut -d' ' -f1-3 /proc/loadavg)."
 echo
 echo "| | mdp_handler | plain_handler | Ratio |"
 echo "|---|---|---|---|"
@@ -77,9 +79,9 @@ if command -v valgrind > "$tmp/told"; then
     whole_2=$(instructions "$tmp/piece" "$plain" --in-order)
     books_2=$(instructions "$tmp/piece" "$plain" --books)
     row "Millions of instructions, reading" "$reading_1" "$reading_2" 1
-    row "handling" "$(less "$whole_1" "$reading_1")" "$(less "$whole_2" "$reading_2")" 1
+    row "handling" "$(minus "$whole_1" "$reading_1")" "$(minus "$whole_2" "$reading_2")" 1
     row "whole" "$whole_1" "$whole_2" 1
-    echo "| handling, books alone | | $(less "$books_2" "$reading_2") | |"
+    echo "| handling, books alone | | $(minus "$books_2" "$reading_2") | |"
 else
     echo "compare.sh: no valgrind here, so no instructions" >&2
 fi
@@ -90,13 +92,12 @@ for which in "least 3" "median 4"; do
     reading_1=$(figure seconds.late 1 "$column") reading_2=$(figure seconds.late 2 "$column")
     whole_1=$(figure seconds 1 "$column") whole_2=$(figure seconds 2 "$column")
     row "Processor seconds, $name of $runs, reading" "$reading_1" "$reading_2" 3
-    row "handling" "$(less "$whole_1" "$reading_1")" "$(less "$whole_2" "$reading_2")" 3
+    row "handling" "$(minus "$whole_1" "$reading_1")" "$(minus "$whole_2" "$reading_2")" 3
     row "whole" "$whole_1" "$whole_2" 3
 done
 row "Seconds of the clock, least of $runs" "$(figure seconds 1 1)" "$(figure seconds 2 1)" 3
 row "median" "$(figure seconds 1 2)" "$(figure seconds 2 2)" 3
-row "Peak memory, MB" "$(less "$(figure seconds 1 5)" 0 | awk '{ print $1 / 1024 }')" \
-    "$(figure seconds 2 5 | awk '{ print $1 / 1024 }')" 1
+row "Peak memory, MB" "$(megabytes seconds 1)" "$(megabytes seconds 2)" 1
 echo "| Same bytes, capture | $same | | |"
 echo "| Same bytes, pcap file | $same_pcap | | |"
 [ "$same" = yes ] && [ "$same_pcap" != NO ]
