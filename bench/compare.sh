@@ -31,16 +31,19 @@ with_late_line() { cat "$1" && echo "I 2147483647 LATE O"; }
 "$built/generate" "$preset" --seed "$seed" --form pcap --channel "$tmp/channel" > "$tmp/pcap" || exit 2
 with_late_line "$tmp/whole" > "$tmp/whole.late"
 head -n "$lines" "$tmp/whole" > "$tmp/piece"
+count=$(grep -c '^[ABS] ' "$tmp/piece")
+"$built/generate" "$preset" --seed "$seed" --form pcap --channel "$tmp/channel" --datagrams "$count" > "$tmp/piece.pcap" || exit 2
 with_late_line "$tmp/piece" > "$tmp/piece.late"
 
 # The bytes: of the whole capture, and of the pcap file where the program reads one.
 "$program" --in-order < "$tmp/whole" > "$tmp/text.program" 2> "$tmp/told"
 "$plain" --in-order < "$tmp/whole" > "$tmp/text.plain" 2> "$tmp/told"
 "$plain" --channel "$tmp/channel" < "$tmp/pcap" > "$tmp/text.plain.pcap" 2> "$tmp/told"
-same=yes same_pcap="yes (plain_handler alone reads pcap)"
+same=yes same_pcap="yes, of plain_handler" reads_pcap=no
 cmp -s "$tmp/text.program" "$tmp/text.plain" || same=NO
 cmp -s "$tmp/text.plain" "$tmp/text.plain.pcap" || same_pcap=NO
 if "$program" --help 2> "$tmp/told" | grep -q -e --channel; then
+    reads_pcap=yes
     "$program" --channel "$tmp/channel" < "$tmp/pcap" > "$tmp/text.program.pcap" 2> "$tmp/told"
     [ "$same_pcap" = NO ] || same_pcap=yes
     cmp -s "$tmp/text.program.pcap" "$tmp/text.plain.pcap" || same_pcap=NO
@@ -81,6 +84,9 @@ if command -v valgrind > "$tmp/told"; then
     row "Millions of instructions, reading" "$reading_1" "$reading_2" 1
     row "handling" "$(minus "$whole_1" "$reading_1")" "$(minus "$whole_2" "$reading_2")" 1
     row "whole" "$whole_1" "$whole_2" 1
+    pcap_1="" pcap_2=$(instructions "$tmp/piece.pcap" "$plain" --channel "$tmp/channel")
+    [ $reads_pcap = no ] || pcap_1=$(instructions "$tmp/piece.pcap" "$program" --channel "$tmp/channel")
+    echo "| whole, as a pcap file | $pcap_1 | $pcap_2 | |"
     echo "| handling, books alone | | $(minus "$books_2" "$reading_2") | |"
 else
     echo "compare.sh: no valgrind here, so no instructions" >&2
