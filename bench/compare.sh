@@ -18,6 +18,7 @@ case $preset in
     *) echo "compare.sh: the presets are small, day, wide, lossy and deep" >&2; exit 2 ;;
 esac
 [ -x "$program" ] || { echo "compare.sh: no program $program; 'make run' builds it" >&2; exit 2; }
+echo "building the bench" >&2
 (cd "$here" && cargo build --quiet --release --offline) || exit 2
 built=${CARGO_TARGET_DIR:-$here/target}/release
 plain=$built/plain_handler
