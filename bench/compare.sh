@@ -18,6 +18,7 @@ case $preset in
     *) echo "compare.sh: the presets are small, day, wide, lossy and deep" >&2; exit 2 ;;
 esac
 [ -x "$program" ] || { echo "compare.sh: no program $program; 'make run' builds it" >&2; exit 2; }
+echo "building the bench" >&2
 (cd "$here" && cargo build --quiet --release --offline) || exit 2
 built=${CARGO_TARGET_DIR:-$here/target}/release
 plain=$built/plain_handler
@@ -31,16 +32,19 @@ with_late_line() { cat "$1" && echo "I 2147483647 LATE O"; }
 "$built/generate" "$preset" --seed "$seed" --form pcap --channel "$tmp/channel" > "$tmp/pcap" || exit 2
 with_late_line "$tmp/whole" > "$tmp/whole.late"
 head -n "$lines" "$tmp/whole" > "$tmp/piece"
+count=$(grep -c '^[ABS] ' "$tmp/piece")
+"$built/generate" "$preset" --seed "$seed" --form pcap --channel "$tmp/channel" --datagrams "$count" > "$tmp/piece.pcap" || exit 2
 with_late_line "$tmp/piece" > "$tmp/piece.late"
 
 # The bytes: of the whole capture, and of the pcap file where the program reads one.
 "$program" --in-order < "$tmp/whole" > "$tmp/text.program" 2> "$tmp/told"
 "$plain" --in-order < "$tmp/whole" > "$tmp/text.plain" 2> "$tmp/told"
 "$plain" --channel "$tmp/channel" < "$tmp/pcap" > "$tmp/text.plain.pcap" 2> "$tmp/told"
-same=yes same_pcap="yes (plain_handler alone reads pcap)"
+same=yes same_pcap="yes, of plain_handler" reads_pcap=no
 cmp -s "$tmp/text.program" "$tmp/text.plain" || same=NO
 cmp -s "$tmp/text.plain" "$tmp/text.plain.pcap" || same_pcap=NO
 if "$program" --help 2> "$tmp/told" | grep -q -e --channel; then
+    reads_pcap=yes
     "$program" --channel "$tmp/channel" < "$tmp/pcap" > "$tmp/text.program.pcap" 2> "$tmp/told"
     [ "$same_pcap" = NO ] || same_pcap=yes
     cmp -s "$tmp/text.program.pcap" "$tmp/text.plain.pcap" || same_pcap=NO
@@ -62,11 +66,13 @@ row() {
 }
 # The n-th figure of a command's line of by_turns.
 figure() { sed -n "$2p" "$tmp/$1" | cut -d' ' -f"$3"; }
-less() { awk -v a="$1" -v b="$2" 'BEGIN { print a - b }'; }
+megabytes() { figure "$1" "$2" 5 | awk '{ print $1 / 1024 }'; }
+minus() { awk -v a="$1" -v b="$2" 'BEGIN { print a - b }'; }
 
 commit=$(git -C "$here" rev-parse --short HEAD 2> "$tmp/told" || echo unknown)
 datagrams=$(grep -c '^[ABS] ' "$tmp/whole")
-echo "\`$preset\`, seed $seed: $datagrams datagrams, $bytes bytes of text, commit $commit; $(nproc) processors, load $(cut -d' ' -f1-3 /proc/loadavg)"
+echo "\`$preset\`, seed $seed: $datagrams datagrams, $bytes bytes of text."
+echo "Commit $commit, $(date -u +%Y-%m-%d), $(nproc) processors, load $(cut -d' ' -f1-3 /proc/loadavg)."
 echo
 echo "| | mdp_handler | plain_handler | Ratio |"
 echo "|---|---|---|---|"
@@ -77,9 +83,12 @@ if command -v valgrind > "$tmp/told"; then
     whole_2=$(instructions "$tmp/piece" "$plain" --in-order)
     books_2=$(instructions "$tmp/piece" "$plain" --books)
     row "Millions of instructions, reading" "$reading_1" "$reading_2" 1
-    row "handling" "$(less "$whole_1" "$reading_1")" "$(less "$whole_2" "$reading_2")" 1
+    row "handling" "$(minus "$whole_1" "$reading_1")" "$(minus "$whole_2" "$reading_2")" 1
     row "whole" "$whole_1" "$whole_2" 1
-    echo "| handling, books alone | | $(less "$books_2" "$reading_2") | |"
+    pcap_1="" pcap_2=$(instructions "$tmp/piece.pcap" "$plain" --channel "$tmp/channel")
+    [ $reads_pcap = no ] || pcap_1=$(instructions "$tmp/piece.pcap" "$program" --channel "$tmp/channel")
+    echo "| whole, as a pcap file | $pcap_1 | $pcap_2 | |"
+    echo "| handling, books alone | | $(minus "$books_2" "$reading_2") | |"
 else
     echo "compare.sh: no valgrind here, so no instructions" >&2
 fi
@@ -90,13 +99,12 @@ for which in "least 3" "median 4"; do
     reading_1=$(figure seconds.late 1 "$column") reading_2=$(figure seconds.late 2 "$column")
     whole_1=$(figure seconds 1 "$column") whole_2=$(figure seconds 2 "$column")
     row "Processor seconds, $name of $runs, reading" "$reading_1" "$reading_2" 3
-    row "handling" "$(less "$whole_1" "$reading_1")" "$(less "$whole_2" "$reading_2")" 3
+    row "handling" "$(minus "$whole_1" "$reading_1")" "$(minus "$whole_2" "$reading_2")" 3
     row "whole" "$whole_1" "$whole_2" 3
 done
 row "Seconds of the clock, least of $runs" "$(figure seconds 1 1)" "$(figure seconds 2 1)" 3
 row "median" "$(figure seconds 1 2)" "$(figure seconds 2 2)" 3
-row "Peak memory, MB" "$(less "$(figure seconds 1 5)" 0 | awk '{ print $1 / 1024 }')" \
-    "$(figure seconds 2 5 | awk '{ print $1 / 1024 }')" 1
+row "Peak memory, MB" "$(megabytes seconds 1)" "$(megabytes seconds 2)" 1
 echo "| Same bytes, capture | $same | | |"
 echo "| Same bytes, pcap file | $same_pcap | | |"
 [ "$same" = yes ] && [ "$same_pcap" != NO ]

@@ -27,6 +27,7 @@ Presets: small, day, wide, lossy, deep, endless (goes on for as long as it is re
       --channel FILE  with pcap: writes the instruments and the feeds' addresses to FILE
       --seed N        the same seed gives the same bytes [default: 1]
       --packets N     packets of the complete feed, in place of the preset's
+      --datagrams N   ends after so many datagrams
       --spoilt N      of 10,000 datagrams so many are spoilt on one feed [default: 0]
   -h, --help          prints this
 ";
@@ -43,6 +44,8 @@ struct Arguments {
     form: Form,
     channel: Option<String>,
     seed: u64,
+    /// How many datagrams are written at most.
+    datagrams: usize,
 }
 
 impl Arguments {
@@ -54,7 +57,7 @@ impl Arguments {
         }
         let no_preset = || format!("no preset {preset}; there are {}", PRESETS.join(", "));
         let shape = Shape::of_preset(&preset).ok_or_else(no_preset)?;
-        let mut arguments = Arguments { shape, form: Form::Text, channel: None, seed: 1 };
+        let mut arguments = Arguments { shape, form: Form::Text, channel: None, seed: 1, datagrams: usize::MAX };
         while let Some(word) = words.next() {
             if word == "--help" || word == "-h" {
                 return Ok(None);
@@ -77,6 +80,7 @@ impl Arguments {
             ("--channel", _) => self.channel = Some(value),
             ("--seed", _) => self.seed = value.parse().map_err(no_number)?,
             ("--packets", _) => self.shape.packets = Some(value.parse().map_err(no_number)?),
+            ("--datagrams", _) => self.datagrams = value.parse().map_err(no_number)?,
             ("--spoilt", _) => self.shape.spoilt = value.parse().map_err(no_number)?,
             _ => return Err(format!("no option {word}")),
         }
@@ -86,7 +90,7 @@ impl Arguments {
 
 /// Writes all that was asked for.
 fn generate(arguments: Arguments) -> io::Result<()> {
-    let Arguments { shape, form, channel, seed } = arguments;
+    let Arguments { shape, form, channel, seed, datagrams } = arguments;
     let market = Market::new(&shape, seed);
     let mut out = BufWriter::with_capacity(1 << 18, io::stdout().lock());
     if let Some(file) = channel {
@@ -96,14 +100,14 @@ fn generate(arguments: Arguments) -> io::Result<()> {
     }
     if form == Form::Pcap {
         let mut writer = PcapWriter::new(out, seed)?;
-        for arrival in Feeds::new(Packets::new(market), shape, seed) {
+        for arrival in Feeds::new(Packets::new(market), shape, seed).take(datagrams) {
             writer.write_arrival(&arrival)?;
         }
         return writer.flush();
     }
     text::write_instruments(&market, &mut out)?;
     let mut line = Vec::new();
-    for arrival in Feeds::new(Packets::new(market), shape, seed) {
+    for arrival in Feeds::new(Packets::new(market), shape, seed).take(datagrams) {
         text::write_arrival(&arrival, &mut line, &mut out)?;
     }
     out.flush()

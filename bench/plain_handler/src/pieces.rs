@@ -1,6 +1,6 @@
 //! Short texts that are copied in blocks of a fixed size.
 
-use std::ptr::{copy_nonoverlapping, read_unaligned};
+use std::ptr::{copy, copy_nonoverlapping};
 
 /// Copies `length` bytes in blocks of 64.
 ///
@@ -11,8 +11,8 @@ pub unsafe fn copy_blocks(to: *mut u8, from: *const u8, length: usize) -> *mut u
     unsafe {
         let mut done = 0;
         while done < length {
-            let block: [u8; 64] = read_unaligned(from.add(done).cast());
-            to.add(done).cast::<[u8; 64]>().write_unaligned(block);
+            // A block may run over into the place that it goes to.
+            copy(from.add(done), to.add(done), 64);
             done += 64;
         }
         to.add(length)

@@ -172,12 +172,16 @@ fn wait_until(time: Instant) {
     }
 }
 
-/// Waits until the text is so long, a second at most.
-fn wait_for(length: &AtomicU64, wanted: u64) {
+/// Waits until the text is so long, a second at most, and tells whether it got so long.
+fn wait_for(length: &AtomicU64, wanted: u64) -> bool {
     let end = Instant::now() + Duration::from_secs(1);
-    while length.load(Ordering::Acquire) < wanted && Instant::now() < end {
+    while length.load(Ordering::Acquire) < wanted {
+        if Instant::now() > end {
+            return false;
+        }
         std::thread::yield_now();
     }
+    true
 }
 
 /// Sends all records, and gives when each was sent, and when which length of text came.
@@ -199,13 +203,13 @@ fn send(
     input.write_all(head)?;
     let mut sent = Vec::with_capacity(records.len());
     let start = Instant::now();
+    let mut waits = arguments.pace == 0;
     for (place, (record, wanted)) in records.iter().zip(lengths).enumerate() {
         wait_until(start + Duration::from_micros(arguments.pace * place as u64));
         sent.push(Instant::now());
         input.write_all(record)?;
-        if arguments.pace == 0 {
-            wait_for(&length, *wanted);
-        }
+        // A program that prints at its end alone is waited for once.
+        waits = waits && wait_for(&length, *wanted);
     }
     drop(input);
     let comings = watcher.join().map_err(|_| no_pipe())??;
@@ -269,5 +273,31 @@ fn main() -> ExitCode {
             eprintln!("latency: {why}");
             ExitCode::FAILURE
         }
+    }
+}
+
+#[cfg(test)]
+mod tests {
+    use super::*;
+
+    #[test]
+    fn a_record_takes_until_all_of_its_text_came() {
+        let start = Instant::now();
+        let at = |micros| start + Duration::from_micros(micros);
+        let sent = [at(0), at(10), at(20), at(30)];
+        // The second record has no text, and the text of the third comes in two pieces.
+        let lengths = [5, 5, 20, 30];
+        let comings = vec![(at(7), 5), (at(23), 12), (at(29), 20)];
+        assert_eq!(times_of(&sent, &lengths, &comings), [7.0, 9.0]);
+    }
+
+    #[test]
+    fn files_are_cut_into_records() {
+        let (head, records) = lines_of(b"I 1 NEAR O\nI 2 FAR O\nA 00\n\nB 01");
+        assert_eq!(head, b"I 1 NEAR O\nI 2 FAR O\n");
+        assert_eq!(records, [b"A 00\n".to_vec(), b"\n".to_vec(), b"B 01".to_vec()]);
+        let record = |bytes: &[u8]| [&[0; 8], (bytes.len() as u32).to_le_bytes().as_slice(), &[0; 4], bytes].concat();
+        let file = [vec![9; 24], record(b"one"), record(b"")].concat();
+        assert_eq!(frames_of(&file), (vec![9; 24], vec![record(b"one"), record(b"")]));
     }
 }
