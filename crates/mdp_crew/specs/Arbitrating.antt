@@ -1,5 +1,5 @@
 -- What the arbiter's thread has sent of the moves that events make possible.
-use Rattle.std.specs.Prelude.{◌≡◌, ℕ, List, [], map, IfOk, Err}
+use Rattle.std.specs.Prelude.{◌≡◌, ◌≤◌, ℕ, List, [], map, IfOk, Err}
 use Rattle.mdp_templates.specs.declared.instrument.Instrument.{Instrument}
 use Rattle.mdp_arbiter.specs.declared.start.Start.{Start}
 use Rattle.mdp_arbiter.specs.Accepted.{Event}
@@ -23,6 +23,10 @@ pub record HasBegun (listed : List Instrument) (room : ℕ) (from : Start) (arbi
   pub begins : state arbiter ≡ first_state arbiter.channel
   pub channel : arbiter.channel ≡ channel_of listed room from
 
+-- a number that the packet can have which comes next
+abbrev pub IsNextNumber : ℕ → Type 0
+IsNextNumber n = (1 ≤ n) × (n ≤ 4294967296)
+
 -- The arbiter's thread has ended: it took all batches of the readers, each worker's lane has the same orders more, and these are the
 -- moves of the events that were taken, or a beginning of them where memory ran out. Else it tells where the channel stands.
 pub record HasSent {A : Type 0} (listed : List Instrument) (room : ℕ) (from : Start) (receiver : IntakeReceiverView (Batch A))
@@ -38,6 +42,7 @@ pub record HasSent {A : Type 0} (listed : List Instrument) (room : ℕ) (from : 
       IfOk outcome.standing (λ standing. standing.lost
       ≡ is_lost (channel_of listed room from) (events_taken outcome.receiver.taken)
       (state_at (channel_of listed room from) (events_taken outcome.receiver.taken)))
+  pub range : IfOk outcome.standing (λ standing. IsNextNumber standing.next)
 
 -- ---- batch by batch
 

@@ -129,27 +129,14 @@ fn make_text<A: Allocator + Copy>(
     collector.take(alloc, round, text, steps)
 }
 
-// Writes the text of a round, and makes the steps that a board shows of it.
-fn write_round<W: CountedWrite, A: Allocator + Copy>(
-    alloc: A,
-    collector: &mut Collector<A>,
-    round: &[Answer<A>],
-    text: &mut Vec<u8, A>,
-    steps: &mut BoardSteps<A>,
-    written: &mut u64,
-    writer: &mut W,
-) -> Result<(), Stop>
+// Writes a text, and counts its bytes that went out.
+fn write_text<W: CountedWrite>(text: &[u8], written: &mut u64, writer: &mut W) -> Result<(), Stop>
     requires { W.failed writer.old < 2 ^ 64 - 1 }
-    ensures text { OnOk result (W.taken writer.new ≡ W.taken writer.old ++ text_of_batch collector.old (map told_in_answer round.now)) }
-    ensures begins { IfErr result (λ _. (n : ℕ) × (W.taken writer.new ≡ W.taken writer.old ++ take n (text_of_batch collector.old (map told_in_answer round.now)))) }
-    ensures steps { OnOk result (steps.new ≡ steps_of_batch (map told_in_answer round.now)) }
-    ensures kept { OnOk result (collector.new ≡ kept_after_batch collector.old (map told_in_answer round.now)) }
+    ensures text { OnOk result (W.taken writer.new ≡ W.taken writer.old ++ text.now) }
+    ensures begins { IfErr result (λ _. (n : ℕ) × (W.taken writer.new ≡ W.taken writer.old ++ take n text.now)) }
     ensures counts { (start : List ℕ) → HasCounted start (W.taken writer.old) written.old → HasCounted start (W.taken writer.new) written.new }
     ensures failed { FailsByStop result (W.failed writer.old) (W.failed writer.new) }
 {
-    let Ok(()) = make_text(alloc, collector, round, text, steps) else {
-        return Err(Stop::Memory);
-    };
     match write_all_counted(writer, text) {
         Ok(()) => {
             *written = written.saturating_add(text.len() as u64);
@@ -182,7 +169,10 @@ fn show_round<R: Wait, W: CountedWrite, A: Allocator + Copy>(
     ensures counts { (start : List ℕ) → HasCounted start (W.taken writer.old) written.old → HasCounted start (W.taken writer.new) written.new }
     ensures failed { FailsByStop result (W.failed writer.old) (W.failed writer.new) }
 {
-    match write_round(alloc, collector, round, text, steps, written, writer) {
+    let Ok(()) = make_text(alloc, collector, round, text, steps) else {
+        return Err(Stop::Memory);
+    };
+    match write_text(text, written, writer) {
         Ok(()) => match publish(rt, board, steps) {
             Ok(()) => Ok(()),
             Err(Memory) => Err(Stop::Memory),

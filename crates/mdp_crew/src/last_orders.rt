@@ -12,6 +12,8 @@ const MOST_HELD: usize = 80;
 #[derive(Drop)]
 pub struct LastOrders<A: Allocator> {
     shares: ArrayVec<Option<Steps<A>>, MOST_HELD>,
+    // where the next one goes, in the place of the oldest once all places are taken
+    next: usize,
 }
 
 impl<A: Allocator> LastOrders<A> {
@@ -19,14 +21,19 @@ impl<A: Allocator> LastOrders<A> {
     pub fn new() -> LastOrders<A> {
         LastOrders {
             shares: ArrayVec::new(),
+            next: 0,
         }
     }
 
     /// Holds one more, and lets go of the oldest where there is no room.
     pub fn hold(&mut self, order: Steps<A>) {
-        if self.shares.is_full() {
-            let _ = self.shares.pop_at(0);
+        let place = self.next % MOST_HELD;
+        match self.shares.get_mut(place) {
+            Some(held) => *held = Some(order),
+            None => {
+                let _ = self.shares.try_push(Some(order));
+            }
         }
-        let _ = self.shares.try_push(Some(order));
+        self.next = place + 1;
     }
 }

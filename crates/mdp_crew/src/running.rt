@@ -3,7 +3,7 @@
 ghost use Rattle.std.specs.Prelude.{◌≡◌, ◌≤◌, ◌<◌, ◌^◌, ◌-◌, [], ℕ, List, IfOk, MatchResult};
 ghost use Rattle.mdp_lanes.specs.Items.{ends_taken};
 ghost use Rattle.mdp_templates.specs.Instrument.{AreFit};
-ghost use Rattle.mdp_crew.specs.Arbitrating.{HasBegun, HasSent};
+ghost use Rattle.mdp_crew.specs.Arbitrating.{HasBegun, HasSent, IsNextNumber};
 ghost use Rattle.mdp_crew.specs.declared.batch.Batch.{Batch};
 ghost use Rattle.mdp_crew.specs.declared.order.Order.{Order};
 ghost use Rattle.mdp_lanes.specs.Queues.{IntakeReceiverView, LaneSenderView};
@@ -228,6 +228,7 @@ where
     ensures shows { HasShown listed.now window start (events_taken result.receiver.taken)
         (W.taken writer.old) (W.taken writer.new) board.old board.new result.standing }
     ensures counts { HasCounted (W.taken writer.old) (W.taken writer.new) result.written }
+    ensures range { IfOk result.standing (λ standing. IsNextNumber standing.next) }
     ensures failed { FailsByStop result.standing (W.failed writer.old) (W.failed writer.new) }
 {
     let Ready {
@@ -314,6 +315,7 @@ where
     ensures shows { HasShown listed.now window start (events_taken result.receiver.taken)
         (W.taken writer.old) (W.taken writer.new) board.old board.new result.standing }
     ensures counts { HasCounted (W.taken writer.old) (W.taken writer.new) result.written }
+    ensures range { IfOk result.standing (λ standing. IsNextNumber standing.next) }
     ensures failed { FailsByStop result.standing (W.failed writer.old) (W.failed writer.new) }
 {
     match prepare(

@@ -2,6 +2,7 @@
 
 ghost use Rattle.std.specs.Prelude.{◌≡◌, ◌≤◌, ◌<◌, ◌^◌, ◌-◌, ◌++◌, [], ℕ, List, take, IfOk, IfErr, OnOk};
 ghost use Rattle.mdp_templates.specs.Instrument.{AreFit};
+ghost use Rattle.mdp_crew.specs.Arbitrating.{IsNextNumber};
 ghost use Rattle.mdp_crew.specs.Counted.{HasCounted};
 ghost use Rattle.mdp_pipeline.specs.Counted.{written_before};
 ghost use Rattle.mdp_pipeline.specs.Faults.{FailsBy};
@@ -94,6 +95,7 @@ pub fn run_in_order<W: CountedWrite, A: Allocator + Copy>(
         (W.taken writer.old) (W.taken writer.new)) }
     ensures written { IfOk result (λ summary. HasCounted (W.taken writer.old) (W.taken writer.new) summary.written) }
     ensures told { IfErr result (λ fault. HasCounted (W.taken writer.old) (W.taken writer.new) (written_before fault)) }
+    ensures range { IfOk result (λ summary. IsNextNumber summary.next) }
     ensures failed { FailsBy result (W.failed writer.old) (W.failed writer.new) }
 {
     let mut written = 0;
@@ -125,6 +127,7 @@ fn finish<W: CountedWrite, A: Allocator + Copy>(
         EndsEarly listed room from events (joined_texts run.refusals) start (W.taken writer.new)) }
     ensures counts { IfOk result (λ summary. (start : List ℕ) → HasCounted start (W.taken writer.old) written → HasCounted start (W.taken writer.new) summary.written) }
     ensures told { IfErr result (λ fault. (start : List ℕ) → HasCounted start (W.taken writer.old) written → HasCounted start (W.taken writer.new) (written_before fault)) }
+    ensures range { IfOk result (λ summary. IsNextNumber summary.next) }
     ensures failed { FailsBy result (W.failed writer.old) (W.failed writer.new) }
 {
     let Run {

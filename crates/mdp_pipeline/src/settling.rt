@@ -6,6 +6,7 @@ ghost use Rattle.mdp_lanes.specs.Items.{ends_taken};
 ghost use Rattle.mdp_lanes.specs.declared.step.Step.{Step};
 ghost use Rattle.mdp_templates.specs.declared.instrument.Instrument.{Instrument};
 ghost use Rattle.mdp_arbiter.specs.declared.start.Start.{Start};
+ghost use Rattle.mdp_crew.specs.Arbitrating.{IsNextNumber};
 ghost use Rattle.mdp_crew.specs.Batches.{events_taken};
 ghost use Rattle.mdp_crew.specs.Counted.{HasCounted};
 ghost use Rattle.mdp_crew.specs.Publishing.{published_on};
@@ -45,6 +46,7 @@ pub fn settle_and_finish<W: CountedWrite, A: Allocator + Copy>(
     s: &[Record<A>],
 ) -> Result<Summary, RunFault>
     requires sound { IfOk crew.standing (λ _. W.failed writer.old < 2 ^ 64 - 1) }
+    requires range { IfOk crew.standing (λ standing. IsNextNumber standing.next) }
     requires ends { ends_taken (λ b. b.is_last) crew.receiver.taken ≡ 3 }
     requires a { HasReadFor crew.receiver Feed.A a.now readers.a }
     requires b { HasReadFor crew.receiver Feed.B b.now readers.b }
@@ -63,6 +65,7 @@ pub fn settle_and_finish<W: CountedWrite, A: Allocator + Copy>(
         → HasCounted start (W.taken writer.old) crew.written → HasCounted start (W.taken writer.new) summary.written) }
     ensures told { IfErr result (λ fault. (start : List ℕ)
         → HasCounted start (W.taken writer.old) crew.written → HasCounted start (W.taken writer.new) (written_before fault)) }
+    ensures range { IfOk result (λ summary. IsNextNumber summary.next) }
     ensures failed { (before : ℕ) → FailsByStop crew.standing before (W.failed writer.old) → FailsBy result before (W.failed writer.new) }
 {
     let CrewOutcome {

@@ -5,6 +5,7 @@ ghost use Rattle.mdp_capture.specs.Record.{RecordContent};
 ghost use Rattle.mdp_lanes.specs.Queues.{IntakeSenderView};
 ghost use Rattle.mdp_lanes.specs.declared.step.Step.{Step};
 ghost use Rattle.mdp_templates.specs.Instrument.{AreFit};
+ghost use Rattle.mdp_crew.specs.Arbitrating.{IsNextNumber};
 ghost use Rattle.mdp_crew.specs.declared.batch.Batch.{Batch};
 ghost use Rattle.mdp_crew.specs.Counted.{HasCounted};
 ghost use Rattle.mdp_crew.specs.Publishing.{published_on};
@@ -146,6 +147,7 @@ where
         (W.taken writer.old) (W.taken writer.new) steps) }
     ensures written { IfOk result (λ summary. HasCounted (W.taken writer.old) (W.taken writer.new) summary.written) }
     ensures told { IfErr result (λ fault. HasCounted (W.taken writer.old) (W.taken writer.new) (written_before fault)) }
+    ensures range { IfOk result (λ summary. IsNextNumber summary.next) }
     ensures failed { FailsBy result (W.failed writer.old) (W.failed writer.new) }
 {
     let Ok((to_a, to_b, to_s, receiver)) = Intake::new(alloc, INTAKE_ROOM) else {
@@ -211,6 +213,7 @@ where
         × BeginsToPublishMerge instruments.now window start a.now b.now s.now (W.taken writer.old) (W.taken writer.new) steps) }
     ensures written { IfOk result (λ summary. HasCounted (W.taken writer.old) (W.taken writer.new) summary.written) }
     ensures told { IfErr result (λ fault. HasCounted (W.taken writer.old) (W.taken writer.new) (written_before fault)) }
+    ensures range { IfOk result (λ summary. IsNextNumber summary.next) }
     ensures failed { FailsBy result (W.failed writer.old) (W.failed writer.new) }
 {
     let paced = Pace::new(window, s);
@@ -230,6 +233,7 @@ where
                 (W.taken writer.entry.now) (W.taken result.0.now) steps) }
             ensures written { IfOk result.2 (λ summary. HasCounted (W.taken writer.entry.now) (W.taken result.0.now) summary.written) }
             ensures told { IfErr result.2 (λ fault. HasCounted (W.taken writer.entry.now) (W.taken result.0.now) (written_before fault)) }
+            ensures range { IfOk result.2 (λ summary. IsNextNumber summary.next) }
             ensures failed { FailsBy result.2 (W.failed writer.entry.now) (W.failed result.0.now) }
         {
             let outcome = run_in(
@@ -300,6 +304,7 @@ where
         (W.taken writer.old) (W.taken writer.new)) }
     ensures written { IfOk result (λ summary. HasCounted (W.taken writer.old) (W.taken writer.new) summary.written) }
     ensures told { IfErr result (λ fault. HasCounted (W.taken writer.old) (W.taken writer.new) (written_before fault)) }
+    ensures range { IfOk result (λ summary. IsNextNumber summary.next) }
     ensures failed { FailsBy result (W.failed writer.old) (W.failed writer.new) }
 {
     let mut board = None;
@@ -364,6 +369,7 @@ where
         × BeginsToPublishMerge instruments.now window start a.now b.now s.now (W.taken writer.old) (W.taken writer.new) steps) }
     ensures written { IfOk result.1 (λ summary. HasCounted (W.taken writer.old) (W.taken writer.new) summary.written) }
     ensures told { IfErr result.1 (λ fault. HasCounted (W.taken writer.old) (W.taken writer.new) (written_before fault)) }
+    ensures range { IfOk result.1 (λ summary. IsNextNumber summary.next) }
     ensures failed { FailsBy result.1 (W.failed writer.old) (W.failed writer.new) }
 {
     let mut board = Some(publisher);

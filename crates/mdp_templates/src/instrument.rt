@@ -100,7 +100,8 @@ pub fn are_fit(instruments: &[Instrument]) -> bool
     true
 }
 
-const MOST_INSTRUMENTS: usize = 512;
+/// How many instruments a channel is read for at most.
+pub const MOST_INSTRUMENTS: usize = 512;
 
 // Tells whether an instrument fits behind these: its id is none of theirs, its legs stand among them, and its depth
 // is one of its kind.
@@ -124,8 +125,8 @@ fn is_depth_of(kind: InstrumentKind, depth: u8) -> bool
     }
 }
 
-// Tells whether the legs stand among these that this kind of instrument asks for.
-fn has_legs(earlier: &[Instrument], kind: InstrumentKind) -> bool
+/// Tells whether the legs stand among these that this kind of instrument asks for.
+pub fn has_legs(earlier: &[Instrument], kind: InstrumentKind) -> bool
     ensures { IsTrue result ↔ HasLegs earlier.now kind }
 {
     match kind {

@@ -28,6 +28,7 @@ returns-in-Ok g c = λ listed room from begun none.
       sent = all_sent listed room from events so_far.batches c.take_all-sent.new.arbiter _ so_far.all;
       next_is = c.next.ensures.next ∙ ap (λ (s : State). s.next) (state_there listed room from events so_far.batches c.take_all-sent.new.arbiter so_far.all);
       lost_is = c.lost.ensures.stands events so_far.all.settled.stands ∙ lost_there listed room from events so_far.batches c.take_all-sent.new.arbiter so_far.all;
+      range = (c.next.ensures.least, c.next.ensures.most);
     }
 
 pub returns : goal.returns
@@ -49,4 +50,5 @@ returns g c = λ listed room from begun none.
       sent = record { rest = later.sent.rest; front = later.sent.front; whole = tt };
       next_is = tt;
       lost_is = tt;
+      range = tt;
     }

@@ -1,17 +1,18 @@
 use Rattle.std.proofs.Common.{◌≡◌, ◌++◌, List, length, map, take, drop, sym, ap, ◌∙◌, subst}
-use Rattle.std.specs.Prelude.{Result}
+use Rattle.std.specs.Prelude.{IfOk, Result}
 use Rattle.std.specs.List.{AllZip}
 use Rattle.mdp_lanes.specs.Queues.{LaneSenderView}
 use Rattle.mdp_crew.specs.declared.arbiter.Standing.{Standing}
 use Rattle.mdp_crew.specs.declared.crew.Post.{Post}
 use Rattle.mdp_crew.specs.declared.order.Order.{Order}
 use Rattle.mdp_crew.specs.declared.stop.Stop.{Stop}
+use Rattle.mdp_crew.specs.Arbitrating.{IsNextNumber}
 use Rattle.mdp_crew.specs.Batches.{events_taken}
 use Rattle.mdp_crew.specs.Crew.{IsCrew, IsHired, IsSettled}
 use Rattle.mdp_crew.specs.Orders.{and_sent, orders_of}
 use Rattle.mdp_crew.specs.Running.{HasShown}
 use Rattle.mdp_crew.specs.Stops.{FailsByStop}
-use Rattle.mdp_crew.proofs.Ending.{fails_alike}
+use Rattle.mdp_crew.proofs.Ending.{fails_alike, range_of}
 use Rattle.mdp_crew.proofs.Settling.{ended_long, ended_took, hired_still, written_back}
 use Rattle.mdp_desks.proofs.Hearing.{ids_differ}
 use Rattle.mdp_crew.proofs.Together.{met}
@@ -66,3 +67,8 @@ pub returns-clause-failed : goal.returns-clause-failed
 returns-clause-failed g c =
     subst (λ (o : Result Standing Stop). FailsByStop o (g.W.CountedWrite.failed c.args.writer.now) (g.W.CountedWrite.failed c.collect-collected.new.writer)) (sym c.outcome.ensures)
     (fails_alike c.collect-collected.result _ _ _ c.collect-collected.ensures.failed)
+
+pub returns-clause-range : goal.returns-clause-range
+returns-clause-range g c =
+    let sent = c.join_arbiter-receiver.ensures c.args.listed.now c.args.window c.args.start c.args.receiver c.args.ready.senders.items c.begin_arbiter-arbitrating.ensures in
+    subst (λ (o : Result Standing Stop). IfOk o (λ (standing : Standing). IsNextNumber standing.next)) (sym c.outcome.ensures) (range_of c.collect-collected.result c.join_arbiter-receiver.result.standing sent.range)

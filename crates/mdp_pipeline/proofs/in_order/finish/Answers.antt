@@ -1,5 +1,6 @@
-use Rattle.std.proofs.Common.{◌++◌, List, ℕ, take, ap, ◌∙◌}
+use Rattle.std.proofs.Common.{◌++◌, List, ℕ, take, ap, sym, subst, ◌∙◌}
 use Rattle.std.proofs.lemmas.Result.{err_from_is_err_and}
+use Rattle.mdp_crew.specs.Arbitrating.{IsNextNumber}
 use Rattle.mdp_pipeline.proofs.Ending.{early_here, early_of, ends_of}
 use Rattle.mdp_pipeline.proofs.Joining.{map_err, map_ok}
 use Rattle.mdp_pipeline.specs.Running.{joined_texts}
@@ -36,3 +37,6 @@ pub returns-in_err-hand_on-clause-told : goal.returns-in_err-hand_on-clause-told
 returns-in_err-hand_on-clause-told g c =
     let fault = err_from_is_err_and c.from_residual.result c.from_residual.ensures.1 in
     rw (fault.1, fault.2) c.in_err-hand_on.ensures.told
+
+pub returns-clause-range : goal.returns-clause-range
+returns-clause-range g c = map_ok c.write_end.result _ _ (λ summary tells. subst IsNextNumber (sym tells.0) (c.next-next.ensures.least, c.next-next.ensures.most)) c.write_end.ensures.stands

@@ -1,8 +1,9 @@
-use Rattle.std.proofs.Common.{◌≡◌, [], ap, subst, ◌∙◌}
+use Rattle.std.proofs.Common.{◌≡◌, [], ap, sym, subst, ◌∙◌}
 use Rattle.std.specs.Prelude.{IfOk, OnOk}
+use Rattle.mdp_crew.specs.Arbitrating.{IsNextNumber}
 use Rattle.mdp_pipeline.specs.Reading.{refusal_lines, refusals_text}
 use Rattle.mdp_pipeline.specs.Running.{joined_texts}
-use Rattle.mdp_pipeline.proofs.Joining.{Joined, ends_early, ends_short, ends_well, none_left, readings_in, told_all}
+use Rattle.mdp_pipeline.proofs.Joining.{Joined, ends_early, ends_short, ends_well, map_ok, none_left, readings_in, told_all}
 use Rattle.mdp_pipeline.proofs.settling.settle_and_finish.Goals as goal
 
 pub returns-in-Err-Memory-clause-begins : goal.returns-in-Err-Memory-clause-begins
@@ -71,3 +72,8 @@ returns-clause-begins g c =
     let told : joined_texts c.of-refusals.result ≡ refusals_text (readings_in joined) = ap joined_texts c.of-refusals.ensures ∙ told_all (ap (λ v. v.items) c.in-Ok-refusals.refused_a-is ∙ told_a) (ap (λ v. v.items) c.in-Ok-refusals-2.refused_b-is ∙ told_b) (ap (λ v. v.items) c.in-Ok-refusals-3.refused_s-is ∙ told_s) in
     ends_early c.args.crew.receiver c.args.a.now c.args.b.now c.args.s.now left.a left.b left.s joined (g.W.CountedWrite.taken c.args.writer.now) (g.W.CountedWrite.taken c.write_end.new.writer)
     c.args.crew.standing c.in-Ok.standing c.of-refusals.result c.write_end.result c.in-Ok.is none told c.write_end.ensures.begins
+
+pub returns-clause-range : goal.returns-clause-range
+returns-clause-range g c =
+    let known = subst (λ o. IfOk o (λ standing. IsNextNumber standing.next)) c.in-Ok.is c.requires.range in
+    map_ok c.write_end.result _ _ (λ summary tells. subst IsNextNumber (sym tells.0) known) c.write_end.ensures.stands
