@@ -6,10 +6,9 @@ use Rattle.std.proofs.lemmas.List.{append-nil, append_cancel_left}
 use Rattle.std.proofs.lemmas.List.Concat.{flat_map-append}
 use Rattle.mdp_templates.specs.declared.instrument.Instrument.{Instrument}
 use Rattle.mdp_lanes.specs.Boards.{Published}
-use Rattle.mdp_lanes.specs.declared.step.Step.{Step}
 use Rattle.mdp_arbiter.specs.Channel.{ids_of}
 use Rattle.mdp_arbiter.specs.Machine.{Move}
-use Rattle.mdp_desks.specs.Moments.{Moment, moment_text, moments, moments_after, shown_lines, text_of_moments}
+use Rattle.mdp_desks.specs.Moments.{Moment, moment_text, moments, moments_after, text_of_moments}
 use Rattle.mdp_desks.specs.Reports.{Report}
 use Rattle.mdp_desks.proofs.Moments.{moments-append}
 use Rattle.mdp_engine.specs.RoundLaws.{Ascend}

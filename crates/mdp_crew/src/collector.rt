@@ -1,13 +1,13 @@
 //! The collector's loop: it takes an answer of each worker, writes the text of that round and publishes its steps, and goes on until all
 //! have finished.
 
-ghost use Rattle.std.specs.Prelude.{◌≡◌, ◌<◌, ◌≤◌, ◌+◌, ◌-◌, ◌^◌, ℕ, [], ◌++◌, false, not, List, OnOk, IfErr, IfNone, IfOk, Result, Some, length, map, take, vec_len, vec_capacity};
+ghost use Rattle.std.specs.Prelude.{◌≡◌, ◌<◌, ◌≤◌, ◌+◌, ◌-◌, ◌^◌, ℕ, [], ◌++◌, false, not, List, OnOk, IfErr, IfNone, Result, Some, length, map, take, vec_len, vec_capacity};
 ghost use Rattle.mdp_crew.specs.Collecting.{EndsCollecting, CutShort, TurnsTo, kept_after_batch, steps_of_batch, text_of_batch};
 ghost use Rattle.mdp_crew.specs.Counted.{HasCounted};
 ghost use Rattle.mdp_crew.specs.Publishing.{published_on};
 ghost use Rattle.std.specs.List.{list_any};
 ghost use Rattle.mdp_crew.specs.Rounds.{all_finish, all_tell, all_took, is_finished, is_told, last_of, lasts, one_each};
-ghost use Rattle.mdp_crew.specs.Stops.{FailsByStop, failed_writes};
+ghost use Rattle.mdp_crew.specs.Stops.{FailsByStop};
 ghost use Rattle.mdp_reports.specs.FromAnswers.{told_in_answer};
 
 use crate::crew::Post;

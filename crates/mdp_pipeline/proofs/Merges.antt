@@ -18,7 +18,7 @@ use Rattle.mdp_pipeline.specs.declared.summary.RunFault.{RunFault}
 use Rattle.mdp_pipeline.specs.Merge.{Arrival, arrivals, by_line, in_order}
 use Rattle.mdp_pipeline.specs.Reading.{Reading, AreReadings, AreReadingsOf, IsReading, brought_by, by_feed, events_of, is_on, readings_on, refusals_text}
 use Rattle.mdp_pipeline.specs.Merging.{Tagged, IsMerge, events_from, events_in, is_from, tagged_by}
-use Rattle.mdp_pipeline.specs.Output.{BeginsByLine, Prints, PrintsByLine, end_lines, is_lost_after, moves_of, next_after, shown_output}
+use Rattle.mdp_pipeline.specs.Output.{BeginsByLine, Prints, PrintsByLine, end_lines, is_lost_after, next_after, shown_output}
 use Rattle.mdp_pipeline.specs.Running.{BeginsAll, PrintsAll}
 
 -- ---- the records of one feed
