@@ -1,13 +1,15 @@
 #!/usr/bin/env python3
 """Proves the crates side by side and builds mdp_handler: tools/prove.py
 
-It works on as many crates at once as processors and free memory allow (GIGABYTES for each), or JOBS of them, by `rt all check --jobs`,
-and then links the program by `rt run`. A line on standard error tells each crate that is done, how many of how many that is, and the
-minutes so far. What rt prints is shown where something is not proved. Where the program is there and newer than all sources, nothing is done.
+It works on as many crates at once as processors and free memory allow (GIGABYTES for each), or on JOBS of them, by `rt all check --jobs`,
+and then builds the program by `rt run`. A line on standard error tells each crate that is done, how many of how many that is, and the
+minutes so far; in between a line each minute tells that it goes on. What rt prints is shown where something is not proved. Where the
+program is newer than all sources, `rt run` alone looks whether anything changed.
 """
 import os
 import subprocess
 import sys
+import threading
 import time
 
 GIGABYTES = 3
@@ -49,6 +51,13 @@ def prove(crates, jobs, begin):
     command = subprocess.Popen(["rt", "all", "check", "--jobs", str(jobs)], stdin=subprocess.DEVNULL,
                                stdout=subprocess.PIPE, stderr=subprocess.STDOUT, text=True, errors="replace")
     done, block, blocks = 0, [], []
+    ended = threading.Event()
+
+    def tell_each_minute():
+        while not ended.wait(60):
+            tell(f"{done} of {crates}, {minutes_since(begin)}")
+
+    threading.Thread(target=tell_each_minute, daemon=True).start()
     for line in command.stdout:
         # rt prints a crate's lines once the crate is done; the last of them is the verdict.
         if line.startswith("== "):
@@ -63,6 +72,7 @@ def prove(crates, jobs, begin):
         else:
             tell(line.rstrip())
     status = command.wait()
+    ended.set()
     if status:
         for block in blocks:
             if not any(line.startswith("logic=proved") for line in block):
@@ -72,21 +82,23 @@ def prove(crates, jobs, begin):
 
 def main():
     os.chdir(os.path.join(os.path.dirname(os.path.realpath(__file__)), ".."))
-    if os.path.exists(PROGRAM) and os.path.getmtime(PROGRAM) > newest_source():
-        return
-    with open("crates.txt", encoding="utf-8") as file:
-        crates = sum(bool(line.split("#")[0].strip()) for line in file)
-    jobs, begin = jobs_for(crates), time.monotonic()
-    tell(f"proving {crates} crates, {jobs} at a time; the first time takes long (README.md says how long)")
-    if not prove(crates, jobs, begin):
-        sys.exit(f"not proved, after {minutes_since(begin)}")
-    tell(f"all proved, {minutes_since(begin)}; building mdp_handler")
+    begin = time.monotonic()
+    is_new = not os.path.exists(PROGRAM) or os.path.getmtime(PROGRAM) <= newest_source()
+    if is_new:
+        with open("crates.txt", encoding="utf-8") as file:
+            crates = sum(bool(line.split("#")[0].strip()) for line in file)
+        jobs = jobs_for(crates)
+        tell(f"proving {crates} crates, {jobs} at a time; the first time takes long (README.md says how long)")
+        if not prove(crates, jobs, begin):
+            sys.exit(f"not proved, after {minutes_since(begin)}")
+        tell(f"all proved, {minutes_since(begin)}; building mdp_handler")
     built = subprocess.run(["rt", "run", "--", "--version"], cwd="crates/mdp_handler", stdin=subprocess.DEVNULL,
                            stdout=subprocess.PIPE, stderr=subprocess.STDOUT, text=True, errors="replace", check=False)
     if built.returncode:
         tell(built.stdout.rstrip())
         sys.exit(f"not built, after {minutes_since(begin)}")
-    tell(f"built {PROGRAM}, {minutes_since(begin)}")
+    if is_new:
+        tell(f"built {PROGRAM}, {minutes_since(begin)}")
 
 
 main()
