@@ -1,16 +1,35 @@
-# make run    proves and builds the program, and runs it on an example
-# make test   the merge gate and the rows; the last line is 'N passed, M failed'
-# make bench PRESET=day   the program beside a handler in plain Rust; bench/README.md has the presets
-# make wrong-bodies   tries the wrong bodies that the gate has no time for; CRATE=NAME those of one crate
+# make try            runs the program on an example, with no proof
+# make run            proves and builds the program, and runs it on an example
+# make install        puts the built program and its manual page below DESTDIR and PREFIX
+# make test           the merge gate and all other tests; the last line is 'N passed, M failed'
+# make bench          the program beside a handler in plain Rust, on PRESET=day; bench/README.md has the others
+# make wrong-bodies   tries the wrong bodies that the gate has no time for; CRATE=NAME: those of one crate
 
 SHELL := /bin/bash
 program := crates/mdp_handler/out/mdp_handler
+page := docs/mdp_handler.1
+PREFIX := /usr/local
+DESTDIR :=
 PRESET := day
 
-.PHONY: run test bench wrong-bodies build
+.PHONY: try run install test bench wrong-bodies build
+
+# What rt says is shown only where the run did not end well.
+try:
+	@echo "not proved yet; make run proves" >&2
+	@log=$$(mktemp); trap 'rm -f "$$log"' EXIT; \
+	(cd crates/mdp_handler && rt try < ../../examples/plain.capture 2> "$$log") || { cat "$$log" >&2; exit 1; }
 
 run: build
 	@$(program) < examples/plain.capture
+
+build:
+	@tools/prove.py
+
+install:
+	@[ -x $(program) ] || { echo "there is no $(program); make run builds it" >&2; exit 1; }
+	install -D -m 755 $(program) "$(DESTDIR)$(PREFIX)/bin/mdp_handler"
+	install -D -m 644 $(page) "$(DESTDIR)$(PREFIX)/share/man/man1/mdp_handler.1"
 
 test:
 	@tests/run_all.sh
@@ -20,9 +39,3 @@ bench:
 
 wrong-bodies:
 	@tests/run_wrong_bodies.sh $(CRATE)
-
-# What the prover says is shown only where it refuses something.
-build:
-	@echo "proving and building mdp_handler; the first time takes minutes" >&2
-	@log=$$(mktemp); trap 'rm -f "$$log"' EXIT; \
-	(cd crates/mdp_handler && rt run -- --version) > "$$log" 2>&1 < /dev/null || { cat "$$log" >&2; exit 1; }

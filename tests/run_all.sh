@@ -1,7 +1,8 @@
 #!/usr/bin/env bash
 # Proves everything from nothing and runs all tests: the merge gate, then the examples, the demonstration of the board, a pcap file
 # where tshark is there, the rows, cut and bent datagrams, the refusals of the system, refused allocations and the manual's commands on the
-# programs that the gate has built, and a look at the names in docs/DEFINITIONS.md and at the code that the documents show. The last line
+# programs that the gate has built, the manual page beside the help, and a look at the documents: the names in docs/DEFINITIONS.md, English
+# and links, and the code that they show. The last line
 # is 'N passed, M failed', over all of them. The exit status is 1 if any failed.
 set -u
 
@@ -83,7 +84,9 @@ run_part "cut and bent datagrams" tests/run_cut_and_bent.sh "$program" crates/da
 run_part "the refusals of the system" tests/run_refusals.sh "$program"
 run_part "refused allocations" tests/run_refused_allocations.sh "$program"
 run_part "the manual" tests/run_manual.sh "$program"
+run_part "the manual page" tests/check_man_page.sh "$program"
 run_part "the definitions" tests/check_definitions.sh
+run_part "the documents' English and links" tests/check_english.py
 run_part "the documents' code" tests/check_snippets.sh
 echo "$passed passed, $failed failed"
 [ "$failed" -eq 0 ]
