@@ -1,5 +1,5 @@
 -- What the code does to a security's desk, as a function. What the moves show is defined elsewhere, with no desk.
-use Rattle.std.specs.Prelude.{Option, Some, None, false, ℕ, List, [], ◌∷◌, ◌++◌, true, not, ◌+◌, ◌&&◌, ◌||◌, if◌then◌else◌, map, nat_lt}
+use Rattle.std.specs.Prelude.{Option, Some, None, false, ℕ, List, [], ◌∷◌, true, not, ◌+◌, ◌&&◌, ◌||◌, if◌then◌else◌, map, nat_lt}
 use Rattle.mdp_templates.specs.Snapshot.{SnapshotContent}
 use Rattle.mdp_templates.specs.declared.entry.Entry.{Entry}
 use Rattle.mdp_templates.specs.declared.instrument.Instrument.{Instrument}

@@ -13,7 +13,7 @@ use Rattle.mdp_arbiter.specs.Machine.{Move}
 use Rattle.mdp_arbiter.specs.Machine.Move.{passed, jumped}
 use Rattle.mdp_arbiter.specs.Channel.{ids_of}
 use Rattle.mdp_desks.specs.Shown.{Start, Standing, standing_after, starts_at_jump, starts_before_jump, standing_through, start_seen}
-use Rattle.mdp_desks.specs.Lines.{Seen, lines_as}
+use Rattle.mdp_desks.specs.Lines.{lines_as}
 use Rattle.mdp_desks.specs.Moments.{Moment, ended, moment_at, moments_from, moments_on, text_of_moments, moment_text}
 use Rattle.mdp_desks.specs.Reports.{Told, told_from}
 use Rattle.mdp_engine.specs.Rounds.{kept_after, kept_at_start, told_text, round_of, round_text, kept_after_round, text_from}

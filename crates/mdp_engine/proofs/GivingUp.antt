@@ -1,12 +1,12 @@
 -- The complete feed of a recovery that is written out.
-use Rattle.std.proofs.Common.{◌≡◌, ℕ, Bool, true, false, cond, List, [], ◌∷◌, ◌++◌, refl, sym, subst, arith}
-use Rattle.std.specs.Prelude.{◌==◌, Option, Some, None, IfSome}
+use Rattle.std.proofs.Common.{◌≡◌, ℕ, Bool, true, false, cond, List, [], ◌∷◌, ◌++◌, refl, subst, arith}
+use Rattle.std.specs.Prelude.{◌==◌, Some, None, IfSome}
 use Rattle.std.specs.List.{AllByRecursion}
 use Rattle.mdp_templates.specs.Packet.{PacketContent}
 use Rattle.mdp_templates.specs.declared.instrument.Instrument.{Instrument}
 use Rattle.mdp_templates.specs.declared.entry.Kind.TheVariants.{Offer}
-use Rattle.mdp_arbiter.specs.Accepted.{Event, came, recovered, accepted_packets, first_of, newest_snapshot}
-use Rattle.mdp_engine.specs.Feed.{IsFeed, IsIn, IsSnapshotOf}
+use Rattle.mdp_arbiter.specs.Accepted.{Event, came, recovered, first_of, newest_snapshot}
+use Rattle.mdp_engine.specs.Feed.{IsIn, IsSnapshotOf}
 use Rattle.mdp_engine.specs.GivenUp.{LawOfARecovery, first_is_lost, near, packet_with, snapshot_of_first, two_packets}
 
 abbrev second : PacketContent

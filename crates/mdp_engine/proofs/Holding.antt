@@ -8,12 +8,12 @@ use Rattle.mdp_templates.specs.Snapshot.{SnapshotContent}
 use Rattle.mdp_templates.specs.declared.instrument.Instrument.{Instrument}
 use Rattle.mdp_books.specs.Feed.{Sent, sent_by, book_from, book_at, behind}
 use Rattle.mdp_books.proofs.Feeds.{book_at-append}
-use Rattle.mdp_arbiter.specs.Channel.{Channel, channel_of}
+use Rattle.mdp_arbiter.specs.Channel.{Channel}
 use Rattle.mdp_arbiter.specs.Machine.{Move, State, after, after_all, first_state, state_at, trace}
 use Rattle.mdp_arbiter.specs.Machine.Move.{passed, jumped}
 use Rattle.mdp_desks.specs.declared.desk.Desk.{Desk}
 use Rattle.mdp_desks.specs.Due.{is_due}
-use Rattle.mdp_desks.specs.Shown.{Standing, Start, book_since, standing_after, standing_through, starts_before_jump}
+use Rattle.mdp_desks.specs.Shown.{Standing, Start, standing_after, standing_through}
 use Rattle.mdp_desks.specs.Standing.{DeskShows}
 use Rattle.mdp_engine.specs.Feed.{IsFeed}
 use Rattle.mdp_engine.specs.Owed.{Footing, footings_at_jump, footings_before_jump}

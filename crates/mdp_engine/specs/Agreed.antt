@@ -5,7 +5,7 @@ use Rattle.mdp_templates.specs.Packet.{PacketContent}
 use Rattle.mdp_templates.specs.Snapshot.{SnapshotContent}
 use Rattle.mdp_templates.specs.declared.instrument.Instrument.{Instrument}
 use Rattle.mdp_books.specs.Feed.{sent_by, book_at}
-use Rattle.mdp_engine.specs.Feed.{IsFeed, IsIn, IsJumpedTo}
+use Rattle.mdp_engine.specs.Feed.{IsIn, IsJumpedTo}
 use Rattle.mdp_engine.specs.Owed.{Footing}
 use Rattle.mdp_arbiter.specs.Machine.{Move}
 use Rattle.mdp_desks.specs.Shown.{Start}

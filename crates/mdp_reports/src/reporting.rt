@@ -1,6 +1,6 @@
 //! What a worker reports of moves, with the books of its own securities alone.
 
-ghost use Rattle.std.specs.Prelude.{◌≡◌, ◌++◌, length, map, slice_get, IfOk, OnOk};
+ghost use Rattle.std.specs.Prelude.{◌≡◌, ◌++◌, length, slice_get, IfOk, OnOk};
 ghost use Rattle.mdp_books.specs.Feed.{sent_as, sent_in};
 ghost use Rattle.mdp_desks.specs.Desks.{desks_after, passed_desks};
 ghost use Rattle.mdp_reports.specs.Reporting.{desks_after_move, reports_at, reports_of_move, reports_passed, snapshots_at};

@@ -1,6 +1,6 @@
 //! An arbiter takes in events, and hands on as turns the moves that they make possible.
 
-ghost use Rattle.std.specs.Prelude.{◌≡◌, [], ◌∷◌, ◌++◌, List, IfOk, map};
+ghost use Rattle.std.specs.Prelude.{◌≡◌, List, IfOk, map};
 ghost use Rattle.mdp_templates.specs.declared.instrument.Instrument.{Instrument};
 ghost use Rattle.mdp_arbiter.specs.Accepted.{Event as Accepted};
 ghost use Rattle.mdp_arbiter.specs.Machine.{snapshots_of};
