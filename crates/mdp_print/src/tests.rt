@@ -301,6 +301,69 @@ fn counts_the_failures_of_any_writer(rt: HostRuntime) -> Result<(), Fail> {
     Ok(())
 }
 
+/// Takes all bytes, counts its calls and its flushes, and fails at one call.
+#[derive(Drop)]
+struct Tired {
+    calls: u64,
+    flushes: u64,
+    fail_at: u64,
+    kind: ErrorKind,
+}
+
+impl io::Write for Tired {
+    fn write(&mut self, bytes: &[u8]) -> io::Result<usize> {
+        self.calls = self.calls.saturating_add(1);
+        if self.calls == self.fail_at {
+            return Err(io::Error::from(self.kind));
+        }
+        Ok(bytes.len())
+    }
+
+    fn flush(&mut self) -> io::Result<()> {
+        self.flushes = self.flushes.saturating_add(1);
+        Ok(())
+    }
+}
+
+/// Writes a line once, and answers the failures that were counted, and the kind of the error.
+fn write_once(tired: &mut Tired) -> (u64, Option<ErrorKind>) {
+    let mut counting = Counting::new(tired);
+    let kind = match counting.write(b"Z 9 live\n") {
+        Ok(_) => None,
+        Err(error) => Some(error.kind()),
+    };
+    (counting.failures(), kind)
+}
+
+// No clause says how often the writer inside is called.
+#[test]
+fn a_write_is_one_call_of_the_writer_inside(rt: HostRuntime) -> Result<(), Fail> {
+    for kind in [
+        ErrorKind::Interrupted,
+        ErrorKind::WouldBlock,
+        ErrorKind::Other,
+    ] {
+        for fail_at in 1..5u64 {
+            let mut tired = Tired {
+                calls: 0,
+                flushes: 0,
+                fail_at,
+                kind,
+            };
+            for number in 1..5u64 {
+                let wanted = match number == fail_at {
+                    true => (1, Some(kind)),
+                    false => (0, None),
+                };
+                assert_eq!(rt; write_once(&mut tired), wanted);
+                assert_eq!(rt; tired.calls, number);
+                assert_eq!(rt; tired.flushes, 0);
+            }
+        }
+    }
+    Ok(())
+}
+
 #[test]
 fn writes_to_standard_output(rt: HostRuntime) -> Result<(), Fail> {
     let mut counting = Counting::new(io::writer(&rt));
