@@ -1,6 +1,7 @@
-use Rattle.std.proofs.Common.{◌∷◌, ◌++◌, ◌∙◌, [], List, refl, arith}
+use Rattle.std.proofs.Common.{◌∷◌, ◌++◌, ◌∙◌, [], List, refl, sym, ap, arith}
 use Rattle.std.proofs.lemmas.List.{length-append}
 use Rattle.mdp_reports.specs.declared.answer.Answer.{Answer}
+use Rattle.mdp_crew.specs.Rounds.{last_of}
 use Rattle.mdp_crew.proofs.Taking.{lasts_none, lasts_step, took_none, took_step}
 use Rattle.mdp_crew.proofs.collector.drain_round.Goals as goal
 
@@ -14,5 +15,5 @@ loop-n-preserved g c =
       was.0 ++ row ∷ [],
       omega (arith, length-append was.0 (row ∷ []), was.1),
       took_step c.args.posts.now was.0 c.loop-n.posts c.loop-n.n c.index-posts-n.result row c.take_next.new.answers was.1 was.2 c.loop-n-test.true c.index-posts-n.is c.take_next.ensures.1,
-      lasts_step c.args.round.now was.0 c.loop-n.round c.loop-n.n c.index-round-n.result row c.take_next.new.answer was.1 was.3 (omega (arith, c.loop-n-test.true, c.requires)) c.index-round-n.is c.take_next.ensures.2,
+      lasts_step c.args.round.now was.0 c.loop-n.round c.loop-n.n c.index-round-n.result row c.take_next.new.answer was.1 was.3 (omega (arith, c.loop-n-test.true, c.requires)) c.index-round-n.is (c.take_next.ensures.2 ∙ ap (λ a. last_of a row) (sym c.index-round-n.is)),
     )

@@ -5,10 +5,6 @@ use Rattle.mdp_crew.specs.Collecting.CutShort.{in_text, in_steps}
 use Rattle.mdp_crew.specs.Publishing.{published_on}
 use Rattle.mdp_crew.proofs.collector.show_round.Goals as goal
 
-pub returns-in-Ok-clause-text : goal.returns-in-Ok-clause-text
-returns-in-Ok-clause-text g c =
-    c.in-Ok.ensures.text ∙ ap (λ (t : List ℕ). g.W.CountedWrite.taken c.args.writer.now ++ t) (c.deref.ensures.value ∙ c.in-Ok-make_text.ensures.text)
-
 -- memory ran out before a write
 pub returns-in_default-clause-begins : goal.returns-in_default-clause-begins
 returns-in_default-clause-begins g c = in_text 0 (sym (append-nil (g.W.CountedWrite.taken c.args.writer.now))) refl
@@ -17,12 +13,12 @@ returns-in_default-clause-begins g c = in_text 0 (sym (append-nil (g.W.CountedWr
 pub returns-in-Err-clause-begins : goal.returns-in-Err-clause-begins
 returns-in-Err-clause-begins g c =
     let some = c.in-Err.ensures.begins in
-    let text = c.deref.ensures.value ∙ c.in-Ok-make_text.ensures.text in
+    let text = c.deref.ensures.value ∙ c.in-Ok.ensures.text in
     in_text some.0 (some.1 ∙ ap (λ (t : List ℕ). g.W.CountedWrite.taken c.args.writer.now ++ take some.0 t) text) refl
 
 -- memory ran out where steps were published
 pub returns-in-Err-publish-clause-begins : goal.returns-in-Err-publish-clause-begins
 returns-in-Err-publish-clause-begins g c =
     let some = c.in-Err-publish.ensures.some in
-    let whole = c.in-Ok.ensures.text ∙ ap (λ (t : List ℕ). g.W.CountedWrite.taken c.args.writer.now ++ t) (c.deref.ensures.value ∙ c.in-Ok-make_text.ensures.text) in
-    in_steps some.0 whole (some.1 ∙ ap (λ (l : List Step). published_on c.args.board.now (take some.0 l)) c.in-Ok-make_text.ensures.steps)
+    let whole = c.in-Ok-write_text.ensures.text ∙ ap (λ (t : List ℕ). g.W.CountedWrite.taken c.args.writer.now ++ t) (c.deref.ensures.value ∙ c.in-Ok.ensures.text) in
+    in_steps some.0 whole (some.1 ∙ ap (λ (l : List Step). published_on c.args.board.now (take some.0 l)) c.in-Ok.ensures.steps)
