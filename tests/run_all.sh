@@ -75,10 +75,24 @@ run_pcap() {
     fi
 }
 
+# Runs the bench's own tests: that its handler in plain Rust prints what the rows and examples have, whole and in pieces.
+run_bench() {
+    if ! command -v cargo >/dev/null; then
+        echo "not run: there is no cargo"
+        echo "0 passed, 0 failed"
+    else
+        (cd bench && CARGO_TARGET_DIR=$scratch/bench cargo test --offline 2>&1) | awk '
+            /^test result:/ { passed += $4; failed += $6 }
+            /^error|FAILED|panicked/ { print }
+            END { if (!passed) failed++; printf "%d passed, %d failed\n", passed, failed }'
+    fi
+}
+
 run_part "rt ci" rt ci
 run_part "the examples" run_examples
 run_part "the demonstration" run_demo
 run_part "the pcap file" run_pcap
+run_part "the bench" run_bench
 run_part "the rows" tests/run_rows.sh "$program"
 run_part "cut and bent datagrams" tests/run_cut_and_bent.sh "$program" crates/datagram_rows/out/datagram_rows
 run_part "the refusals of the system" tests/run_refusals.sh "$program"
