@@ -1,5 +1,5 @@
 -- What was taken of all workers, round by round: a round is one answer of each.
-use Rattle.std.specs.Prelude.{◌≡◌, ℕ, List, [], ◌∷◌, ◌++◌, length, map, Bool, true, false, ⊥}
+use Rattle.std.specs.Prelude.{◌≡◌, ℕ, List, [], ◌∷◌, ◌++◌, length, map, Bool, true, false}
 use Rattle.std.specs.List.{AllByRecursion, list_all}
 use Rattle.mdp_desks.specs.Reports.{Report}
 use Rattle.mdp_reports.specs.declared.answer.Answer.{Answer}
