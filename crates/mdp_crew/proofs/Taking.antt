@@ -1,6 +1,6 @@
 -- What is taken, round by round, and what is written of it.
 use Rattle.std.proofs.Common.{◌≡◌, ◌<◌, ℕ, zero, suc, Bool, true, false, List, [], ◌∷◌, ◌++◌, length, take, drop, map, set, get_or, replicate, refl, sym, ap, ◌∙◌, subst, append_assoc, arith}
-use Rattle.std.specs.Prelude.{Option, Result, Ok, Err, ◌&&◌, ◌||◌, not}
+use Rattle.std.specs.Prelude.{Option, Result, Ok, Err, ◌&&◌, ◌||◌}
 use Rattle.std.specs.List.{AllByRecursion, list_any}
 use Rattle.std.proofs.lemmas.List.{append-nil, take-append-drop}
 use Rattle.mdp_lanes.specs.Boards.{Published}
@@ -33,10 +33,6 @@ none_first false b none = refl
 none_later : (a b : Bool) → (a || b) ≡ false → b ≡ false
 none_later true b none = absurd cc
 none_later false b none = none
-
-pub none_told : (b : Bool) → not b ≡ true → b ≡ false
-none_told true is = absurd cc
-none_told false is = refl
 
 wide-append : (n : ℕ) (xs ys : List (List (List Report))) → Wide n xs → Wide n ys → Wide n (xs ++ ys)
 wide-append n [] ys first later = later

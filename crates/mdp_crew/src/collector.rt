@@ -1,7 +1,7 @@
 //! The collector's loop: it takes an answer of each worker, writes the text of that round and publishes its steps, and goes on until all
 //! have finished.
 
-ghost use Rattle.std.specs.Prelude.{◌≡◌, ◌<◌, ◌≤◌, ◌+◌, ◌-◌, ◌^◌, ℕ, [], ◌++◌, false, not, List, OnOk, IfErr, IfNone, Result, Some, length, map, take, vec_len, vec_capacity};
+ghost use Rattle.std.specs.Prelude.{◌≡◌, ◌<◌, ◌≤◌, ◌+◌, ◌-◌, ◌^◌, ℕ, [], ◌++◌, false, List, OnOk, IfErr, IfNone, Result, Some, length, map, take, vec_len, vec_capacity};
 ghost use Rattle.mdp_crew.specs.Collecting.{EndsCollecting, CutShort, TurnsTo, kept_after_batch, steps_of_batch, text_of_batch};
 ghost use Rattle.mdp_crew.specs.Counted.{HasCounted};
 ghost use Rattle.mdp_crew.specs.Publishing.{published_on};
@@ -64,11 +64,11 @@ fn all_are_finished<A: Allocator>(round: &[Answer<A>]) -> bool
     round.iter().all(finishes)
 }
 
-// Tells whether no answer of a round tells reports.
-fn none_tells<A: Allocator>(round: &[Answer<A>]) -> bool
-    ensures { result ≡ not (list_any is_told round.now) }
+// Tells whether an answer of a round tells reports.
+fn one_tells<A: Allocator>(round: &[Answer<A>]) -> bool
+    ensures { result ≡ list_any is_told round.now }
 {
-    !round.iter().any(tells)
+    round.iter().any(tells)
 }
 
 // Takes a worker's next answer in the place of this one, unless this was its last.
@@ -105,7 +105,7 @@ fn drain_all<R: Wait, A: Allocator + Copy>(rt: &R, posts: &mut [Post<A>], round:
         × (list_any is_told (lasts round.old more) ≡ false) }
 {
     for _ in rt.forever() {
-        if none_tells(round) {
+        if !one_tells(round) {
             return;
         }
         drain_round(rt, posts, round);

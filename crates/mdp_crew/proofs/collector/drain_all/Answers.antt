@@ -1,7 +1,7 @@
 use Rattle.std.proofs.Common.{true, length, replicate, sym, ap, ◌∙◌, []}
 use Rattle.std.specs.List.{list_any}
 use Rattle.mdp_crew.specs.Rounds.{all_took, is_told, lasts}
-use Rattle.mdp_crew.proofs.Taking.{joined, lasts_lasts, lasts_nothing, length-joined, length-lasts, length-nothing, length-took, none_told, took_nothing, took_took}
+use Rattle.mdp_crew.proofs.Taking.{joined, lasts_lasts, lasts_nothing, length-joined, length-lasts, length-nothing, length-took, took_nothing, took_took}
 use Rattle.mdp_crew.proofs.collector.drain_all.Goals as goal
 
 pub drain_round-requires : goal.drain_round-requires
@@ -22,7 +22,7 @@ loop-preserved g c =
       next.3 ∙ ap (λ l. lasts l next.0) was.3 ∙ lasts_lasts c.args.round.now was.0 next.0 (was.1 ∙ sym c.requires),
     )
 
-pub returns-then-none_tells : goal.returns-then-none_tells
-returns-then-none_tells g c =
+pub returns-then-not-one_tells : goal.returns-then-not-one_tells
+returns-then-not-one_tells g c =
     let was = c.loop.invariant in
-    (was.0, was.1, was.2, ap (list_any is_told) (sym was.3) ∙ none_told (list_any is_told c.loop.round) (sym c.none_tells.ensures ∙ c.if-none_tells.true))
+    (was.0, was.1, was.2, ap (list_any is_told) (sym was.3) ∙ sym c.one_tells.ensures ∙ c.if-not-one_tells.true)
