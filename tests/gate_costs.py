@@ -4,7 +4,7 @@
 As tests/gate_costs.py make test. It looks twice a second at the checks (processes of `rattle`) below the command, and adds up their
 processor time by crate: the crate's own proof, its tests' proof, its must-fail edits with the check that these begin with. After
 what the command prints come a table in processor minutes, the slowest edits in processor seconds, and both times of the whole run.
-With --table they go into FILE instead. What an earlier run kept costs nothing here, so a whole table is one of a run from nothing.
+With --table they go into FILE instead, with all edits. What an earlier run kept costs nothing here, so a whole table is one of a run from nothing.
 The exit status is the command's.
 """
 import collections
@@ -62,8 +62,8 @@ def edit_tried(crate, room, repository):
 class Checks:
     """The checks that were seen, each with its kind, its crate and the processor seconds that it had taken when it was seen last."""
 
-    def __init__(self, repository):
-        self.repository, self.seen = repository, {}
+    def __init__(self, repository, tells_all):
+        self.repository, self.tells_all, self.seen = repository, tells_all, {}
 
     def look(self, root):
         for number in processes_below(root):
@@ -110,8 +110,8 @@ class Checks:
                 whole[kind] += costs[kind]
         row = [whole["proof"], whole["tests"], whole["edits"]]
         lines.append("| all | " + " | ".join(map(minutes, row)) + f" | {len(edits)} | {minutes(sum(row))} |")
-        lines += ["", f"The {SLOWEST} slowest edits, in processor seconds:", ""]
-        slowest = sorted(edits.items(), key=lambda it: -it[1])[:SLOWEST]
+        lines += ["", "The edits that took longest, in processor seconds:", ""]
+        slowest = sorted(edits.items(), key=lambda it: -it[1])[: None if self.tells_all else SLOWEST]
         lines += [f"- {crate}/{edit}: {seconds:.0f}" for (crate, edit), seconds in slowest]
         return lines
 
@@ -123,7 +123,7 @@ def main():
         file, words = words[1], words[2:]
     if not words or words[0].startswith("-"):
         sys.exit("usage: tests/gate_costs.py [--table FILE] COMMAND ..")
-    checks, begin = Checks(os.getcwd()), time.monotonic()
+    checks, begin = Checks(os.getcwd(), file is not None), time.monotonic()
     command = subprocess.Popen(words)
     while command.poll() is None:
         checks.look(command.pid)
