@@ -1,7 +1,7 @@
 #!/usr/bin/env python3
 """Runs a command of the gate and tells what each crate cost: tests/gate_costs.py [--table FILE] COMMAND ..
 
-As tests/gate_costs.py make test. It looks twice a second at the checks (processes of `rattle`) below the command, and adds up their
+As tests/gate_costs.py make test. It looks twice a second at the checks (`rattle` and what it starts) below the command, and adds up their
 processor time by crate: the crate's own proof, its tests' proof, its must-fail edits with the check that these begin with. After
 what the command prints come a table in processor minutes, the slowest edits in processor seconds, and both times of the whole run.
 With --table they go into FILE instead, with all edits. What an earlier run kept costs nothing here, so a whole table is one of a run from nothing.
@@ -28,19 +28,18 @@ def read(path):
         return ""
 
 
-def processes_below(root):
-    """Returns the numbers of all processes that the process root started, directly or through others."""
-    children = collections.defaultdict(list)
-    for number in filter(str.isdigit, os.listdir("/proc")):
-        fields = read(f"/proc/{number}/stat").rpartition(")")[2].split()
+class Process:
+    """A process as /proc tells of it: its number, its parent's, when it began, and the processor seconds that it has taken."""
+
+    def __init__(self, number):
+        self.number, fields = number, read(f"/proc/{number}/stat").rpartition(")")[2].split()
+        self.is_there = bool(fields)
         if fields:
-            children[int(fields[1])].append(int(number))
-    found, todo = [], [root]
-    while todo:
-        below = children[todo.pop()]
-        found += below
-        todo += below
-    return found
+            self.parent, self.began = int(fields[1]), fields[19]
+            self.seconds = (int(fields[11]) + int(fields[12])) / TICKS
+
+    def words(self):
+        return read(f"/proc/{self.number}/cmdline").split("\0")
 
 
 def edit_tried(crate, room, repository):
@@ -60,26 +59,37 @@ def edit_tried(crate, room, repository):
 
 
 class Checks:
-    """The checks that were seen, each with its kind, its crate and the processor seconds that it had taken when it was seen last."""
+    """The checks that were seen, by process: kind, crate and edit, and the processor seconds that it had taken when it was seen last."""
 
     def __init__(self, repository, tells_all):
         self.repository, self.tells_all, self.seen = repository, tells_all, {}
 
     def look(self, root):
-        for number in processes_below(root):
-            words = read(f"/proc/{number}/cmdline").split("\0")
-            if len(words) < 2 or os.path.basename(words[0]) != "rattle" or "--crate-name" not in words:
-                continue
-            after_name = read(f"/proc/{number}/stat").rpartition(")")[2].split()
-            if not after_name:
-                continue
-            seconds = (int(after_name[11]) + int(after_name[12])) / TICKS
-            # A number is given again, but never with the same start.
-            key = number, after_name[19]
-            kind, crate, edit = self.seen.get(key, (None, None, None, 0))[:3]
-            if kind is None:
-                kind, crate, edit = self.kind_of(number, words)
-            self.seen[key] = kind, crate, edit, seconds
+        """Looks at all processes that the process root started, directly or through others."""
+        children = collections.defaultdict(list)
+        for number in filter(str.isdigit, os.listdir("/proc")):
+            process = Process(int(number))
+            if process.is_there:
+                children[process.parent].append(process)
+        todo = [(it, None) for it in children[root]]
+        while todo:
+            process, check = todo.pop()
+            check = self.note(process, check)
+            todo += [(it, check) for it in children[process.number]]
+
+    def note(self, process, check):
+        """Notes what a process has taken, and returns which check it is of: its own, or that of the process which started it."""
+        # A number is given again, but never with the same start.
+        key = process.number, process.began
+        if key in self.seen:
+            check = self.seen[key][0]
+        else:
+            words = process.words()
+            if os.path.basename(words[0]) == "rattle" and "--crate-name" in words:
+                check = self.kind_of(process.number, words)
+        if check:
+            self.seen[key] = check, process.seconds
+        return check
 
     def kind_of(self, number, words):
         crate = words[words.index("--crate-name") + 1].removesuffix("_tests")
@@ -95,7 +105,7 @@ class Checks:
         """Returns the lines of both tables."""
         by_crate = collections.defaultdict(lambda: collections.defaultdict(float))
         edits = collections.defaultdict(float)
-        for kind, crate, edit, seconds in self.seen.values():
+        for (kind, crate, edit), seconds in self.seen.values():
             by_crate[crate][kind] += seconds
             if edit:
                 edits[crate, edit] += seconds
