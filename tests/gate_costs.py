@@ -43,17 +43,20 @@ class Process:
 
 
 def edit_tried(crate, room, repository):
-    """Returns the name of the edit whose text stands in a copy of the crate, or None where it is the crate as it is."""
-    folder = f"{repository}/crates/{crate}/must-fail"
-    names = sorted(os.listdir(folder)) if os.path.isdir(folder) else []
+    """Returns the name of the edit that made this copy of the crate, or None where it is the crate as it is."""
+    folder = f"{repository}/crates/{crate}"
+    names = sorted(os.listdir(f"{folder}/must-fail")) if os.path.isdir(f"{folder}/must-fail") else []
     for name in names:
-        pairs, path = [], ""
-        for line in read(f"{folder}/{name}").split("\n"):
+        path, old, texts = "", "", {}
+        for line in read(f"{folder}/must-fail/{name}").split("\n"):
             if line.startswith("file: "):
                 path = line[len("file: "):].strip()
             elif line.startswith("old: "):
-                pairs.append((path, line[len("old: "):]))
-        if pairs and all(old not in read(f"{room}/{path}") for path, old in pairs):
+                old = line[len("old: "):]
+            elif line.startswith("new:"):
+                text = texts.get(path) or read(f"{folder}/{path}")
+                texts[path] = text.replace(old, line[len("new:"):].removeprefix(" "))
+        if texts and all(read(f"{room}/{path}") == text for path, text in texts.items()):
             return name.removesuffix(".edit")
     return None
 
