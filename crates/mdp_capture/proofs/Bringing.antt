@@ -1,5 +1,5 @@
 -- What each line brings to a capture.
-use Rattle.std.proofs.Common.{None, ◌≡◌, ℕ, zero, suc, inl, inr, ◌+◌, ◌<◌, min, Bool, true, false, cond, List, [], ◌∷◌, ◌++◌, length, map, Result, Ok, Err, refl, sym, ap, ◌∙◌, subst, append_assoc, append-nil, length-append, arith, get_or}
+use Rattle.std.proofs.Common.{None, ◌≡◌, ℕ, zero, suc, inl, inr, ◌+◌, ◌<◌, min, Bool, true, false, cond, List, [], ◌∷◌, ◌++◌, length, map, Result, Ok, Err, refl, sym, ap, ◌∙◌, subst, append_assoc, append-nil, length-append, arith}
 use Rattle.std.specs.Prelude.{◌==◌, ◌||◌, nat_lt, ◌≢◌, AllPairs}
 use Rattle.std.specs.List.{enumerate_from, flat_map}
 use Rattle.std.specs.Str.Lines.{lines}

@@ -1,20 +1,15 @@
 -- A text of which each list is what its lines bring, and whose instruments fit, is not refused.
-use Rattle.std.proofs.Common.{None, ◌≡◌, ◌≢◌, ℕ, ℤ, zero, suc, inl, inr, ◌+◌, ◌<◌, Bool, true, false, cond, List, [], ◌∷◌, ◌++◌, length, get_or, leb, Option, Some, Result, Ok, Err, refl, sym, ap, ◌∙◌, subst, append_assoc, append-nil, length-append, arith}
-use Rattle.std.specs.Prelude.{◌==◌, ◌&&◌, not, is_some, AllPairs}
-use Rattle.std.specs.List.{flat_map, list_any}
-use Rattle.std.specs.Ordering.{int_eq}
-use Rattle.std.specs.Str.{bytes_eq}
+use Rattle.std.proofs.Common.{None, ◌≡◌, ◌≢◌, ℕ, inl, inr, ◌+◌, ◌<◌, Bool, true, false, cond, List, [], ◌∷◌, ◌++◌, length, get_or, leb, Option, Some, Result, Ok, Err, refl, sym, ap, ◌∙◌, subst, append_assoc, append-nil, length-append, arith}
+use Rattle.std.specs.Prelude.{◌==◌, not}
+use Rattle.std.specs.List.{flat_map}
 use Rattle.std.specs.Str.Lines.{lines}
 use Rattle.std.proofs.Math.Seq.{get_or-append_seam}
-use Rattle.std.proofs.lemmas.Bool.{and_from, cases_Bool, cond-false, cond-true, not_from_false, or_from}
-use Rattle.std.proofs.lemmas.Bool.Decides.{Decides-int_eq, nat_tests}
+use Rattle.std.proofs.lemmas.Bool.{cases_Bool, cond-false}
+use Rattle.std.proofs.lemmas.Bool.Decides.{nat_tests}
 use Rattle.std.proofs.lemmas.List.{get_or_append_left, take_at}
-use Rattle.std.proofs.lemmas.Slice.Eq.{bytes_eq-Decides}
 use Rattle.mdp_templates.proofs.Fits.{fits_at}
 use Rattle.mdp_templates.specs.Instrument.{AreFit, FitsAfter}
 use Rattle.mdp_templates.specs.declared.instrument.Instrument.{Instrument}
-use Rattle.mdp_templates.specs.declared.instrument.InstrumentKind.{InstrumentKind}
-use Rattle.mdp_templates.specs.declared.instrument.InstrumentKind.TheVariants.{Outright, Calendar}
 use Rattle.mdp_capture.specs.Line.{LineContent, Blank, Listing, Packet, Closing, Skipped, line_of}
 use Rattle.mdp_capture.specs.Capture.{CaptureContent, RefusedLine, add_line, add_lines, and_then, capture_of, has_legs, has_record, is_listed, needs_instrument, next_line, no_capture, refusal_of, unless_refused}
 use Rattle.mdp_capture.specs.Draft.{AreFitSoFar}

@@ -1,5 +1,5 @@
 -- What a capture that is being read holds so far.
-use Rattle.std.specs.Prelude.{◌≡◌, ◌<◌, ◌≤◌, ℕ, List, length, take, slice_index_or}
+use Rattle.std.specs.Prelude.{◌<◌, ◌≤◌, ℕ, List, length, take, slice_index_or}
 use Rattle.mdp_templates.specs.declared.instrument.Instrument.{Instrument}
 use Rattle.mdp_templates.specs.Instrument.{FitsAfter}
 use Rattle.mdp_capture.specs.Capture.{CaptureContent}
