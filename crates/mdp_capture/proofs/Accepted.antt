@@ -1,11 +1,14 @@
 -- An instrument whose line is accepted.
-use Rattle.std.proofs.Common.{◌≡◌, Bool, true, false, cond, length, leb, Option, None, Some, refl}
-use Rattle.std.specs.Prelude.{is_some}
+use Rattle.std.proofs.Common.{◌≡◌, ◌≢◌, ◌<◌, ℕ, inl, inr, Bool, true, false, cond, List, length, get_or, leb, None, Some, refl}
+use Rattle.std.specs.Ordering.{int_eq}
 use Rattle.std.specs.List.{list_any}
 use Rattle.std.specs.Str.{bytes_eq}
-use Rattle.std.proofs.lemmas.Bool.{or_parts}
+use Rattle.std.proofs.lemmas.Bool.{cases_Bool, or_from, or_parts}
+use Rattle.std.proofs.lemmas.Bool.Decides.{Decides-int_eq}
+use Rattle.std.proofs.lemmas.List.Folds.{list_any_at, list_any_none}
+use Rattle.std.proofs.lemmas.Slice.Eq.{bytes_eq-Decides}
 use Rattle.mdp_templates.specs.declared.instrument.Instrument.{Instrument}
-use Rattle.mdp_capture.specs.Capture.{CaptureContent, refusal_of, has_record, is_listed, has_legs, kind_with_id}
+use Rattle.mdp_capture.specs.Capture.{CaptureContent, refusal_of, has_record, is_listed, has_legs}
 use Rattle.mdp_capture.specs.declared.fault.CaptureRefusal.TheVariants.{DuplicateId, UnknownLeg, TooMany, InstrumentLate}
 
 -- none of the reasons to refuse a line holds
@@ -25,11 +28,42 @@ no_reason false false false true is = record { in_time = refl; few = refl; unlis
 pub accepted : (capture : CaptureContent) (instrument : Instrument) → refusal_of capture instrument ≡ None → IsAccepted (has_record capture) (leb 512 (length capture.instruments)) (is_listed capture.instruments instrument) (has_legs capture.instruments instrument.kind)
 accepted capture instrument is = no_reason (has_record capture) (leb 512 (length capture.instruments)) (is_listed capture.instruments instrument) (has_legs capture.instruments instrument.kind) is
 
-missing : {A : Type 0} (o : Option A) → is_some o ≡ false → o ≡ None
-missing None is = refl
-missing (Some x) is = cc
+-- where no element passes a test, none at a place does
+none_passes : {X : Type 0} (p : X → Bool) (xs : List X) → list_any p xs ≡ false → (k : ℕ) (d : X) → k < length xs → p (get_or xs k d) ≡ false
+none_passes {X} p xs none k d below =
+    elim (cases_Bool (p (get_or xs k d))) [
+      | inl passes ↦ let found : list_any p xs ≡ true = list_any_at p xs k d below passes in absurd (cc)
+      | inr fails ↦ fails
+    ]
 
-pub new_id : (capture : CaptureContent) (instrument : Instrument) → refusal_of capture instrument ≡ None → kind_with_id capture.instruments instrument.id ≡ None
-new_id capture instrument is =
-    let kind = kind_with_id capture.instruments instrument.id in
-    missing kind (or_parts (is_some kind) (list_any (λ other. bytes_eq other.name instrument.name) capture.instruments) (accepted capture instrument is).unlisted).0
+-- an instrument that is not listed has an id and a name of its own
+pub other_id : (xs : List Instrument) (i : Instrument) → is_listed xs i ≡ false → (k : ℕ) (d : Instrument) → k < length xs → (get_or xs k d).id ≢ i.id
+other_id xs i unlisted k d below = λ same.
+    let has_id = list_any (λ other. int_eq other.id i.id) xs in
+    let has_name = list_any (λ other. bytes_eq other.name i.name) xs in
+    let differs = none_passes (λ (other : Instrument). int_eq other.id i.id) xs (or_parts has_id has_name unlisted).0 k d below in
+    let is : int_eq (get_or xs k d).id i.id ≡ true = (Decides-int_eq (get_or xs k d).id i.id).1 same in
+    absurd (cc)
+
+pub other_name : (xs : List Instrument) (i : Instrument) → is_listed xs i ≡ false → (k : ℕ) (d : Instrument) → k < length xs → (get_or xs k d).name ≢ i.name
+other_name xs i unlisted k d below = λ same.
+    let has_id = list_any (λ other. int_eq other.id i.id) xs in
+    let has_name = list_any (λ other. bytes_eq other.name i.name) xs in
+    let differs = none_passes (λ (other : Instrument). bytes_eq other.name i.name) xs (or_parts has_id has_name unlisted).1 k d below in
+    let is : bytes_eq (get_or xs k d).name i.name ≡ true = (bytes_eq-Decides (get_or xs k d).name i.name).1 same in
+    absurd (cc)
+
+-- and one whose id and name are its own is not listed
+pub is_unlisted : (xs : List Instrument) (i : Instrument) → ((k : ℕ) (d : Instrument) → k < length xs → (get_or xs k d).id ≢ i.id) → ((k : ℕ) (d : Instrument) → k < length xs → (get_or xs k d).name ≢ i.name) → is_listed xs i ≡ false
+is_unlisted xs i ids names =
+    let no_id : list_any (λ (other : Instrument). int_eq other.id i.id) xs ≡ false =
+    list_any_none (λ (other : Instrument). int_eq other.id i.id) xs (λ k d below. elim (cases_Bool (int_eq (get_or xs k d).id i.id)) [
+      | inl same ↦ absurd (ids k d below ((Decides-int_eq (get_or xs k d).id i.id).0 same))
+      | inr other ↦ other
+    ]) in
+    let no_name : list_any (λ (other : Instrument). bytes_eq other.name i.name) xs ≡ false =
+    list_any_none (λ (other : Instrument). bytes_eq other.name i.name) xs (λ k d below. elim (cases_Bool (bytes_eq (get_or xs k d).name i.name)) [
+      | inl same ↦ absurd (names k d below ((bytes_eq-Decides (get_or xs k d).name i.name).0 same))
+      | inr other ↦ other
+    ]) in
+    or_from _ _ no_id no_name

@@ -1,26 +1,24 @@
 -- What each line brings to a capture.
-use Rattle.std.proofs.Common.{None, ◌≡◌, ℕ, zero, suc, inl, inr, ◌+◌, ◌<◌, min, Bool, true, false, cond, List, [], ◌∷◌, ◌++◌, length, map, Result, Ok, Err, refl, sym, ap, ◌∙◌, subst, append_assoc, append-nil, length-append, arith, get_or}
-use Rattle.std.specs.Prelude.{◌==◌, ◌||◌, nat_lt, ◌≢◌, is_some, AllPairs}
-use Rattle.std.specs.List.{enumerate_from, flat_map, list_any}
+use Rattle.std.proofs.Common.{None, ◌≡◌, ℕ, zero, suc, inl, inr, ◌+◌, ◌<◌, min, Bool, true, false, cond, List, [], ◌∷◌, ◌++◌, length, map, Result, Ok, Err, refl, sym, ap, ◌∙◌, subst, append_assoc, append-nil, length-append, arith}
+use Rattle.std.specs.Prelude.{◌==◌, ◌||◌, nat_lt, ◌≢◌, AllPairs}
+use Rattle.std.specs.List.{enumerate_from, flat_map}
 use Rattle.std.specs.Str.Lines.{lines}
-use Rattle.std.proofs.lemmas.Bool.{cases_Bool, or_parts}
+use Rattle.std.proofs.lemmas.Bool.{cases_Bool}
 use Rattle.std.proofs.lemmas.Bool.Decides.{nat_tests}
 use Rattle.std.proofs.lemmas.List.{length_push}
 use Rattle.mdp_templates.specs.declared.instrument.Instrument.{Instrument}
 use Rattle.mdp_capture.specs.Line.{LineContent, Blank, Listing, Packet, Closing, Skipped, line_of}
-use Rattle.mdp_capture.specs.Capture.{CaptureContent, RefusedLine, add_line, add_lines, and_then, capture_of, has_record, kind_with_id, needs_instrument, next_line, no_capture, refusal_of}
+use Rattle.mdp_capture.specs.Capture.{CaptureContent, RefusedLine, add_line, add_lines, and_then, capture_of, has_record, needs_instrument, next_line, no_capture, refusal_of}
 use Rattle.mdp_capture.specs.Lines.{NumberedLine, line_with_number, instruments_of, records_on, skipped_of, InstrumentsFirst, IsCaptureOf}
 use Rattle.mdp_capture.specs.declared.fault.CaptureRefusal.TheVariants.{NoInstrument}
 use Rattle.mdp_templates.specs.declared.feed.Feed.{Feed}
 use Rattle.mdp_templates.specs.declared.feed.Feed.TheVariants as feeds
-use Rattle.mdp_capture.proofs.Accepted.{accepted}
+use Rattle.mdp_capture.proofs.Accepted.{accepted, other_name}
 use Rattle.mdp_capture.proofs.Depths.{line_lists_depth}
 use Rattle.mdp_capture.proofs.Fit.{unrefused, line_keeps_fit, whole_is_fit}
 use Rattle.mdp_capture.specs.Parsed.{ListsDepth}
 use Rattle.mdp_capture.specs.Draft.{AreFitSoFar}
-use Rattle.std.proofs.lemmas.Slice.Eq.{bytes_eq-Decides}
 use Rattle.std.proofs.lemmas.List.Quantifiers.{all_pairs_push}
-use Rattle.std.specs.Str.{bytes_eq}
 
 -- these lines bring to a capture what makes the new one of it
 pub record Adds (lines : List NumberedLine) (old new : CaptureContent) : Type 0 where
@@ -195,22 +193,10 @@ instruments_first place (text ∷ rest) old new is =
 abbrev pub NamesDiffer : List Instrument → Type 0
 NamesDiffer = AllPairs (λ earlier later. earlier.name ≢ later.name)
 
--- a name that no instrument is found under is no instrument's
-other_name : (xs : List Instrument) (name : List ℕ) → list_any (λ other. bytes_eq other.name name) xs ≡ false → (k : ℕ) (d : Instrument) → k < length xs → (get_or xs k d).name ≢ name
-other_name [] name none k d below = absurd (omega arith)
-other_name (x ∷ xs) name none zero d below = λ same.
-    let found = (bytes_eq-Decides x.name name).1 same in
-    let other = (or_parts (bytes_eq x.name name) (list_any (λ other. bytes_eq other.name name) xs) none).0 in
-    absurd (cc)
-other_name (x ∷ xs) name none (suc k) d below =
-    other_name xs name (or_parts (bytes_eq x.name name) (list_any (λ other. bytes_eq other.name name) xs) none).1 k d (omega arith)
-
 named_more : (capture : CaptureContent) (instrument : Instrument) → refusal_of capture instrument ≡ None → NamesDiffer capture.instruments → NamesDiffer (capture.instruments ++ instrument ∷ [])
 named_more capture instrument is differ =
-    let has_id = is_some (kind_with_id capture.instruments instrument.id) in
-    let has_name = list_any (λ other. bytes_eq other.name instrument.name) capture.instruments in
     all_pairs_push (λ earlier later. earlier.name ≢ later.name) capture.instruments instrument differ
-    (other_name capture.instruments instrument.name (or_parts has_id has_name (accepted capture instrument is).unlisted).1)
+    (other_name capture.instruments instrument (accepted capture instrument is).unlisted)
 
 abbrev Named : CaptureContent → Type 0
 Named capture = NamesDiffer capture.instruments

@@ -1,66 +1,77 @@
 -- Instruments whose lines are accepted fit.
-use Rattle.std.proofs.Common.{◌≡◌, ◌≢◌, ℕ, ℤ, zero, suc, ◌<◌, Bool, true, cond, List, [], ◌∷◌, ◌++◌, length, Option, None, Some, Result, Ok, refl, sym, ap, ◌∙◌, arith, inl, inr, subst}
-use Rattle.std.specs.Prelude.{All, not, ◌&&◌}
+use Rattle.std.proofs.Common.{◌≡◌, ℕ, ℤ, ◌<◌, Bool, true, false, List, [], ◌∷◌, ◌++◌, length, Option, None, Some, Result, Ok, refl, sym, ap, arith, inl, inr, subst}
+use Rattle.std.specs.Prelude.{◌↔◌, IsTrue, not, ◌&&◌}
 use Rattle.std.specs.Ordering.{int_eq}
-use Rattle.std.proofs.lemmas.Bool.{cases_Bool, and_parts, not-true, leb-false, both_ways}
+use Rattle.std.proofs.lemmas.Bool.{cases_Bool, and_from, and_parts, not-true, not_from_false, leb-false, both_ways}
 use Rattle.std.proofs.lemmas.Bool.Decides.{Decides-int_eq}
 use Rattle.std.proofs.lemmas.List.{length_push}
+use Rattle.std.proofs.lemmas.List.Folds.{Any-from_list_any, list_any-from_Any}
 use Rattle.mdp_templates.specs.declared.instrument.Instrument.{Instrument}
 use Rattle.mdp_templates.specs.declared.instrument.InstrumentKind.{InstrumentKind}
 use Rattle.mdp_templates.specs.declared.instrument.InstrumentKind.TheVariants.{Outright, Calendar}
 use Rattle.mdp_templates.specs.Instrument.{HasOutright, HasLegs, HasDepth, FitsAfter, AreFit}
 use Rattle.mdp_templates.proofs.Fits.{fit, fit_push}
 use Rattle.mdp_capture.specs.Line.{LineContent, Blank, Listing, Packet, Closing, Skipped}
-use Rattle.mdp_capture.specs.Capture.{CaptureContent, RefusedLine, kind_with_id, is_outright, has_legs, refusal_of, unless_refused, add_line}
+use Rattle.mdp_capture.specs.Capture.{CaptureContent, RefusedLine, has_outright, is_outright, has_legs, refusal_of, unless_refused, add_line}
 use Rattle.mdp_capture.specs.Parsed.{ListsDepth}
 use Rattle.mdp_capture.specs.Draft.{AreFitSoFar}
 use Rattle.mdp_capture.specs.declared.fault.CaptureRefusal.{CaptureRefusal}
 use Rattle.mdp_templates.specs.declared.feed.Feed.TheVariants as feeds
-use Rattle.mdp_capture.proofs.Accepted.{accepted, new_id}
+use Rattle.mdp_capture.proofs.Accepted.{accepted, other_id}
 
-same_id : (id : ℤ) → int_eq id id ≡ true
-same_id id = (Decides-int_eq id id).1 refl
+kind_of : (kind : InstrumentKind) → is_outright kind ≡ true → kind ≡ Outright
+kind_of Outright is = refl
+kind_of (Calendar leg1 leg2) is = absurd (cc)
 
--- an id that is not found is no instrument's
-not_found : (xs : List Instrument) (id : ℤ) → kind_with_id xs id ≡ None → All (λ other. other.id ≢ id) xs
-not_found [] id none k d below = absurd (omega arith)
-not_found (x ∷ xs) id none zero d below = λ same. let found = ap (λ other. int_eq id other) same ∙ same_id id in let P : Bool → Type 0 = λ b. cond b (Some x.kind) (kind_with_id xs id) ≡ None in let is = subst P found none in absurd (cc)
-not_found (x ∷ xs) id none (suc k) d below =
-    elim (cases_Bool (int_eq id x.id)) [
-      | inl found ↦ let P : Bool → Type 0 = λ b. cond b (Some x.kind) (kind_with_id xs id) ≡ None in let is = subst P found none in absurd (cc)
-      | inr other ↦ let P : Bool → Type 0 = λ b. cond b (Some x.kind) (kind_with_id xs id) ≡ None in not_found xs id (subst P other none) k d (omega arith)
-    ]
+-- the test of an outright of this id, both ways
+there : (i : Instrument) (id : ℤ) → (int_eq i.id id && is_outright i.kind) ≡ true → (i.id ≡ id) × (i.kind ≡ Outright)
+there i id is =
+    let both = and_parts (int_eq i.id id) (is_outright i.kind) is in ((Decides-int_eq i.id id).0 both.0, kind_of i.kind both.1)
 
--- an outright that is found stands there
-found_outright : (xs : List Instrument) (id : ℤ) → kind_with_id xs id ≡ Some Outright → HasOutright xs id
-found_outright [] id is = absurd (cc)
-found_outright (x ∷ xs) id is =
-    let P : Bool → Type 0 = λ b. cond b (Some x.kind) (kind_with_id xs id) ≡ Some Outright in
-    elim (cases_Bool (int_eq id x.id)) [
-      | inl found ↦ let kind : Some x.kind ≡ Some Outright = subst P found is in let here : x.kind ≡ Outright = cc in (0, x, omega arith, refl, (sym ((Decides-int_eq id x.id).0 found), here))
-      | inr other ↦ let later = found_outright xs id (subst P other is) in (suc later.0, later.1, omega (arith, later.2), later.3, later.4)
-    ]
+found_outright : (xs : List Instrument) (id : ℤ) → has_outright xs id ≡ true → HasOutright xs id
+found_outright xs id is =
+    let found = Any-from_list_any (λ (other : Instrument). int_eq other.id id && is_outright other.kind) xs is in
+    (found.0, found.1, found.2, found.3, there found.1 id found.4)
 
-some_outright : (o : Option InstrumentKind) → is_outright o ≡ true → o ≡ Some Outright
-some_outright None is = absurd (cc)
-some_outright (Some Outright) is = refl
-some_outright (Some (Calendar leg1 leg2)) is = absurd (cc)
+outright_found : (xs : List Instrument) (id : ℤ) → HasOutright xs id → has_outright xs id ≡ true
+outright_found xs id (k, i, below, at, is) =
+    list_any-from_Any (λ (other : Instrument). int_eq other.id id && is_outright other.kind) xs
+    (k, i, below, at, and_from (int_eq i.id id) (is_outright i.kind) ((Decides-int_eq i.id id).1 is.0) (ap is_outright is.1))
 
 legs_found : (xs : List Instrument) (kind : InstrumentKind) → has_legs xs kind ≡ true → HasLegs xs kind
 legs_found xs Outright is = tt
 legs_found xs (Calendar leg1 leg2) is =
-    let one = is_outright (kind_with_id xs leg1) in
-    let two = is_outright (kind_with_id xs leg2) in
+    let one = has_outright xs leg1 in
+    let two = has_outright xs leg2 in
     let both = and_parts (not (int_eq leg1 leg2) && one) two is in
     let first = and_parts (not (int_eq leg1 leg2)) one both.0 in (
       λ same. both_ways (int_eq leg1 leg2) (not-true (int_eq leg1 leg2) first.0) ((Decides-int_eq leg1 leg2).1 same),
-      found_outright xs leg1 (some_outright (kind_with_id xs leg1) first.1),
-      found_outright xs leg2 (some_outright (kind_with_id xs leg2) both.1),
+      found_outright xs leg1 first.1,
+      found_outright xs leg2 both.1,
     )
+
+pub legs_are : (xs : List Instrument) (kind : InstrumentKind) → HasLegs xs kind → has_legs xs kind ≡ true
+legs_are xs Outright legs = refl
+legs_are xs (Calendar leg1 leg2) legs =
+    let one = has_outright xs leg1 in
+    let two = has_outright xs leg2 in
+    let apart : int_eq leg1 leg2 ≡ false = elim (cases_Bool (int_eq leg1 leg2)) [ inl same ↦ absurd (legs.0 ((Decides-int_eq leg1 leg2).0 same)) | inr other ↦ other ] in
+    and_from (not (int_eq leg1 leg2) && one) two
+    (and_from (not (int_eq leg1 leg2)) one (not_from_false (int_eq leg1 leg2) apart) (outright_found xs leg1 legs.1))
+    (outright_found xs leg2 legs.2)
+
+-- a test of the legs tells what the definition of a capture does
+pub tells_legs : (b : Bool) (xs : List Instrument) (kind : InstrumentKind) → (IsTrue b ↔ HasLegs xs kind) → b ≡ has_legs xs kind
+tells_legs true xs kind both = sym (legs_are xs kind (both.0 refl))
+tells_legs false xs kind both =
+    elim (cases_Bool (has_legs xs kind)) [
+      | inl legs ↦ let is : IsTrue false = both.1 (legs_found xs kind legs) in absurd (cc)
+      | inr none ↦ sym none
+    ]
 
 accepted_fits : (capture : CaptureContent) (instrument : Instrument) → HasDepth instrument → refusal_of capture instrument ≡ None → FitsAfter capture.instruments instrument
 accepted_fits capture instrument depth is = record {
-  id_is_new = not_found capture.instruments instrument.id (new_id capture instrument is);
+  id_is_new = other_id capture.instruments instrument (accepted capture instrument is).unlisted;
   legs_stand = legs_found capture.instruments instrument.kind (accepted capture instrument is).has_legs;
   has_depth = depth;
 }

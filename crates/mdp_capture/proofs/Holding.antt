@@ -1,22 +1,17 @@
 -- A text of which each list is what its lines bring, and whose instruments fit, is not refused.
-use Rattle.std.proofs.Common.{None, ◌≡◌, ◌≢◌, ℕ, ℤ, zero, suc, inl, inr, ◌+◌, ◌<◌, Bool, true, false, cond, List, [], ◌∷◌, ◌++◌, length, get_or, leb, Option, Some, Result, Ok, Err, refl, sym, ap, ◌∙◌, subst, append_assoc, append-nil, length-append, arith}
-use Rattle.std.specs.Prelude.{◌==◌, ◌&&◌, not, is_some, AllPairs}
-use Rattle.std.specs.List.{flat_map, list_any}
-use Rattle.std.specs.Ordering.{int_eq}
-use Rattle.std.specs.Str.{bytes_eq}
+use Rattle.std.proofs.Common.{None, ◌≡◌, ◌≢◌, ℕ, inl, inr, ◌+◌, ◌<◌, Bool, true, false, cond, List, [], ◌∷◌, ◌++◌, length, get_or, leb, Option, Some, Result, Ok, Err, refl, sym, ap, ◌∙◌, subst, append_assoc, append-nil, length-append, arith}
+use Rattle.std.specs.Prelude.{◌==◌, not}
+use Rattle.std.specs.List.{flat_map}
 use Rattle.std.specs.Str.Lines.{lines}
 use Rattle.std.proofs.Math.Seq.{get_or-append_seam}
-use Rattle.std.proofs.lemmas.Bool.{and_from, cases_Bool, cond-false, cond-true, not_from_false, or_from}
-use Rattle.std.proofs.lemmas.Bool.Decides.{Decides-int_eq, nat_tests}
+use Rattle.std.proofs.lemmas.Bool.{cases_Bool, cond-false}
+use Rattle.std.proofs.lemmas.Bool.Decides.{nat_tests}
 use Rattle.std.proofs.lemmas.List.{get_or_append_left, take_at}
-use Rattle.std.proofs.lemmas.Slice.Eq.{bytes_eq-Decides}
 use Rattle.mdp_templates.proofs.Fits.{fits_at}
-use Rattle.mdp_templates.specs.Instrument.{AreFit, FitsAfter, HasLegs, HasOutright}
+use Rattle.mdp_templates.specs.Instrument.{AreFit, FitsAfter}
 use Rattle.mdp_templates.specs.declared.instrument.Instrument.{Instrument}
-use Rattle.mdp_templates.specs.declared.instrument.InstrumentKind.{InstrumentKind}
-use Rattle.mdp_templates.specs.declared.instrument.InstrumentKind.TheVariants.{Outright, Calendar}
 use Rattle.mdp_capture.specs.Line.{LineContent, Blank, Listing, Packet, Closing, Skipped, line_of}
-use Rattle.mdp_capture.specs.Capture.{CaptureContent, RefusedLine, add_line, add_lines, and_then, capture_of, has_legs, has_record, is_listed, is_outright, kind_with_id, needs_instrument, next_line, no_capture, refusal_of, unless_refused}
+use Rattle.mdp_capture.specs.Capture.{CaptureContent, RefusedLine, add_line, add_lines, and_then, capture_of, has_legs, has_record, is_listed, needs_instrument, next_line, no_capture, refusal_of, unless_refused}
 use Rattle.mdp_capture.specs.Draft.{AreFitSoFar}
 use Rattle.mdp_capture.specs.Lines.{NumberedLine, instruments_of, numbered_lines, records_on, InstrumentsFirst, IsCaptureOf}
 use Rattle.mdp_capture.specs.Record.{RecordContent}
@@ -25,59 +20,16 @@ use Rattle.mdp_capture.specs.declared.fault.CaptureRefusal.TheVariants.{Duplicat
 use Rattle.mdp_templates.specs.declared.feed.Feed.{Feed}
 use Rattle.mdp_templates.specs.declared.feed.Feed.TheVariants as feeds
 use Rattle.mdp_capture.specs.declared.skip.SkippedLine.{SkippedLine}
+use Rattle.mdp_capture.proofs.Accepted.{is_unlisted}
+use Rattle.mdp_capture.proofs.Fit.{legs_are}
 use Rattle.mdp_capture.proofs.Bringing.{Adds, NamesDiffer, all_lines, line_at, lines_from, next_number, number_at, one_line, records, some_counted}
 
 -- ---- an instrument that fits is not refused
 
-abbrev IdsDiffer : List Instrument → Type 0
-IdsDiffer = AllPairs (λ earlier later. earlier.id ≢ later.id)
-
--- instruments that fit so far, of different ids and names
+-- instruments that fit so far, of different names
 record AreGood (instruments : List Instrument) : Type 0 where
   fit : AreFitSoFar instruments
-  ids : IdsDiffer instruments
   names : NamesDiffer instruments
-
-no_id : (xs : List Instrument) (id : ℤ) → ((k : ℕ) (d : Instrument) → k < length xs → (get_or xs k d).id ≢ id) → kind_with_id xs id ≡ None
-no_id [] id differ = refl
-no_id (x ∷ xs) id differ =
-    elim (cases_Bool (int_eq id x.id)) [
-      | inl same ↦ absurd (differ 0 x (omega arith) (sym ((Decides-int_eq id x.id).0 same)))
-      | inr other ↦ cond-false (int_eq id x.id) (Some x.kind) (kind_with_id xs id) other ∙ no_id xs id (λ k d below. differ (suc k) d (omega (arith, below)))
-    ]
-
-no_name : (xs : List Instrument) (name : List ℕ) → ((k : ℕ) (d : Instrument) → k < length xs → (get_or xs k d).name ≢ name) → list_any (λ other. bytes_eq other.name name) xs ≡ false
-no_name [] name differ = refl
-no_name (x ∷ xs) name differ =
-    elim (cases_Bool (bytes_eq x.name name)) [
-      | inl same ↦ absurd (differ 0 x (omega arith) ((bytes_eq-Decides x.name name).0 same))
-      | inr other ↦ or_from (bytes_eq x.name name) (list_any (λ other. bytes_eq other.name name) xs) other (no_name xs name (λ k d below. differ (suc k) d (omega (arith, below))))
-    ]
-
-ids_behind : (x : Instrument) (xs : List Instrument) → IdsDiffer (x ∷ xs) → IdsDiffer xs
-ids_behind x xs differ i j d above below = differ (suc i) (suc j) d (omega (arith, above)) (omega (arith, below))
-
-outright_found : (xs : List Instrument) (id : ℤ) → IdsDiffer xs → HasOutright xs id → kind_with_id xs id ≡ Some Outright
-outright_found [] id differ (k, x, below, at, is) = absurd (omega (arith, below))
-outright_found (x ∷ xs) id differ (zero, y, below, at, is) =
-    let same : x ≡ y = at in
-    let found : int_eq id x.id ≡ true = (Decides-int_eq id x.id).1 (sym (ap (λ (i : Instrument). i.id) same ∙ is.0)) in
-    cond-true (int_eq id x.id) (Some x.kind) (kind_with_id xs id) found ∙ ap (λ (kind : InstrumentKind). let o : Option InstrumentKind = Some kind in o) (ap (λ (i : Instrument). i.kind) same ∙ is.1)
-outright_found (x ∷ xs) id differ (suc k, y, below, at, is) =
-    elim (cases_Bool (int_eq id x.id)) [
-      | inl same ↦ absurd (differ 0 (suc k) y (omega arith) below (sym ((Decides-int_eq id x.id).0 same) ∙ sym (ap (λ (i : Instrument). i.id) at ∙ is.0)))
-      | inr other ↦ cond-false (int_eq id x.id) (Some x.kind) (kind_with_id xs id) other ∙ outright_found xs id (ids_behind x xs differ) (k, y, omega (arith, below), at, is)
-    ]
-
-legs_are : (xs : List Instrument) (kind : InstrumentKind) → IdsDiffer xs → HasLegs xs kind → has_legs xs kind ≡ true
-legs_are xs Outright differ legs = refl
-legs_are xs (Calendar leg1 leg2) differ legs =
-    let one = is_outright (kind_with_id xs leg1) in
-    let two = is_outright (kind_with_id xs leg2) in
-    let apart : int_eq leg1 leg2 ≡ false = elim (cases_Bool (int_eq leg1 leg2)) [ inl same ↦ absurd (legs.0 ((Decides-int_eq leg1 leg2).0 same)) | inr other ↦ other ] in
-    and_from (not (int_eq leg1 leg2) && one) two
-    (and_from (not (int_eq leg1 leg2)) one (not_from_false (int_eq leg1 leg2) apart) (ap is_outright (outright_found xs leg1 differ legs.1)))
-    (ap is_outright (outright_found xs leg2 differ legs.2))
 
 reasonless : (late many listed legs : Bool) → late ≡ false → many ≡ false → listed ≡ false → legs ≡ true → cond late (Some InstrumentLate) (cond many (Some TooMany) (cond listed (Some DuplicateId) (cond legs None (Some UnknownLeg)))) ≡ None
 reasonless true many listed legs a b c d = absurd (cc)
@@ -111,12 +63,9 @@ not_refused capture i more none good =
     let fits = fits_there xs i more good in
     let names : (k : ℕ) (d : Instrument) → k < length xs → (get_or xs k d).name ≢ i.name =
     λ k d below. rw (get_or_append_left xs (i ∷ more) d k below, get_or-append_seam xs i more d) at (good.names k (length xs) d below inside) in
-    let ids : IdsDiffer xs =
-    λ j k d above below. rw (get_or_append_left xs (i ∷ more) d j (omega (arith, above, below)), get_or_append_left xs (i ∷ more) d k below) at (good.ids j k d above (omega (arith, below, inside))) in
-    let unlisted : is_listed xs i ≡ false =
-    or_from (is_some (kind_with_id xs i.id)) (list_any (λ other. bytes_eq other.name i.name) xs) (ap is_some (no_id xs i.id fits.id_is_new)) (no_name xs i.name names) in
+    let unlisted = is_unlisted xs i fits.id_is_new names in
     let room : leb 512 (length xs) ≡ false = grind (arith, nat_tests) in
-    reasonless (has_record capture) (leb 512 (length xs)) (is_listed xs i) (has_legs xs i.kind) (in_time capture none) room unlisted (legs_are xs i.kind ids fits.legs_stand)
+    reasonless (has_record capture) (leb 512 (length xs)) (is_listed xs i) (has_legs xs i.kind) (in_time capture none) room unlisted (legs_are xs i.kind fits.legs_stand)
 
 -- ---- line by line
 
@@ -204,7 +153,7 @@ same_capture x y i a b s k =
     ∙ ap (λ (v : List SkippedLine). make y.instruments y.a y.b y.s v) k)))
 
 good_from_fit : (xs : List Instrument) → AreFit xs → NamesDiffer xs → AreGood xs
-good_from_fit xs are names = record { fit = record { few = are.few; each = λ place d below. fits_at xs place d below are }; ids = are.ids_differ; names = names }
+good_from_fit xs are names = record { fit = record { few = are.few; each = λ place d below. fits_at xs place d below are }; names = names }
 
 pub is_not_refused : (text : List ℕ) (capture : CaptureContent) → IsCaptureOf text capture → capture_of text ≡ Ok capture
 is_not_refused text capture is =

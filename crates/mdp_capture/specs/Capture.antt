@@ -1,7 +1,6 @@
 -- The capture of a text, or its first refusal, computed line by line; `Lines` says by the lines alone what it holds.
-use Rattle.std.specs.Prelude.{ℕ, ℤ, ◌+◌, ◌==◌, ◌&&◌, ◌||◌, not, nat_le, nat_lt, min, Bool, true, false, if◌then◌else◌, List, [], ◌∷◌, ◌++◌, length, map, is_some, Option, Some, None, Result, Ok, Err, ◌≡◌}
+use Rattle.std.specs.Prelude.{ℕ, ℤ, ◌+◌, ◌==◌, ◌&&◌, ◌||◌, not, nat_le, nat_lt, min, Bool, true, false, if◌then◌else◌, List, [], ◌∷◌, ◌++◌, length, Option, Some, None, Result, Ok, Err, ◌≡◌}
 use Rattle.std.specs.List.{list_any}
-use Rattle.std.specs.Map.{lookup}
 use Rattle.std.specs.Ordering.{int_eq}
 use Rattle.std.specs.Str.{bytes_eq}
 use Rattle.std.specs.Str.Lines.{lines}
@@ -35,28 +34,22 @@ pub record RefusedLine : Type 0 where
 abbrev pub no_capture : CaptureContent
 no_capture = record { instruments = []; a = []; b = []; s = []; skipped = [] }
 
--- the id of an instrument, and what it is
-abbrev pub entry_of : Instrument → ℤ × InstrumentKind
-entry_of instrument = (instrument.id, instrument.kind)
-
--- the kind of the first instrument with this id
-abbrev pub kind_with_id : List Instrument → ℤ → Option InstrumentKind
-kind_with_id instruments id = lookup (int_eq id) (map entry_of instruments)
-
 -- whether one of the instruments has this one's id or name
 abbrev pub is_listed : List Instrument → Instrument → Bool
 is_listed instruments instrument =
-    is_some (kind_with_id instruments instrument.id) || list_any (λ other. bytes_eq other.name instrument.name) instruments
+    list_any (λ other. int_eq other.id instrument.id) instruments || list_any (λ other. bytes_eq other.name instrument.name) instruments
 
-abbrev pub is_outright : Option InstrumentKind → Bool
-is_outright (Some Outright) = true
-is_outright (Some (Calendar leg1 leg2)) = false
-is_outright None = false
+abbrev pub is_outright : InstrumentKind → Bool
+is_outright Outright = true
+is_outright (Calendar leg1 leg2) = false
+
+-- whether one of the instruments is an outright of this id
+abbrev pub has_outright : List Instrument → ℤ → Bool
+has_outright instruments id = list_any (λ other. int_eq other.id id && is_outright other.kind) instruments
 
 -- whether these are the ids of two different outrights among the instruments
 abbrev pub are_legs : List Instrument → ℤ → ℤ → Bool
-are_legs instruments leg1 leg2 =
-    not (int_eq leg1 leg2) && is_outright (kind_with_id instruments leg1) && is_outright (kind_with_id instruments leg2)
+are_legs instruments leg1 leg2 = not (int_eq leg1 leg2) && has_outright instruments leg1 && has_outright instruments leg2
 
 -- whether the legs stand among the instruments; an outright needs none
 abbrev pub has_legs : List Instrument → InstrumentKind → Bool

@@ -2,7 +2,7 @@
 use Rattle.std.specs.Prelude.{◌≡◌, ℕ, List, ◌++◌, eqb, false, All, Option, None, Some, Result}
 use Rattle.std.specs.Str.Lines.{lines}
 use Rattle.mdp_capture.specs.Capture.{CaptureContent, RefusedLine, capture_of, needs_instrument, add_lines}
-use Rattle.mdp_capture.specs.Draft.{capture_so_far, IsIndexed, AreFitSoFar}
+use Rattle.mdp_capture.specs.Draft.{capture_so_far, AreFitSoFar}
 use Rattle.mdp_capture.specs.declared.reading.Reading.{Reading}
 
 -- the capture of the lines that are read and of this text, whose first line has this number
@@ -19,7 +19,6 @@ IsOneLine bytes = All (λ byte. eqb byte 10 ≡ false) bytes
 
 -- a reading with instruments that fit so far, and behind its lines the bytes of a line that has no line feed yet
 pub record IsSound {A : Type 0} (reading : Reading A) : Type 0 where
-  pub indexed : IsIndexed reading.draft
   pub unfinished : IsOneLine reading.pending.items
   pub fit : AreFitSoFar reading.draft.instruments.items
 

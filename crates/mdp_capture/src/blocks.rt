@@ -5,13 +5,12 @@ ghost use Rattle.hex.specs.Hex.{decode_of};
 ghost use Rattle.mdp_capture.specs.Repeats.{Spells};
 
 use crate::lanes::{LANES, put_lanes};
+use crate::line::LONGEST_DATAGRAM;
 use bytes::{Bytes, BytesMut};
 use std::alloc::{AllocError, Allocator};
 
 /// How many bytes a block has.
 const BLOCK: usize = 65536;
-/// How many bytes a datagram has at most.
-const MOST_BYTES: usize = 2048;
 
 /// The block that datagrams are decoded into, one behind the other. It goes with the last record that has bytes in it.
 #[derive(Drop)]
@@ -44,7 +43,7 @@ impl<A: Allocator + Copy> Blocks<A> {
         ensures { IfOk result (λ read. IfSome read (λ bytes. Spells digits.now bytes)) }
     {
         let count = digits.len() / 2;
-        if digits.len() % 2 != 0 || count == 0 || count > MOST_BYTES {
+        if digits.len() % 2 != 0 || count == 0 || count > LONGEST_DATAGRAM {
             return Ok(None);
         }
         self.make_room(alloc, count)?;

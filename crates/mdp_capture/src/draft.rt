@@ -2,15 +2,14 @@
 
 ghost use Rattle.std.specs.Prelude.{◌≡◌, ◌≢◌, ◌++◌, ◌∷◌, [], List, OnOk, IfOk, IfErr, IfSome};
 ghost use Rattle.std.specs.Ordering.{int_eq};
-ghost use Rattle.indexmap.specs.IndexMap.{get};
 ghost use Rattle.std.specs.List.{list_any};
 ghost use Rattle.std.specs.Str.{bytes_eq};
 ghost use Rattle.mdp_capture.specs.Line.{LineContent, Packet, Skipped};
 ghost use Rattle.mdp_capture.specs.Part.{ListDepths, capture_after, contents_of};
-ghost use Rattle.mdp_capture.specs.Capture.{add_line, add_record, add_instrument, refusal_of, has_record, is_listed, has_legs, are_legs, is_outright, kind_with_id, entry_of, next_line, no_capture, needs_instrument, IsFaultOf};
+ghost use Rattle.mdp_capture.specs.Capture.{add_line, add_record, add_instrument, refusal_of, has_record, is_listed, has_legs, next_line, no_capture, needs_instrument, IsFaultOf};
 ghost use Rattle.mdp_capture.specs.Parsed.{ListsDepth, content_of};
 ghost use Rattle.mdp_capture.specs.Repeats.{newest_of, newest_on};
-ghost use Rattle.mdp_capture.specs.Draft.{capture_so_far, IsIndexed, AreFitSoFar};
+ghost use Rattle.mdp_capture.specs.Draft.{capture_so_far, AreFitSoFar};
 ghost use Rattle.mdp_templates.specs.Instrument.{AreFit};
 
 use crate::blocks::Blocks;
@@ -20,20 +19,14 @@ use crate::line::Line;
 use crate::record::Record;
 use crate::skip::{Skip, SkippedLine};
 use bytes::Bytes;
-use indexmap::IndexMap;
-use mdp_templates::{Feed, Instrument, InstrumentKind};
+use mdp_templates::{Feed, Instrument, MOST_INSTRUMENTS, has_legs};
 use std::alloc::{AllocError, Allocator};
-use std::hash::{BuildHasherDefault, FoldHasher};
-
-/// What kind of instrument each id is.
-type Kinds<A> = IndexMap<i32, InstrumentKind, BuildHasherDefault<FoldHasher>, A>;
 
 /// A capture under construction, with the number of its next line.
 #[derive(Drop)]
 pub(crate) struct Draft<A: Allocator> {
     pub(crate) line: u32,
     pub(crate) instruments: Vec<Instrument, A>,
-    kinds: Kinds<A>,
     a: Vec<Record<A>, A>,
     b: Vec<Record<A>, A>,
     s: Vec<Record<A>, A>,
@@ -41,20 +34,16 @@ pub(crate) struct Draft<A: Allocator> {
     pub(crate) blocks: Blocks<A>,
 }
 
-const MOST_INSTRUMENTS: usize = 512;
-
 impl<A: Allocator + Copy> Draft<A> {
     /// Makes a capture before its first line.
     pub(crate) fn new(alloc: A) -> Draft<A>
         ensures line { result.line ≡ 1 }
         ensures nothing { capture_so_far result ≡ no_capture }
-        ensures indexed { IsIndexed result }
         ensures fit { AreFitSoFar result.instruments.items }
     {
         Draft {
             line: 1,
             instruments: Vec::new(alloc),
-            kinds: IndexMap::new(alloc),
             a: Vec::new(alloc),
             b: Vec::new(alloc),
             s: Vec::new(alloc),
@@ -65,11 +54,9 @@ impl<A: Allocator + Copy> Draft<A> {
 
     /// Takes in the next line.
     pub(crate) fn add_line(&mut self, line: Line<A>) -> Result<(), CaptureFault>
-        requires indexed { IsIndexed self.old }
-        requires depth { ListsDepth (content_of line) }
+        requires { ListsDepth (content_of line) }
         ensures capture { OnOk result (add_line self.old.line (content_of line) (capture_so_far self.old) ≡ Ok (capture_so_far self.new)) }
         ensures line { OnOk result (self.new.line ≡ next_line self.old.line) }
-        ensures indexed { OnOk result (IsIndexed self.new) }
         ensures fit { OnOk result (AreFitSoFar self.old.instruments.items → AreFitSoFar self.new.instruments.items) }
         ensures refused { IfErr result (IsFaultOf (add_line self.old.line (content_of line) (capture_so_far self.old))) }
         ensures no_input { IfErr result (λ fault. fault ≢ CaptureFault.Input) }
@@ -81,11 +68,9 @@ impl<A: Allocator + Copy> Draft<A> {
 
     /// Takes in the next lines.
     pub(crate) fn add_lines(&mut self, lines: Vec<Line<A>, A>) -> Result<(), CaptureFault>
-        requires indexed { IsIndexed self.old }
-        requires depths { ListDepths lines.items }
+        requires { ListDepths lines.items }
         ensures capture { OnOk result ((rest : List LineContent) →
             capture_after self.old (contents_of lines.items ++ rest) ≡ capture_after self.new rest) }
-        ensures indexed { OnOk result (IsIndexed self.new) }
         ensures fit { OnOk result (AreFitSoFar self.old.instruments.items → AreFitSoFar self.new.instruments.items) }
         ensures refused { IfErr result (λ fault. (rest : List LineContent) →
             IsFaultOf (capture_after self.old (contents_of lines.items ++ rest)) fault) }
@@ -99,10 +84,8 @@ impl<A: Allocator + Copy> Draft<A> {
 
     // Takes in what a line says, and does not count it.
     fn add(&mut self, line: Line<A>) -> Result<(), CaptureFault>
-        requires { IsIndexed self.old }
         ensures capture { OnOk result (add_line self.old.line (content_of line) (capture_so_far self.old) ≡ Ok (capture_so_far self.new)) }
         ensures line { self.new.line ≡ self.old.line }
-        ensures indexed { OnOk result (IsIndexed self.new) }
         ensures refused { IfErr result (IsFaultOf (add_line self.old.line (content_of line) (capture_so_far self.old))) }
         ensures no_input { IfErr result (λ fault. fault ≢ CaptureFault.Input) }
     {
@@ -118,10 +101,8 @@ impl<A: Allocator + Copy> Draft<A> {
 
     // Appends a record to its feed's list.
     fn add_record(&mut self, feed: Feed, entry: Record<A>) -> Result<(), CaptureFault>
-        requires { IsIndexed self.old }
         ensures capture { OnOk result (add_record feed entry (capture_so_far self.old) ≡ capture_so_far self.new) }
         ensures line { self.new.line ≡ self.old.line }
-        ensures indexed { IsIndexed self.new }
         ensures memory { IfErr result (λ fault. fault ≡ CaptureFault.Memory) }
     {
         match feed {
@@ -134,10 +115,8 @@ impl<A: Allocator + Copy> Draft<A> {
 
     /// Takes in the next line, which brings a datagram of these bytes.
     pub(crate) fn add_datagram(&mut self, feed: Feed, bytes: Bytes<A>) -> Result<(), CaptureFault>
-        requires { IsIndexed self.old }
         ensures capture { OnOk result (add_line self.old.line (Packet feed bytes) (capture_so_far self.old) ≡ Ok (capture_so_far self.new)) }
         ensures line { OnOk result (self.new.line ≡ next_line self.old.line) }
-        ensures indexed { OnOk result (IsIndexed self.new) }
         ensures fit { OnOk result (AreFitSoFar self.old.instruments.items → AreFitSoFar self.new.instruments.items) }
         ensures memory { IfErr result (λ fault. fault ≡ CaptureFault.Memory) }
     {
@@ -159,10 +138,8 @@ impl<A: Allocator + Copy> Draft<A> {
 
     // Notes that this line is skipped, and why.
     fn skip_line(&mut self, skip: Skip) -> Result<(), CaptureFault>
-        requires { IsIndexed self.old }
         ensures capture { OnOk result (add_line self.old.line (Skipped skip) (capture_so_far self.old) ≡ Ok (capture_so_far self.new)) }
         ensures line { self.new.line ≡ self.old.line }
-        ensures indexed { IsIndexed self.new }
         ensures memory { IfErr result (λ fault. fault ≡ CaptureFault.Memory) }
     {
         let line = self.line;
@@ -172,10 +149,8 @@ impl<A: Allocator + Copy> Draft<A> {
 
     // Lists an instrument, or refuses the capture.
     fn add_instrument(&mut self, instrument: Instrument) -> Result<(), CaptureFault>
-        requires { IsIndexed self.old }
         ensures capture { OnOk result (add_instrument self.old.line instrument (capture_so_far self.old) ≡ Ok (capture_so_far self.new)) }
         ensures line { self.new.line ≡ self.old.line }
-        ensures indexed { OnOk result (IsIndexed self.new) }
         ensures refused { IfErr result (IsFaultOf (add_instrument self.old.line instrument (capture_so_far self.old))) }
         ensures no_input { IfErr result (λ fault. fault ≢ CaptureFault.Input) }
     {
@@ -183,23 +158,21 @@ impl<A: Allocator + Copy> Draft<A> {
             let line = self.line;
             return Err(CaptureFault::Refused { line, refusal });
         }
-        index(&mut self.kinds, &instrument)?;
         self.instruments.push(instrument)?;
         Ok(())
     }
 
     // Tells why an instrument on this line refuses the capture, if it does; the first reason that holds.
     fn refusal_of(&self, instrument: &Instrument) -> Option<CaptureRefusal>
-        requires { IsIndexed self.now }
         ensures { result ≡ refusal_of (capture_so_far self.now) instrument.now }
     {
         if self.has_record() {
             Some(CaptureRefusal::InstrumentLate)
         } else if self.instruments.len() >= MOST_INSTRUMENTS {
             Some(CaptureRefusal::TooMany)
-        } else if self.is_listed(instrument) {
+        } else if is_listed(self.instruments.as_slice(), instrument) {
             Some(CaptureRefusal::DuplicateId)
-        } else if !self.has_legs(instrument.kind) {
+        } else if !self.has_its_legs(instrument) {
             Some(CaptureRefusal::UnknownLeg)
         } else {
             None
@@ -213,52 +186,11 @@ impl<A: Allocator + Copy> Draft<A> {
         !self.a.is_empty() || !self.b.is_empty() || !self.s.is_empty()
     }
 
-    // Tells whether an instrument with this id or this name is listed.
-    fn is_listed(&self, instrument: &Instrument) -> bool
-        requires { IsIndexed self.now }
-        ensures { result ≡ is_listed self.now.instruments.items instrument.now }
+    // Tells whether the legs are listed that an instrument asks for.
+    fn has_its_legs(&self, instrument: &Instrument) -> bool
+        ensures { result ≡ has_legs self.now.instruments.items instrument.now.kind }
     {
-        self.kind_with_id(instrument.id).is_some()
-            || has_name(self.instruments.as_slice(), instrument.name.as_str())
-    }
-
-    // Tells whether the legs are listed that this kind of instrument asks for.
-    fn has_legs(&self, kind: InstrumentKind) -> bool
-        requires { IsIndexed self.now }
-        ensures { result ≡ has_legs self.now.instruments.items kind }
-    {
-        match kind {
-            InstrumentKind::Outright => true,
-            InstrumentKind::Calendar { leg1, leg2 } => self.are_legs(leg1, leg2),
-        }
-    }
-
-    // Tells whether two ids are those of two different outrights that are listed.
-    fn are_legs(&self, leg1: i32, leg2: i32) -> bool
-        requires { IsIndexed self.now }
-        ensures { result ≡ are_legs self.now.instruments.items leg1 leg2 }
-    {
-        leg1 != leg2 && self.has_outright(leg1) && self.has_outright(leg2)
-    }
-
-    // Tells whether an outright with this id is listed.
-    fn has_outright(&self, id: i32) -> bool
-        requires { IsIndexed self.now }
-        ensures { result ≡ is_outright (kind_with_id self.now.instruments.items id) }
-    {
-        match self.kind_with_id(id) {
-            Some(InstrumentKind::Outright) => true,
-            Some(InstrumentKind::Calendar { .. }) => false,
-            None => false,
-        }
-    }
-
-    // Gives the kind of the instrument that has this id, if one is listed.
-    fn kind_with_id(&self, id: i32) -> Option<InstrumentKind>
-        requires { IsIndexed self.now }
-        ensures { result ≡ kind_with_id self.now.instruments.items id }
-    {
-        self.kinds.get(&id).copied()
+        has_legs(self.instruments.as_slice(), instrument.kind)
     }
 
     /// Gives the whole capture.
@@ -278,19 +210,6 @@ impl<A: Allocator + Copy> Draft<A> {
     }
 }
 
-// Notes an instrument's kind under its id.
-fn index<A: Allocator + Copy>(
-    kinds: &mut Kinds<A>,
-    instrument: &Instrument,
-) -> Result<(), CaptureFault>
-    requires { get int_eq kinds.old instrument.now.id ≡ None }
-    ensures entries { OnOk result (kinds.new.entries ≡ kinds.old.entries ++ entry_of instrument.now ∷ []) }
-    ensures memory { IfErr result (λ fault. fault ≡ CaptureFault.Memory) }
-{
-    kinds.insert(instrument.id, instrument.kind)?;
-    Ok(())
-}
-
 // Gives the bytes of the last record once more, where it is a datagram whose bytes records may share.
 fn newest_of<A: Allocator>(records: &[Record<A>]) -> Result<Option<Bytes<A>>, AllocError>
     ensures { IfOk result (λ found. IfSome found (λ bytes. newest_of records.now ≡ Some bytes)) }
@@ -299,6 +218,20 @@ fn newest_of<A: Allocator>(records: &[Record<A>]) -> Result<Option<Bytes<A>>, Al
         Some(record) => record.share(),
         None => Ok(None),
     }
+}
+
+// Tells whether an instrument with this one's id or name is listed.
+fn is_listed(instruments: &[Instrument], instrument: &Instrument) -> bool
+    ensures { result ≡ is_listed instruments.now instrument.now }
+{
+    has_id(instruments, instrument.id) || has_name(instruments, instrument.name.as_str())
+}
+
+// Tells whether an instrument with this id is listed.
+fn has_id(instruments: &[Instrument], id: i32) -> bool
+    ensures { result ≡ list_any (λ other. int_eq other.id id) instruments.now }
+{
+    instruments.iter().any(|other| other.id == id)
 }
 
 // Tells whether an instrument with this name is listed.

@@ -32,7 +32,8 @@ pub(crate) enum Line<A: Allocator> {
     Skipped(Skip),
 }
 
-const LONGEST_DATAGRAM: usize = 2048;
+/// How many bytes a datagram has at most.
+pub(crate) const LONGEST_DATAGRAM: usize = 2048;
 
 impl<A: Allocator> Line<A> {
     /// Gives the bytes of the datagram once more, where lines may share them.

@@ -3,7 +3,7 @@
 ghost use Rattle.std.specs.Prelude.{◌≡◌, ◌≢◌, true, OnOk, IfOk, IfErr, IfSome};
 ghost use Rattle.mdp_capture.specs.Capture.{IsFaultOf, add_line, next_line};
 ghost use Rattle.mdp_capture.specs.Repeats.{HasBytesOf, Spells};
-ghost use Rattle.mdp_capture.specs.Draft.{capture_so_far, AreFitSoFar, IsIndexed};
+ghost use Rattle.mdp_capture.specs.Draft.{capture_so_far, AreFitSoFar};
 ghost use Rattle.mdp_capture.specs.Line.{fields, line_of, packet_of};
 
 use crate::draft::Draft;
@@ -23,11 +23,9 @@ impl<A: Allocator + Copy> Draft<A> {
         last: &[u8],
         known: Option<Feed>,
     ) -> Result<Option<Feed>, CaptureFault>
-        requires indexed { IsIndexed self.old }
-        requires known { HasBytesOf (line_of last.now) self.old known }
+        requires { HasBytesOf (line_of last.now) self.old known }
         ensures capture { OnOk result (add_line self.old.line (line_of text.now) (capture_so_far self.old) ≡ Ok (capture_so_far self.new)) }
         ensures line { OnOk result (self.new.line ≡ next_line self.old.line) }
-        ensures indexed { OnOk result (IsIndexed self.new) }
         ensures fit { OnOk result (AreFitSoFar self.old.instruments.items → AreFitSoFar self.new.instruments.items) }
         ensures known { IfOk result (HasBytesOf (line_of text.now) self.new) }
         ensures refused { IfErr result (IsFaultOf (add_line self.old.line (line_of text.now) (capture_so_far self.old))) }
@@ -55,11 +53,9 @@ impl<A: Allocator + Copy> Draft<A> {
         last: &[u8],
         known: Option<Feed>,
     ) -> Result<Option<Feed>, CaptureFault>
-        requires indexed { IsIndexed self.old }
-        requires known { HasBytesOf (line_of last.now) self.old known }
+        requires { HasBytesOf (line_of last.now) self.old known }
         ensures capture { OnOk result (add_line self.old.line (packet_of feed (fields digits.now)) (capture_so_far self.old) ≡ Ok (capture_so_far self.new)) }
         ensures line { OnOk result (self.new.line ≡ next_line self.old.line) }
-        ensures indexed { OnOk result (IsIndexed self.new) }
         ensures fit { OnOk result (AreFitSoFar self.old.instruments.items → AreFitSoFar self.new.instruments.items) }
         ensures known { IfOk result (HasBytesOf (packet_of feed (fields digits.now)) self.new) }
         ensures refused { IfErr result
@@ -87,7 +83,6 @@ impl<A: Allocator + Copy> Draft<A> {
         ensures bytes { IfOk result (λ read. IfSome read (λ bytes. Spells digits.now bytes)) }
         ensures line { self.new.line ≡ self.old.line }
         ensures capture { capture_so_far self.new ≡ capture_so_far self.old }
-        ensures kinds { self.new.kinds ≡ self.old.kinds }
     {
         let repeat = self.known_bytes(digits, last, known)?;
         if repeat.is_some() {
@@ -103,10 +98,8 @@ impl<A: Allocator + Copy> Draft<A> {
         feed: Feed,
         digits: &[u8],
     ) -> Result<Option<Feed>, CaptureFault>
-        requires { IsIndexed self.old }
         ensures capture { OnOk result (add_line self.old.line (packet_of feed (fields digits.now)) (capture_so_far self.old) ≡ Ok (capture_so_far self.new)) }
         ensures line { OnOk result (self.new.line ≡ next_line self.old.line) }
-        ensures indexed { OnOk result (IsIndexed self.new) }
         ensures fit { OnOk result (AreFitSoFar self.old.instruments.items → AreFitSoFar self.new.instruments.items) }
         ensures known { IfOk result (HasBytesOf (packet_of feed (fields digits.now)) self.new) }
         ensures refused { IfErr result

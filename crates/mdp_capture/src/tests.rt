@@ -1,5 +1,6 @@
 //! Captures as their texts say, and readers that fail or give little at a time; captures whose lines threads read.
 
+mod costs;
 mod lanes;
 mod over_threads;
 

@@ -1,2 +1,3 @@
 mod Names
 mod Numbers
+pub mod Telling

@@ -1,5 +1,5 @@
 -- The lines that are told on standard error, each ended by one line feed.
-use Rattle.std.specs.Prelude.{◌≡◌, ◌≤◌, ◌<◌, ◌-◌, ◌^◌, ℕ, List, ◌++◌, codes, decimal}
+use Rattle.std.specs.Prelude.{◌≡◌, ◌≤◌, ◌<◌, ◌-◌, ◌^◌, ℕ, zero, suc, List, ◌++◌, codes, decimal}
 use Rattle.std.specs.List.{flat_map}
 use Rattle.mdp_capture.specs.declared.fault.CaptureRefusal.{CaptureRefusal}
 use Rattle.mdp_capture.specs.declared.skip.SkippedLine.{SkippedLine}
@@ -30,8 +30,15 @@ skipped_line skipped =
 abbrev pub skipped_lines : List SkippedLine → List ℕ
 skipped_lines = flat_map skipped_line
 
--- A writer took this text and nothing else, unless a write to it failed. Once as many writes failed as can be counted,
--- nothing is known.
+-- Of a text all is sent, but for at most so many stretches that are left out. Nothing is sent twice or in another order.
+abbrev pub LeavesOut : ℕ → List ℕ → List ℕ → Type 0
+LeavesOut zero text sent = sent ≡ text
+LeavesOut (suc most) text sent =
+    (front : List ℕ) × (gap : List ℕ) × (rest : List ℕ) × (more : List ℕ)
+    × (text ≡ front ++ (gap ++ rest)) × (sent ≡ front ++ more) × LeavesOut most rest more
+
+-- A writer took this text and nothing else, but that each write to it that failed left a stretch of it out. Once as
+-- many writes failed as can be counted, nothing is known.
 pub record Tells {W : Type 0} (failed : W → ℕ) (taken : W → List ℕ) (old new : W) (text : List ℕ) : Type 0 where
   pub failures : failed old ≤ failed new
-  pub told : failed new ≡ failed old → failed old < 2 ^ 64 - 1 → taken new ≡ taken old ++ text
+  pub told : failed new < 2 ^ 64 - 1 → (sent : List ℕ) × (taken new ≡ taken old ++ sent) × LeavesOut (failed new - failed old) text sent

@@ -74,6 +74,7 @@ where
 }
 
 // Shows what the command line gives in place of a run.
+#[tactic(auto, using(crate::proofs::Telling::tells_nothing))]
 fn show<O: CountedWrite, F: CountedWrite, A: Allocator>(
     alloc: A,
     error: &Error,

@@ -1,5 +1,7 @@
 //! Digits in lanes, against the `hex` crate.
 
+ghost use Rattle.std.specs.Prelude.{◌<◌};
+
 use crate::blocks::Blocks;
 use std::alloc::{AllocError, Allocator};
 use std::test::Fail;

@@ -32,7 +32,6 @@ pub returns-clause-sound : goal.returns-clause-sound
 returns-clause-sound g c =
     let reading = c.loop-end.self in
     let rest = c.loop-end.rest.now in record {
-      indexed = c.loop-end.invariant.1.indexed;
       unfinished = rw c.in_ok-extend_from_slice.ensures.items (free_append 10 reading.pending.items rest c.loop-end.invariant.1.unfinished (free_of 10 rest c.in_default.ensures));
       fit = c.loop-end.invariant.1.fit;
     }
