@@ -284,6 +284,7 @@ module _ {A : Type 0} where
   pub begins_merge : (receiver : IntakeReceiverView (Batch A)) (a b s : List RecordContent) (left_a left_b left_s : ReaderOutcome A) (joined : Joined receiver a b s left_a left_b left_s) (listed : List Instrument) (room : ℕ) (from : Start) (start taken : List ℕ) (was now : Option Published)
       → WentOut (moments listed (moves_of listed room from (events_taken receiver.taken ++ rest_in joined))) (end_lines listed room from (refusals_text (readings_in joined)) (events_taken receiver.taken ++ rest_in joined)) start taken was now
       → (steps : List Step) × (now ≡ published_on was steps) × BeginsToPublishMerge listed room from a b s start taken steps
+  unfolding prints
   begins_merge receiver a b s left_a left_b left_s joined listed room from start taken was now went =
       let es = events_in (merge_in joined) in
       let end = end_lines listed room from (refusals_text (readings_in joined)) es in

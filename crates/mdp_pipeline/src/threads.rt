@@ -323,9 +323,7 @@ where
         &mut board,
         writer,
     );
-    let None = board else {
-        unreachable!()
-    };
+    let None = board else { unreachable!() };
     outcome
 }
 
