@@ -3,7 +3,7 @@
 ghost use Rattle.std.specs.Prelude.{◌≡◌, IfOk};
 ghost use Rattle.mdp_templates.specs.Instrument.{AreFit};
 
-use crate::{Steps, Turn, feed, feed_all};
+use crate::{Steps, Turn, feed_all};
 use arrayvec::{ArrayString, ArrayVec};
 use mdp_arbiter::{Arbiter, Start};
 use mdp_engine::Event;
@@ -39,6 +39,13 @@ fn packet<A: Allocator + Copy>(alloc: A, number: u32) -> Result<Event<A>, Memory
     let mut packet = Packet::new(alloc, number);
     packet.push(&[], true)?;
     Ok(Event::Packet(packet))
+}
+
+/// One packet of one message without entries.
+fn one_packet<A: Allocator + Copy>(alloc: A, number: u32) -> Result<Vec<Event<A>, A>, Memory> {
+    let mut events = Vec::new(alloc);
+    events.push(packet(alloc, number)?)?;
+    Ok(events)
 }
 
 /// A snapshot of the one security, with an empty book.
@@ -112,9 +119,9 @@ fn an_event_makes_the_turns_that_are_then_possible(rt: HostRuntime) -> Result<()
     let alloc = rt.alloc();
     let mut arbiter = Arbiter::new(alloc, &near()?, MapWindow::new(alloc, 4), Start::FromOne)?;
     let mut turns = Vec::new(alloc);
-    feed(alloc, &mut arbiter, packet(alloc, 2)?, &mut turns)?;
+    feed_all(alloc, &mut arbiter, one_packet(alloc, 2)?, &mut turns)?;
     assert_eq!(rt; turns.len(), 0);
-    feed(alloc, &mut arbiter, packet(alloc, 1)?, &mut turns)?;
+    feed_all(alloc, &mut arbiter, one_packet(alloc, 1)?, &mut turns)?;
     assert_eq!(rt; turns.len(), 2);
     are_first(&rt, &turns);
     Ok(())
