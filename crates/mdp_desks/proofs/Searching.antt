@@ -1,63 +1,99 @@
--- The first mark that is set, found among bytes.
-use Rattle.std.proofs.Common.{◌≡◌, ◌<◌, ◌≤◌, ℕ, zero, suc, ◌+◌, ◌-◌, Bool, true, false, List, ◌∷◌, length, drop, get_or, set, replicate, Some, None, refl, sym, ap, subst, ◌∙◌, arith}
+-- The first mark that is set, found among bytes, and the bounds within which all that are set stand.
+use Rattle.std.proofs.Common.{◌≡◌, ◌≢◌, ◌<◌, ◌≤◌, ℕ, zero, suc, ◌+◌, ◌-◌, max, Bool, true, false, List, ◌∷◌, length, drop, get_or, set, replicate, Some, None, refl, sym, ap, subst, ◌∙◌, arith, inl, inr}
 use Rattle.std.specs.Prelude.{◌==◌, slice_index, slice_range}
-use Rattle.std.proofs.lemmas.List.{get_or-map, get_or-drop, length-drop, map-set, take_all}
+use Rattle.std.proofs.lemmas.Bool.{cases_lt, cases_eq}
+use Rattle.std.proofs.lemmas.List.{get_or-map, get_or-take, get_or-drop, length-take, length-drop, map-set, length-set, get_or-set_same, get_or-set_other}
 use Rattle.memchr.specs.Find.{IsFirstByte, is_byte}
-use Rattle.mdp_desks.specs.Beside.{AreClear, IsFirstSet, marks_in}
+use Rattle.mdp_desks.specs.Beside.{AreClear, AreWithin, IsFirstSet, marks_in}
 
 not_set : (b : Bool) → (b ≡ true → ⊥) → b ≡ false
 not_set true is = absurd (is refl)
 not_set false is = refl
 
--- ---- among the bytes from one place on
+-- ---- among the bytes from one place on and below another
 
 mark_there : (bytes : List ℕ) (n : ℕ) → n < length bytes → get_or (marks_in bytes) n false ≡ (slice_index bytes n == 1)
 mark_there bytes n less = get_or-map (λ (b : ℕ). b == 1) bytes n 0 false less
 
-mark_behind : (bytes : List ℕ) (from n : ℕ) → from ≤ n → n < length bytes → get_or (marks_in bytes) n false ≡ is_byte 1 (slice_index (drop from bytes) (n - from))
-mark_behind bytes from n behind less =
-    let same : from + (n - from) ≡ n = omega (arith, behind) in
-    mark_there bytes n less ∙ ap (λ (m : ℕ). is_byte 1 (slice_index bytes m)) (sym same) ∙ ap (is_byte 1) (sym (get_or-drop from bytes (n - from) 0))
+mark_behind : (bytes : List ℕ) (low high k : ℕ) → k < high - low → high ≤ length bytes → get_or (marks_in bytes) (low + k) false ≡ is_byte 1 (slice_index (slice_range bytes low high) k)
+mark_behind bytes low high k less short =
+    mark_there bytes (low + k) (omega (arith, less, short))
+    ∙ ap (is_byte 1) (sym (get_or-take (high - low) (drop low bytes) k 0 less ∙ get_or-drop low bytes k 0))
 
--- the bytes from a place on, as they are lent
-range_behind : (bytes : List ℕ) (from : ℕ) → slice_range bytes from (length bytes) ≡ drop from bytes
-range_behind bytes from = take_all (length bytes - from) (drop from bytes) (omega (arith, length-drop from bytes))
+-- the same of a place among all
+mark_at_place : (bytes : List ℕ) (low high n : ℕ) → low ≤ n → n < high → high ≤ length bytes → get_or (marks_in bytes) n false ≡ is_byte 1 (slice_index (slice_range bytes low high) (n - low))
+mark_at_place bytes low high n from under short =
+    let same : low + (n - low) ≡ n = omega (arith, from) in
+    subst (λ (m : ℕ). get_or (marks_in bytes) m false ≡ is_byte 1 (slice_index (slice_range bytes low high) (n - low))) same (mark_behind bytes low high (n - low) (omega (arith, from, under)) short)
 
-pub first_here : (bytes : List ℕ) (from : ℕ) → from < length bytes → (slice_index bytes from == 1) ≡ true → IsFirstSet from (length bytes) from (marks_in bytes)
-first_here bytes from less is = record {
+range_long : (bytes : List ℕ) (low high : ℕ) → low ≤ high → high ≤ length bytes → length (slice_range bytes low high) ≡ high - low
+range_long bytes low high from short = omega (arith, length-take (high - low) (drop low bytes), length-drop low bytes, from, short)
+
+pub first_here : (bytes : List ℕ) (low high : ℕ) → low < high → high ≤ length bytes → (slice_index bytes low == 1) ≡ true → IsFirstSet low high low (marks_in bytes)
+first_here bytes low high less short is = record {
   behind = omega arith;
   inside = less;
-  is_set = mark_there bytes from less ∙ is;
-  before = λ k at under. absurd (omega (arith, at, under));
+  is_set = mark_there bytes low (omega (arith, less, short)) ∙ is;
+  before = λ k from under. absurd (omega (arith, from, under));
 }
 
-pub first_behind : (bytes : List ℕ) (from n : ℕ) → from < length bytes → IsFirstByte (is_byte 1) (slice_range bytes from (length bytes)) (Some n) → IsFirstSet from (length bytes) (from + n) (marks_in bytes)
-first_behind bytes from n less found =
-    let first = subst (λ (l : List ℕ). IsFirstByte (is_byte 1) l (Some n)) (range_behind bytes from) found in
-    let long = length-drop from bytes in
-    let inside : from + n < length bytes = omega (arith, first.0.high, long, less) in
-    let there : from + n - from ≡ n = omega arith in
+pub first_behind : (bytes : List ℕ) (low high n : ℕ) → low < high → high ≤ length bytes → IsFirstByte (is_byte 1) (slice_range bytes low high) (Some n) → IsFirstSet low high (low + n) (marks_in bytes)
+first_behind bytes low high n less short first =
+    let long = range_long bytes low high (omega (arith, less)) short in
+    let inside : n < high - low = omega (arith, first.0.high, long) in
     record {
       behind = omega arith;
-      inside = inside;
-      is_set = mark_behind bytes from (from + n) (omega arith) inside ∙ ap (λ (k : ℕ). is_byte 1 (slice_index (drop from bytes) k)) there ∙ first.1;
-      before = λ k at under.
-          mark_behind bytes from k at (omega (arith, under, inside))
-          ∙ not_set (is_byte 1 (slice_index (drop from bytes) (k - from))) (first.0.before (k - from) (omega arith) (omega (arith, at, under)));
+      inside = omega (arith, inside);
+      is_set = mark_behind bytes low high n inside short ∙ first.1;
+      before = λ k from under.
+          mark_at_place bytes low high k from (omega (arith, under, inside)) short
+          ∙ not_set (is_byte 1 (slice_index (slice_range bytes low high) (k - low))) (first.0.before (k - low) (omega arith) (omega (arith, from, under)));
     }
 
-pub none_behind : (bytes : List ℕ) (from : ℕ) → from < length bytes → IsFirstByte (is_byte 1) (slice_range bytes from (length bytes)) None → AreClear from (length bytes) (marks_in bytes)
-none_behind bytes from less found k at under =
-    let none = subst (λ (l : List ℕ). IsFirstByte (is_byte 1) l None) (range_behind bytes from) found in
-    let long = length-drop from bytes in
-    mark_behind bytes from k at under
-    ∙ not_set (is_byte 1 (slice_index (drop from bytes) (k - from))) (none (k - from) (omega arith) (omega (arith, at, under, long)))
+pub none_behind : (bytes : List ℕ) (low high : ℕ) → low < high → high ≤ length bytes → IsFirstByte (is_byte 1) (slice_range bytes low high) None → AreClear low high (marks_in bytes)
+none_behind bytes low high less short none k from under =
+    let long = range_long bytes low high (omega (arith, less)) short in
+    mark_at_place bytes low high k from under short
+    ∙ not_set (is_byte 1 (slice_index (slice_range bytes low high) (k - low))) (none (k - low) (omega arith) (omega (arith, from, under, long)))
+
+-- ---- among all
+
+pub next_set : (marks : List Bool) (low high from n : ℕ) → AreWithin low high marks → IsFirstSet (max from low) high n marks → IsFirstSet from (length marks) n marks
+next_set marks low high from n within first = record {
+  behind = omega (arith, first.behind);
+  inside = omega (arith, first.inside, within.short);
+  is_set = first.is_set;
+  before = λ k at under. elim (cases_lt k low) [
+    | inl below ↦ within.before k below
+    | inr above ↦ first.before k (omega (arith, at, above)) under
+  ];
+}
+
+pub next_none : (marks : List Bool) (low high from : ℕ) → AreWithin low high marks → AreClear (max from low) high marks → AreClear from (length marks) marks
+next_none marks low high from within none k at under = elim (cases_lt k low) [
+  | inl below ↦ within.before k below
+  | inr above ↦ by_high above
+]
+  where
+    by_high : low ≤ k → get_or marks k false ≡ false
+    by_high above = elim (cases_lt k high) [ inl inside ↦ none k (omega (arith, at, above)) inside | inr past ↦ within.behind k past ]
 
 -- ---- none is set at first
 
 pub none_in : (count : ℕ) → marks_in (replicate count 0) ≡ replicate count false
 none_in zero = refl
 none_in (suc count) = ap (λ (t : List Bool). false ∷ t) (none_in count)
+
+none_there : (count n : ℕ) → get_or (replicate count false) n false ≡ false
+none_there zero n = refl
+none_there (suc count) zero = refl
+none_there (suc count) (suc n) = none_there count n
+
+pub none_within : (bytes : List ℕ) (count : ℕ) → bytes ≡ replicate count 0 → AreWithin 0 0 (marks_in bytes)
+none_within bytes count is = record { short = omega arith; before = λ n under. absurd (omega (arith, under)); behind = λ n from. there n }
+  where
+    there : (n : ℕ) → get_or (marks_in bytes) n false ≡ false
+    there n = ap (λ (ms : List Bool). get_or ms n false) (ap marks_in is ∙ none_in count) ∙ none_there count n
 
 -- ---- a mark that is put
 
@@ -66,3 +102,67 @@ byte_set bytes slot = map-set (λ (b : ℕ). b == 1) bytes slot 1
 
 pub byte_cleared : (bytes : List ℕ) (slot : ℕ) → marks_in (set bytes slot 0) ≡ set (marks_in bytes) slot false
 byte_cleared bytes slot = map-set (λ (b : ℕ). b == 1) bytes slot 0
+
+other_mark : (marks : List Bool) (slot n : ℕ) (b : Bool) → n ≢ slot → get_or marks n false ≡ false → get_or (set marks slot b) n false ≡ false
+other_mark marks slot n b other is = get_or-set_other marks slot n b false other ∙ is
+
+-- where one is set, the bounds hold it
+pub set_within : (marks : List Bool) (low high low2 high2 slot : ℕ) → AreWithin low high marks → slot < length marks → high2 ≤ max high (slot + 1) → low2 ≤ slot → slot < high2 → (low < high → (low2 ≤ low) × (high ≤ high2)) → AreWithin low2 high2 (set marks slot true)
+set_within marks low high low2 high2 slot within less short first last wide =
+    let long = length-set marks slot true in
+    let before = within.short in
+    record {
+      short = omega (arith, short, long, before, less);
+      before = λ n under. other_mark marks slot n true (λ same. omega (arith, same, under, first)) (below n under);
+      behind = λ n from. other_mark marks slot n true (λ same. omega (arith, same, from, last)) (above n from);
+    }
+  where
+    between : (n : ℕ) → (low < high → n < high → low ≤ n → ⊥) → get_or marks n false ≡ false
+    between n none = elim (cases_lt n low) [
+      | inl under ↦ within.before n under
+      | inr from ↦ by_high from
+    ]
+      where
+        by_high : low ≤ n → get_or marks n false ≡ false
+        by_high from = elim (cases_lt n high) [ inl inside ↦ absurd (none (omega (arith, from, inside)) inside from) | inr past ↦ within.behind n past ]
+
+    below : (n : ℕ) → n < low2 → get_or marks n false ≡ false
+    below n under = between n (λ some inside from. let bounds = wide some in omega (arith, bounds.0, under, from))
+
+    above : (n : ℕ) → high2 ≤ n → get_or marks n false ≡ false
+    above n past = between n (λ some inside from. let bounds = wide some in omega (arith, bounds.1, past, inside))
+
+-- where one is taken away, they stay
+pub clear_within : (marks : List Bool) (low high slot : ℕ) → AreWithin low high marks → slot < length marks → AreWithin low high (set marks slot false)
+clear_within marks low high slot within less =
+    let long = length-set marks slot false in
+    let short = within.short in
+    record {
+      short = omega (arith, short, long);
+      before = λ n under. still_clear n (within.before n under);
+      behind = λ n from. still_clear n (within.behind n from);
+    }
+  where
+    still_clear : (n : ℕ) → get_or marks n false ≡ false → get_or (set marks slot false) n false ≡ false
+    still_clear n is = elim (cases_eq n slot) [
+      | inl same ↦ subst (λ (m : ℕ). get_or (set marks slot false) m false ≡ false) (sym same) (get_or-set_same marks slot false false less)
+      | inr other ↦ other_mark marks slot n false other is
+    ]
+
+-- and where it was the first, the lower one goes on to the next
+pub clear_on : (marks : List Bool) (low high next slot : ℕ) → AreWithin low high marks → slot < length marks → slot ≡ low → AreClear (slot + 1) next (set marks slot false) → AreWithin next high (set marks slot false)
+clear_on marks low high next slot within less first clear =
+    let kept = clear_within marks low high slot within less in
+    record { short = kept.short; before = λ n under. by_low kept n under; behind = kept.behind }
+  where
+    by_low : AreWithin low high (set marks slot false) → (n : ℕ) → n < next → get_or (set marks slot false) n false ≡ false
+    by_low kept n under = elim (cases_lt n low) [
+      | inl below ↦ kept.before n below
+      | inr above ↦ by_place n above under
+    ]
+      where
+        by_place : (n : ℕ) → low ≤ n → n < next → get_or (set marks slot false) n false ≡ false
+        by_place n above under = elim (cases_eq n slot) [
+          | inl same ↦ subst (λ (m : ℕ). get_or (set marks slot false) m false ≡ false) (sym same) (get_or-set_same marks slot false false less)
+          | inr other ↦ clear n (omega (arith, above, first, other)) under
+        ]

@@ -1,5 +1,5 @@
 -- What stands beside the desks: the ids of their securities, and their marks.
-use Rattle.std.specs.Prelude.{◌≡◌, ◌≢◌, ◌<◌, ◌≤◌, ℕ, ℤ, Bool, true, false, ◌==◌, List, map, get_or, All}
+use Rattle.std.specs.Prelude.{◌≡◌, ◌≢◌, ◌<◌, ◌≤◌, ℕ, ℤ, Bool, true, false, ◌==◌, List, map, length, get_or, All}
 use Rattle.std.specs.List.{AllPairs}
 use Rattle.mdp_templates.specs.declared.instrument.Instrument.{Instrument}
 use Rattle.mdp_templates.specs.Instrument.{HasDepth}
@@ -28,6 +28,12 @@ pub record IsFirstSet (low high n : ℕ) (marks : List Bool) : Type 0 where
   pub inside : n < high
   pub is_set : get_or marks n false ≡ true
   pub before : AreClear low n marks
+
+-- every mark that is set stands from `low` on and below `high`
+pub record AreWithin (low high : ℕ) (marks : List Bool) : Type 0 where
+  pub short : high ≤ length marks
+  pub before : (n : ℕ) → n < low → get_or marks n false ≡ false
+  pub behind : (n : ℕ) → high ≤ n → get_or marks n false ≡ false
 
 -- the ids stand in listed order and all differ, and so do the marks beside them; each book has a depth of its kind
 pub record AreBeside (desks : List Desk) (ids : List ℤ) (marks : List Bool) : Type 0 where

@@ -1,6 +1,6 @@
 //! Which desks have lines due at the next event end, kept apart from the desks so that one scan is cheap.
 
-ghost use Rattle.std.specs.Prelude.{◌≡◌, ◌<◌, IfOk, IfSome, IfNone, false, get_or, length, replicate, set};
+ghost use Rattle.std.specs.Prelude.{◌≡◌, ◌+◌, ◌<◌, ◌≤◌, IfOk, IfSome, IfNone, true, false, get_or, length, max, replicate, set};
 ghost use Rattle.mdp_desks.specs.Beside.{AreClear, IsFirstSet, marks_in};
 
 use mdp_templates::Memory;
@@ -8,37 +8,68 @@ use memchr::memchr;
 use std::alloc::Allocator;
 use std::marker::Model;
 
-/// A mark for each of so many places, seen as their list.
+/// A mark for each of so many places, seen as their list. Those that are set stand from `low` on and below `high`.
 #[derive(Drop)]
 pub struct Marked<A: Allocator> {
     // 1 where the mark is set, and 0 where it isn't
     marks: Vec<u8, A>,
+    low: usize,
+    high: usize,
 }
 
 impl<A: Allocator> Model for Marked<A> {
     ghost use Rattle.std.specs.Prelude.{List, Bool};
-    ghost use Rattle.mdp_desks.specs.Beside.{marks_in};
+    ghost use Rattle.mdp_desks.specs.Beside.{AreWithin, marks_in};
 
     ghost Value = { List Bool };
 
     ghost view = { λ m. marks_in m.marks.items };
+
+    ghost invariant = { λ m. AreWithin m.low m.high (marks_in m.marks.items) };
 }
 
-// Finds the first mark that is set, from a place on.
-fn first_marked(marks: &[u8], from: usize) -> Option<usize>
-    ensures some { IfSome result (λ n. IsFirstSet from (length marks.now) n (marks_in marks.now)) }
-    ensures none { IfNone result (AreClear from (length marks.now) (marks_in marks.now)) }
+// Finds the first mark that is set, from `low` on and below `high`.
+fn first_marked(marks: &[u8], low: usize, high: usize) -> Option<usize>
+    requires { high ≤ length marks.now }
+    ensures some { IfSome result (λ n. IsFirstSet low high n (marks_in marks.now)) }
+    ensures none { IfNone result (AreClear low high (marks_in marks.now)) }
 {
-    if from >= marks.len() {
+    if low >= high {
         return None;
     }
-    if marks[from] == 1 {
-        return Some(from);
+    if marks[low] == 1 {
+        return Some(low);
     }
-    match memchr(1, &marks[from..]) {
-        Some(n) => Some(from + n),
+    match memchr(1, &marks[low..high]) {
+        Some(n) => Some(low + n),
         None => None,
     }
+}
+
+// Tells a place below which no mark is set, where none is below `low` and all that are set stand below `high`.
+fn low_from(marks: &[u8], low: usize, high: usize) -> usize
+    requires { high ≤ length marks.now }
+    ensures short { result ≤ high }
+    ensures clear { AreClear low result (marks_in marks.now) }
+{
+    match first_marked(marks, low, high) {
+        Some(n) => n,
+        None => high,
+    }
+}
+
+// Widens the bounds of what is set, of which the lower one may be past the higher where none is, by a place.
+fn widened(low: usize, high: usize, slot: usize) -> (usize, usize)
+    requires { slot < 18446744073709551615 }
+    ensures low { result.0 ≤ slot }
+    ensures high { slot < result.1 }
+    ensures short { result.1 ≤ max high (slot + 1) }
+    ensures kept { low < high → (result.0 ≤ low) × (high ≤ result.1) }
+{
+    if low < high {
+        return (low.min(slot), high.max(slot + 1));
+    }
+    (slot, slot + 1)
 }
 
 impl<A: Allocator> Marked<A> {
@@ -48,6 +79,8 @@ impl<A: Allocator> Marked<A> {
     {
         Ok(Marked {
             marks: vec![in alloc; 0; count]?,
+            low: 0,
+            high: 0,
         })
     }
 
@@ -64,7 +97,32 @@ impl<A: Allocator> Marked<A> {
         ensures some { IfSome result (λ n. IsFirstSet from (length self.now) n self.now) }
         ensures none { IfNone result (AreClear from (length self.now) self.now) }
     {
-        first_marked(&self.marks, from)
+        first_marked(&self.marks, from.max(self.low), self.high)
+    }
+
+    // Sets the mark at a place, where it isn't set.
+    fn set_at(&mut self, slot: usize)
+        requires { slot < length self.old }
+        ensures { self.new ≡ set self.old slot true }
+    {
+        if self.is_set(slot) {
+            return;
+        }
+        let (low, high) = widened(self.low, self.high, slot);
+        self.low = low;
+        self.high = high;
+        self.marks[slot] = 1;
+    }
+
+    // Takes away the mark at a place. Where it was the first, `low` goes on to the next.
+    fn clear_at(&mut self, slot: usize)
+        requires { slot < length self.old }
+        ensures { self.new ≡ set self.old slot false }
+    {
+        self.marks[slot] = 0;
+        if slot == self.low {
+            self.low = low_from(&self.marks, slot + 1, self.high);
+        }
     }
 
     /// Sets or takes away the mark at a place.
@@ -73,9 +131,9 @@ impl<A: Allocator> Marked<A> {
         ensures { self.new ≡ set self.old slot mark }
     {
         if mark {
-            self.marks[slot] = 1;
+            self.set_at(slot);
         } else {
-            self.marks[slot] = 0;
+            self.clear_at(slot);
         }
     }
 }
