@@ -202,9 +202,11 @@ fn finish<R: Threads>(
     ensures { publisher.new ≡ publisher.old }
 {
     let Seen { mut reader, lines } = started?.join(rt);
-    let Some((step, rows)) = last_rows(publisher, &mut reader) else {
+    let Some(seen) = last_rows(publisher, &mut reader) else {
         bail!("the board was let go");
     };
+    let step = seen.0;
+    let rows = seen.1;
     let mut last = String::new(alloc);
     push_line(&mut last, number, step, instruments, &rows)?;
     Ok((lines, last))
