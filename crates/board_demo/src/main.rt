@@ -15,7 +15,7 @@ use mdp_arbiter::Start;
 use mdp_capture::{Capture, CountingReader, read_capture};
 use mdp_crew::Open;
 use mdp_lanes::{Board, Publisher, Reader, Row};
-use mdp_pipeline::run_published;
+use mdp_pipeline::{Feeds, RunPlan, run_published};
 use mdp_print::Counting;
 use mdp_quotes::Total;
 use mdp_templates::Instrument;
@@ -229,18 +229,18 @@ fn run_watched<'s, E, R: Threads + Wait + Sync>(
     let (publisher, first, second) = board(rt, alloc, instruments.len().max(2))?;
     let first = start(rt, scope, alloc, 1, first, instruments, over);
     let second = start(rt, scope, alloc, 2, second, instruments, over);
-    let (a, b, s) = (capture.a(), capture.b(), capture.s());
+    let plan = RunPlan {
+        instruments,
+        window,
+        start: Start::FromOne,
+        workers: WORKERS,
+    };
     let mut nowhere = Counting::new(io::sink());
     let (mut publisher, outcome) = run_published(
         rt,
         alloc,
-        instruments,
-        a,
-        b,
-        s,
-        WORKERS,
-        window,
-        Start::FromOne,
+        plan,
+        Feeds::of(capture),
         &Open,
         publisher,
         &mut nowhere,

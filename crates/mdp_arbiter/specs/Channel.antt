@@ -14,6 +14,12 @@ pub record Channel : Type 0 where
 abbrev pub ids_of : List Instrument → List ℤ
 ids_of instruments = map (λ instrument. instrument.id) instruments
 
--- the channel of these instruments, with this room and this start
-abbrev pub channel_of : List Instrument → ℕ → Start → Channel
-channel_of instruments room start = record { room = room; ids = ids_of instruments; start = start }
+-- a channel as its receiver is set up: the listed securities, the room and the start
+pub record ListedChannel : Type 0 where
+  pub listed : List Instrument
+  pub room : ℕ
+  pub start : Start
+
+-- what the recovery machine knows of it
+abbrev pub channel_of : ListedChannel → Channel
+channel_of channel = record { room = channel.room; ids = ids_of channel.listed; start = channel.start }

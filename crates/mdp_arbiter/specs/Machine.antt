@@ -7,7 +7,8 @@ use Rattle.mdp_templates.specs.Packet.{PacketContent}
 use Rattle.mdp_templates.specs.Snapshot.{SnapshotContent}
 use Rattle.mdp_arbiter.specs.declared.start.Start.{Start}
 use Rattle.mdp_arbiter.specs.declared.start.Start.TheVariants.{FromOne, Join}
-use Rattle.mdp_arbiter.specs.Channel.{Channel}
+use Rattle.mdp_arbiter.specs.declared.arbiter.Standing.{Standing}
+use Rattle.mdp_arbiter.specs.Channel.{Channel, ListedChannel, channel_of}
 use Rattle.mdp_arbiter.specs.Accepted.{Event, accepted_packets, first_of, highest, is_closed, newest_snapshots}
 
 -- A packet passes; or recovery jumps from one number to a later one, or to the same where it joins, and the listed
@@ -108,6 +109,21 @@ trace channel es = go_on channel [] (first_state channel) es
 
 abbrev pub state_at : Channel → List Event → State
 state_at channel es = after_all (first_state channel) (trace channel es)
+
+-- where the channel stands then: the number of the packet that comes next, and whether the receiver is lost
+abbrev pub standing_at : Channel → List Event → Standing
+standing_at channel es = record { next = (state_at channel es).next; lost = is_lost channel es (state_at channel es) }
+
+-- ---- a channel by its listed securities
+
+-- the moves that its events make possible, and where it stands after them
+abbrev pub moves_of : ListedChannel → List Event → List Move
+moves_of channel es = trace (channel_of channel) es
+
+abbrev pub standing_after : ListedChannel → List Event → Standing
+standing_after channel es = standing_at (channel_of channel) es
+
+-- ---- laws
 
 -- a front's moves are a beginning of the whole's
 abbrev pub LawOfFronts : Type 0

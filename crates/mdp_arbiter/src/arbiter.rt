@@ -23,6 +23,15 @@ use mdp_window::{Put, Window};
 use std::alloc::Allocator;
 use std::marker::Model;
 
+/// Where a channel stands after all that came.
+#[derive(Clone, Copy, Debug, PartialEq, Eq)]
+pub struct Standing {
+    /// The number of the packet that comes next, 1 to 4294967296.
+    pub next: u64,
+    /// Whether the receiver is lost: it has not joined, or that packet is given up.
+    pub lost: bool,
+}
+
 /// Puts the packets of two feeds into one order, and recovers what neither feed showed by snapshots.
 ///
 /// It takes in what came on any feed, and hands on the one step that is possible. `next` is the number of the packet
@@ -86,7 +95,7 @@ impl<A: Allocator + Copy, W: Window<Packet<A>> + Drop> Arbiter<A, W> {
         ensures stands { IfOk result (StandsAt []) }
         ensures start { IfOk result (λ arbiter. state arbiter ≡ first_state arbiter.channel) }
         ensures channel { IfOk result (λ arbiter. arbiter.channel
-            ≡ channel_of instruments.now (W.view window).room start) }
+            ≡ channel_of (record { listed = instruments.now; room = (W.view window).room; start = start })) }
     {
         let slots = Slots::of(alloc, instruments)?;
         let newest = none_for(alloc, instruments)?;

@@ -11,7 +11,7 @@ mod step;
 #[cfg(test)]
 mod tests;
 
-pub use arbiter::Arbiter;
+pub use arbiter::{Arbiter, Standing};
 pub use laws::{
     all_pass_without_loss, events_add, fronts_begin, joining_begins_with_a_jump, jumps_recover,
     moves_are_settled, passes_are_first,

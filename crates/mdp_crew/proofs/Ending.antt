@@ -1,7 +1,7 @@
 -- What a run comes to, of what the collector met and of what the arbiter tells.
 use Rattle.std.proofs.Common.{◌≡◌, ℕ, arith}
 use Rattle.std.specs.Prelude.{Result, Ok, Err, IfOk}
-use Rattle.mdp_crew.specs.declared.arbiter.Standing.{Standing}
+use Rattle.mdp_arbiter.specs.declared.arbiter.Standing.{Standing}
 use Rattle.mdp_crew.specs.declared.stop.Stop.{Stop}
 use Rattle.mdp_crew.specs.Arbitrating.{IsNextNumber}
 use Rattle.mdp_crew.specs.Running.{outcome_of}

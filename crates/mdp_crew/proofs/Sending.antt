@@ -6,11 +6,11 @@ use Rattle.std.proofs.lemmas.List.{append-nil, map-append, nil_from_length}
 use Rattle.std.proofs.lemmas.List.Concat.{flat_map-append}
 use Rattle.mdp_templates.specs.declared.feed.Feed.{Feed}
 use Rattle.mdp_templates.specs.declared.instrument.Instrument.{Instrument}
-use Rattle.mdp_arbiter.specs.declared.start.Start.{Start}
 use Rattle.mdp_arbiter.specs.Accepted.{Event}
 use Rattle.mdp_arbiter.specs.Arbiter.{View, state}
-use Rattle.mdp_arbiter.specs.Channel.{Channel, channel_of}
-use Rattle.mdp_arbiter.specs.Machine.{Move, is_lost, state_at}
+use Rattle.mdp_arbiter.specs.Channel.{Channel, ListedChannel, channel_of}
+use Rattle.mdp_arbiter.specs.declared.arbiter.Standing.{Standing}
+use Rattle.mdp_arbiter.specs.Machine.{is_lost, Move, standing_after, State}
 use Rattle.mdp_lanes.specs.Queues.{IntakeReceiverView, LaneSenderView}
 use Rattle.mdp_engine.specs.Engine.{IsSettled}
 use Rattle.mdp_steps.specs.Fed.{IsFedAll}
@@ -23,11 +23,13 @@ use Rattle.mdp_crew.specs.Arbitrating.{HasBegun, HasSentFirst, HasSentSoFar, Hav
 use Rattle.mdp_crew.specs.Batches.{HasTakenMore, batch_events, events_taken}
 use Rattle.mdp_crew.specs.Orders.{and_sent, orders_of}
 
--- whether the receiver is lost is the machine's
-pub lost_there : (listed : List Instrument) (room : ℕ) (from : Start) (events : List Event) (batches : List (List Move)) (v : View) → HasSentAll listed room from events batches v
-    → is_lost v.channel events (state v) ≡ is_lost (channel_of listed room from) events (state_at (channel_of listed room from) events)
-lost_there listed room from events batches v sent =
-    ap (λ (c : Channel). is_lost c events (state v)) sent.channel ∙ ap (is_lost (channel_of listed room from) events) (state_there listed room from events batches v sent)
+-- where the arbiter stands is where the machine does
+pub stands_there : (channel : ListedChannel) (events : List Event) (batches : List (List Move)) (v : View) (standing : Standing) → HasSentAll channel events batches v
+    → standing.next ≡ (state v).next → standing.lost ≡ is_lost v.channel events (state v) → standing ≡ standing_after channel events
+stands_there channel events batches v standing sent next lost =
+    let there = state_there channel events batches v sent in
+    let lost_there = lost ∙ ap (λ (c : Channel). is_lost c events (state v)) sent.channel_is ∙ ap (is_lost (channel_of channel) events) there in
+    λ i. record { next = (next ∙ ap (λ (s : State). s.next) there) i; lost = lost_there i }
 
 pub none_there : {X : Type 0} (xs : List X) → true ≡ (length xs == 0) → xs ≡ []
 none_there xs empty = elim (eqb_tells (length xs) 0) [ inl e ↦ nil_from_length xs e.1 | inr e ↦ absurd (true≢false (empty ∙ e.0)) ]
@@ -57,25 +59,25 @@ module _ {A : Type 0} where
 
   -- ---- batch by batch
 
-  so_far_none : (listed : List Instrument) (room : ℕ) (from : Start) (lanes : List (LaneSenderView (Order A))) (v : View) → HasBegun listed room from v → HasSentSoFar listed room from [] lanes lanes v
-  so_far_none listed room from lanes v begun = record { batches = []; lanes = lanes_none lanes; all = sent_none listed room from v begun.stands begun.begins begun.channel }
+  so_far_none : (channel : ListedChannel) (lanes : List (LaneSenderView (Order A))) (v : View) → HasBegun channel v → HasSentSoFar channel [] lanes lanes v
+  so_far_none channel lanes v begun = record { batches = []; lanes = lanes_none lanes; all = sent_none channel v begun.stands begun.begins begun.channel_is }
 
   -- at the start nothing was taken
-  pub begun_there : (listed : List Instrument) (room : ℕ) (from : Start) (receiver : IntakeReceiverView (Batch A)) (first now : List (LaneSenderView (Order A))) (v : View) → HasBegun listed room from v → receiver.taken ≡ [] → now ≡ first
-      → HasSentSoFar listed room from (events_taken receiver.taken) first now v
-  begun_there listed room from receiver first now v begun none same =
-      subst (λ (start : List (Feed × Batch A) × List (LaneSenderView (Order A))). HasSentSoFar listed room from (events_taken start.0) first start.1 v)
-      (λ i. (sym none i, sym same i)) (so_far_none listed room from first v begun)
+  pub begun_there : (channel : ListedChannel) (receiver : IntakeReceiverView (Batch A)) (first now : List (LaneSenderView (Order A))) (v : View) → HasBegun channel v → receiver.taken ≡ [] → now ≡ first
+      → HasSentSoFar channel (events_taken receiver.taken) first now v
+  begun_there channel receiver first now v begun none same =
+      subst (λ (start : List (Feed × Batch A) × List (LaneSenderView (Order A))). HasSentSoFar channel (events_taken start.0) first start.1 v)
+      (λ i. (sym none i, sym same i)) (so_far_none channel first v begun)
 
   -- the turns of further events were sent
   pub some_sends : {E F : Type 0} (events : List Event) (now after : List (LaneSenderView (Order A))) (old new : View) (none turns : List Move) (result : Result (Unit {0}) F) → none ≡ []
       → ((listed : List Instrument) (before : List Event) → IsSettled listed before old → IsFedAll {E = E} listed before events old new none turns (Ok tt))
       → OnOk result (after ≡ map (and_sent (Take turns ∷ [])) now) → OnOk result ((before : List Event) → SendsMore before now old (before ++ events) after new)
-  some_sends {E} events now after old new none turns (Ok done) is fed one = λ before listed room from first so_far. record {
+  some_sends {E} events now after old new none turns (Ok done) is fed one = λ before channel first so_far. record {
     batches = so_far.batches ++ turns ∷ [];
     lanes = lanes_next so_far.batches turns first now after so_far.lanes one;
     all =
-        sent_more listed room from before events so_far.batches old new turns so_far.all
+        sent_more channel before events so_far.batches old new turns so_far.all
         (subst (λ (start : List Move). IsFedAll {E = E} listed before events old new start turns (Ok tt)) is (fed listed before so_far.all.settled));
   }
   some_sends events now after old new none turns (Err fault) is fed one = tt
@@ -84,20 +86,20 @@ module _ {A : Type 0} where
   pub none_sends : {E : Type 0} (events : List Event) (now : List (LaneSenderView (Order A))) (old new : View) (none turns : List Move) → none ≡ [] → turns ≡ []
       → ((listed : List Instrument) (before : List Event) → IsSettled listed before old → IsFedAll {E = E} listed before events old new none turns (Ok tt))
       → (before : List Event) → SendsMore before now old (before ++ events) now new
-  none_sends {E} events now old new none turns is empty fed before = λ listed room from first so_far. record {
+  none_sends {E} events now old new none turns is empty fed before = λ channel first so_far. record {
     batches = so_far.batches;
     lanes = so_far.lanes;
     all =
-        sent_as_before listed room from before events so_far.batches old new turns so_far.all
+        sent_as_before channel before events so_far.batches old new turns so_far.all
         (subst (λ (start : List Move). IsFedAll {E = E} listed before events old new start turns (Ok tt)) is (fed listed before so_far.all.settled)) empty;
   }
 
   -- there was no memory for what further events add, and nothing of it was sent
   pub stops_here : (events : List Event) (now after : List (LaneSenderView (Order A))) (old : View) → after ≡ now → (before : List Event) → StopsWithin before now old (before ++ events) after
-  stops_here events now after old same before = λ listed room from first so_far. record {
+  stops_here events now after old same before = λ channel first so_far. record {
     batches = so_far.batches;
     lanes = same ∙ so_far.lanes;
-    sent = some_sent listed room from before events so_far.batches old tt so_far.all;
+    sent = some_sent channel before events so_far.batches old tt so_far.all;
   }
 
   pub some_stops : {E : Type 0} (events : List Event) (now after : List (LaneSenderView (Order A))) (old : View) (result : Result (Unit {0}) E) → IfErr result (λ (fault : E). after ≡ now)
@@ -105,12 +107,12 @@ module _ {A : Type 0} where
   some_stops events now after old (Ok done) stays = tt
   some_stops events now after old (Err fault) stays = stops_here events now after old stays
 
-  stops_before : (listed : List Instrument) (room : ℕ) (from : Start) (events more : List Event) (first now : List (LaneSenderView (Order A)))
-      → HasSentFirst listed room from events first now → HasSentFirst listed room from (events ++ more) first now
-  stops_before listed room from events more first now stopped = record {
+  stops_before : (channel : ListedChannel) (events more : List Event) (first now : List (LaneSenderView (Order A)))
+      → HasSentFirst channel events first now → HasSentFirst channel (events ++ more) first now
+  stops_before channel events more first now stopped = record {
     batches = stopped.batches;
     lanes = stopped.lanes;
-    sent = sent_no_more listed room from events more stopped.batches tt tt stopped.sent;
+    sent = sent_no_more channel events more stopped.batches tt tt stopped.sent;
   }
 
   -- ---- what was taken
@@ -148,9 +150,9 @@ module _ {A : Type 0} where
       subst (λ (es : List Event). StopsWithin (events_taken old.taken) now arbiter es after) (sym (events_taken-push old new m is)) (stops (events_taken old.taken))
 
   -- what is taken further and let go only adds to what is missing
-  pub stops_later : (listed : List Instrument) (room : ℕ) (from : Start) (now last : IntakeReceiverView (Batch A)) (first lanes : List (LaneSenderView (Order A))) → HasTakenMore now last
-      → HasSentFirst listed room from (events_taken now.taken) first lanes → HasSentFirst listed room from (events_taken last.taken) first lanes
-  stops_later listed room from now last first lanes more stopped =
-      subst (λ (es : List Event). HasSentFirst listed room from es first lanes)
+  pub stops_later : (channel : ListedChannel) (now last : IntakeReceiverView (Batch A)) (first lanes : List (LaneSenderView (Order A))) → HasTakenMore now last
+      → HasSentFirst channel (events_taken now.taken) first lanes → HasSentFirst channel (events_taken last.taken) first lanes
+  stops_later channel now last first lanes more stopped =
+      subst (λ (es : List Event). HasSentFirst channel es first lanes)
       (sym (ap (λ (r : IntakeReceiverView (Batch A)). events_taken r.taken) more.1 ∙ events_taken-append now.taken more.0))
-      (stops_before listed room from (events_taken now.taken) (events_taken more.0) first lanes stopped)
+      (stops_before channel (events_taken now.taken) (events_taken more.0) first lanes stopped)

@@ -4,13 +4,11 @@ use Rattle.std.specs.Prelude.{Option, Result, Ok, Err, IfOk, OnOk}
 use Rattle.std.specs.List.{AllPairs, AllZip}
 use Rattle.std.proofs.lemmas.List.{append-nil}
 use Rattle.std.proofs.lemmas.List.Concat.{flat_map-append}
-use Rattle.mdp_templates.specs.declared.instrument.Instrument.{Instrument}
 use Rattle.mdp_lanes.specs.Boards.{Published}
 use Rattle.mdp_lanes.specs.Queues.{IntakeReceiverView, LaneSenderView}
-use Rattle.mdp_arbiter.specs.declared.start.Start.{Start}
 use Rattle.mdp_arbiter.specs.Accepted.{Event}
-use Rattle.mdp_arbiter.specs.Channel.{channel_of, ids_of}
-use Rattle.mdp_arbiter.specs.Machine.{Move, is_lost, state_at, trace}
+use Rattle.mdp_arbiter.specs.Channel.{ListedChannel, ids_of}
+use Rattle.mdp_arbiter.specs.Machine.{Move, moves_of, standing_after}
 use Rattle.mdp_desks.specs.Moments.{Moment, moments, moments_after, shown_lines}
 use Rattle.mdp_desks.proofs.Moments.{moments-append}
 use Rattle.mdp_engine.specs.RoundLaws.{Ascend}
@@ -21,7 +19,7 @@ use Rattle.mdp_reports.specs.Taking.{View}
 use Rattle.mdp_reports.proofs.Behind.{behind_nothing}
 use Rattle.mdp_reports.proofs.Full.{law_of_full_jumps}
 use Rattle.mdp_crew.specs.declared.arbiter.ArbiterOutcome.{ArbiterOutcome}
-use Rattle.mdp_crew.specs.declared.arbiter.Standing.{Standing}
+use Rattle.mdp_arbiter.specs.declared.arbiter.Standing.{Standing}
 use Rattle.mdp_crew.specs.declared.batch.Batch.{Batch}
 use Rattle.mdp_crew.specs.declared.crew.Post.{Post}
 use Rattle.mdp_crew.specs.declared.order.Order.{Order}
@@ -38,89 +36,87 @@ use Rattle.mdp_crew.proofs.Meeting.{ascend_front, steps_are_shown, text_is_shown
 use Rattle.mdp_crew.proofs.Settling.{AllSettled, all_published, all_written, some_rounds}
 
 -- nothing went out
-pub shown_nothing : (listed : List Instrument) (room : ℕ) (from : Start) (events : List Event) (start : List ℕ) (board : Option Published) (stop : Stop) → HasShown listed room from events start start board board (Err stop)
-shown_nothing listed room from events start board stop = record {
+pub shown_nothing : (channel : ListedChannel) (events : List Event) (start : List ℕ) (board : Option Published) (stop : Stop) → HasShown channel events start start board board (Err stop)
+shown_nothing channel events start board stop = record {
   all = tt;
   some = record {
     sent = [];
     steps = [];
     taken_is = sym (append-nil start);
     board_is = published_nothing board;
-    behind = behind_nothing (moments listed (trace (channel_of listed room from) events)) [];
+    behind = behind_nothing (moments channel.listed (moves_of channel events)) [];
   };
 }
 
 module _ {A : Type 0} where
-  sent_ascend : (listed : List Instrument) (room : ℕ) (from : Start) (ss : List (LaneSenderView (Order A))) (receiver : IntakeReceiverView (Batch A)) (outcome : ArbiterOutcome A) → (sent : HasSent listed room from receiver ss outcome) → Ascend listed 1 (moves_sent sent.batches)
-  sent_ascend listed room from ss receiver outcome sent =
-      ascend_front listed 1 (moves_sent sent.batches) sent.sent.rest (subst (Ascend listed 1) sent.sent.front (law_of_ascent listed room from (events_taken outcome.receiver.taken)))
+  sent_ascend : (channel : ListedChannel) (ss : List (LaneSenderView (Order A))) (receiver : IntakeReceiverView (Batch A)) (outcome : ArbiterOutcome A) → (sent : HasSent channel receiver ss outcome) → Ascend channel.listed 1 (moves_sent sent.batches)
+  sent_ascend channel ss receiver outcome sent =
+      ascend_front channel.listed 1 (moves_sent sent.batches) sent.sent.rest (subst (Ascend channel.listed 1) sent.sent.front (law_of_ascent channel (events_taken outcome.receiver.taken)))
 
-  all_settled : (listed : List Instrument) (n room : ℕ) (from : Start) (ss : List (LaneSenderView (Order A))) (ps new : List (Post A)) (receiver : IntakeReceiverView (Batch A)) (outcome : ArbiterOutcome A)
-      → 1 ≤ n → IsCrew listed n n ss ps → (sent : HasSent listed room from receiver ss outcome) → AllZip IsSettled outcome.senders.items new → AllSettled listed n sent.batches ss ps new
-  all_settled listed n room from ss ps new receiver outcome some crew sent settled_are = record {
+  all_settled : (channel : ListedChannel) (n : ℕ) (ss : List (LaneSenderView (Order A))) (ps new : List (Post A)) (receiver : IntakeReceiverView (Batch A)) (outcome : ArbiterOutcome A)
+      → 1 ≤ n → IsCrew channel.listed n n ss ps → (sent : HasSent channel receiver ss outcome) → AllZip IsSettled outcome.senders.items new → AllSettled channel.listed n sent.batches ss ps new
+  all_settled channel n ss ps new receiver outcome some crew sent settled_are = record {
     many = crew.long;
     some = some;
     fresh = crew.fresh;
     numbered = crew.numbered;
-    full = law_of_full_jumps listed 1 (moves_sent sent.batches) (sent_ascend listed room from ss receiver outcome sent);
+    full = law_of_full_jumps channel.listed 1 (moves_sent sent.batches) (sent_ascend channel ss receiver outcome sent);
     settled_are = subst (λ (l : List (LaneSenderView (Order A))). AllZip IsSettled l new) sent.lanes settled_are;
   }
 
-  pub met : (listed : List Instrument) (n room : ℕ) (from : Start) (ss : List (LaneSenderView (Order A))) (ps new : List (Post A)) (collector : View) (start taken : List ℕ) (board board' : Option Published) (receiver : IntakeReceiverView (Batch A)) (outcome : ArbiterOutcome A) (collected : Result (Unit {0}) Stop)
-      → 1 ≤ n → AllPairs (λ a b. a ≢ b) (ids_of listed) → IsCrew listed n n ss ps → collector ≡ begun listed → HasSent listed room from receiver ss outcome → EndsCollecting ps new collector start taken board board' collected
-      → AllZip IsSettled outcome.senders.items new → HasShown listed room from (events_taken outcome.receiver.taken) start taken board board' (outcome_of collected outcome.standing)
-  met listed n room from ss ps new collector start taken board board' receiver outcome collected some differ crew collector_is sent ends settled_are =
-      by_both collected outcome.standing (subst (λ (v : View). EndsCollecting ps new v start taken board board' collected) collector_is ends) sent.sent.whole sent.next_is sent.lost_is
+  pub met : (channel : ListedChannel) (n : ℕ) (ss : List (LaneSenderView (Order A))) (ps new : List (Post A)) (collector : View) (start taken : List ℕ) (board board' : Option Published) (receiver : IntakeReceiverView (Batch A)) (outcome : ArbiterOutcome A) (collected : Result (Unit {0}) Stop)
+      → 1 ≤ n → AllPairs (λ a b. a ≢ b) (ids_of channel.listed) → IsCrew channel.listed n n ss ps → collector ≡ begun channel.listed → HasSent channel receiver ss outcome → EndsCollecting ps new collector start taken board board' collected
+      → AllZip IsSettled outcome.senders.items new → HasShown channel (events_taken outcome.receiver.taken) start taken board board' (outcome_of collected outcome.standing)
+  met channel n ss ps new collector start taken board board' receiver outcome collected some differ crew collector_is sent ends settled_are =
+      by_both collected outcome.standing (subst (λ (v : View). EndsCollecting ps new v start taken board board' collected) collector_is ends) sent.sent.whole sent.stands
     where
       moves : List Move
       moves = moves_sent sent.batches
 
-      ascend : Ascend listed 1 moves
-      ascend = sent_ascend listed room from ss receiver outcome sent
+      ascend : Ascend channel.listed 1 moves
+      ascend = sent_ascend channel ss receiver outcome sent
 
-      is : AllSettled listed n sent.batches ss ps new
-      is = all_settled listed n room from ss ps new receiver outcome some crew sent settled_are
+      is : AllSettled channel.listed n sent.batches ss ps new
+      is = all_settled channel n ss ps new receiver outcome some crew sent settled_are
 
-      all_text : HasAll ps new (begun listed) start taken board board' → taken ≡ start ++ shown_lines listed moves
+      all_text : HasAll ps new (begun channel.listed) start taken board board' → taken ≡ start ++ shown_lines channel.listed moves
       all_text all =
-          all_written listed n sent.batches ss ps new (begun listed) start taken board board' is all
-          ∙ ap (λ (t : List ℕ). start ++ t) (text_is_shown listed n sent.batches some differ ascend)
+          all_written channel.listed n sent.batches ss ps new (begun channel.listed) start taken board board' is all
+          ∙ ap (λ (t : List ℕ). start ++ t) (text_is_shown channel.listed n sent.batches some differ ascend)
 
-      all_steps : HasAll ps new (begun listed) start taken board board' → board' ≡ published_on board (board_steps listed moves)
+      all_steps : HasAll ps new (begun channel.listed) start taken board board' → board' ≡ published_on board (board_steps channel.listed moves)
       all_steps all =
-          all_published listed n sent.batches ss ps new (begun listed) start taken board board' is all
-          ∙ ap (published_on board) (steps_are_shown listed n sent.batches some)
+          all_published channel.listed n sent.batches ss ps new (begun channel.listed) start taken board board' is all
+          ∙ ap (published_on board) (steps_are_shown channel.listed n sent.batches some)
 
       -- what went out of the moves that were sent, of all moves of the events
-      of_all : WentOut (moments listed moves) [] start taken board board' → WentOut (moments listed (trace (channel_of listed room from) (events_taken outcome.receiver.taken))) [] start taken board board'
+      of_all : WentOut (moments channel.listed moves) [] start taken board board' → WentOut (moments channel.listed (moves_of channel (events_taken outcome.receiver.taken))) [] start taken board board'
       of_all out =
-          subst (λ (ms : List Moment). WentOut ms [] start taken board board') (sym (ap (moments listed) sent.sent.front ∙ moments-append listed [] moves sent.sent.rest))
-          (out_more (moments listed moves) (moments_after listed moves sent.sent.rest) [] start taken board board' out)
+          subst (λ (ms : List Moment). WentOut ms [] start taken board board') (sym (ap (moments channel.listed) sent.sent.front ∙ moments-append channel.listed [] moves sent.sent.rest))
+          (out_more (moments channel.listed moves) (moments_after channel.listed moves sent.sent.rest) [] start taken board board' out)
 
       -- the collector ended early
-      of_first : HasSome ps new (begun listed) start taken board board' → WentOut (moments listed moves) [] start taken board board'
+      of_first : HasSome ps new (begun channel.listed) start taken board board' → WentOut (moments channel.listed moves) [] start taken board board'
       of_first has =
-          let at = some_rounds listed n sent.batches ss ps new (begun listed) start taken board board' is has in
+          let at = some_rounds channel.listed n sent.batches ss ps new (begun channel.listed) start taken board board' is has in
           let first = moves_sent at.0 in
           let all : moves ≡ first ++ moves_sent at.1 = ap moves_sent at.2 ∙ flat_map-append (λ (l : List Move). l) at.0 at.1 in
-          let out = out_of_rounds listed n at.0 has.rounds start taken board board' some differ (ascend_front listed 1 first (moves_sent at.1) (subst (Ascend listed 1) all ascend)) at.3 has.out in
-          subst (λ (ms : List Moment). WentOut ms [] start taken board board') (sym (ap (moments listed) all ∙ moments-append listed [] first (moves_sent at.1)))
-          (out_more (moments listed first) (moments_after listed first (moves_sent at.1)) [] start taken board board' out)
+          let out = out_of_rounds channel.listed n at.0 has.rounds start taken board board' some differ (ascend_front channel.listed 1 first (moves_sent at.1) (subst (Ascend channel.listed 1) all ascend)) at.3 has.out in
+          subst (λ (ms : List Moment). WentOut ms [] start taken board board') (sym (ap (moments channel.listed) all ∙ moments-append channel.listed [] first (moves_sent at.1)))
+          (out_more (moments channel.listed first) (moments_after channel.listed first (moves_sent at.1)) [] start taken board board' out)
 
-      by_both : {E : Type 0} (collected : Result (Unit {0}) Stop) (standing : Result Standing E) → EndsCollecting ps new (begun listed) start taken board board' collected → OnOk standing (sent.sent.rest ≡ [])
-          → IfOk standing (λ (s : Standing). s.next ≡ (state_at (channel_of listed room from) (events_taken outcome.receiver.taken)).next)
-          → IfOk standing (λ (s : Standing). s.lost ≡ is_lost (channel_of listed room from) (events_taken outcome.receiver.taken) (state_at (channel_of listed room from) (events_taken outcome.receiver.taken)))
-          → HasShown listed room from (events_taken outcome.receiver.taken) start taken board board' (outcome_of collected standing)
-      by_both (Ok done) (Ok standing) e whole next lost =
-          let same : moves ≡ trace (channel_of listed room from) (events_taken outcome.receiver.taken) = sym (append-nil moves) ∙ ap (λ (l : List Move). moves ++ l) (sym whole) ∙ sym sent.sent.front in
+      by_both : {E : Type 0} (collected : Result (Unit {0}) Stop) (standing : Result Standing E) → EndsCollecting ps new (begun channel.listed) start taken board board' collected → OnOk standing (sent.sent.rest ≡ [])
+          → IfOk standing (λ (s : Standing). s ≡ standing_after channel (events_taken outcome.receiver.taken))
+          → HasShown channel (events_taken outcome.receiver.taken) start taken board board' (outcome_of collected standing)
+      by_both (Ok done) (Ok standing) e whole stands =
+          let same : moves ≡ moves_of channel (events_taken outcome.receiver.taken) = sym (append-nil moves) ∙ ap (λ (l : List Move). moves ++ l) (sym whole) ∙ sym sent.sent.front in
           record {
             all = record {
-              shown = all_text e ∙ ap (λ (l : List Move). start ++ shown_lines listed l) same;
-              published = all_steps e ∙ ap (λ (l : List Move). published_on board (board_steps listed l)) same;
-              next_is = next;
-              lost_is = lost;
+              shown = all_text e ∙ ap (λ (l : List Move). start ++ shown_lines channel.listed l) same;
+              published = all_steps e ∙ ap (λ (l : List Move). published_on board (board_steps channel.listed l)) same;
+              standing_is = stands;
             };
             some = tt;
           }
-      by_both (Ok done) (Err memory) e whole next lost = record { all = tt; some = of_all (all_out (moments listed moves) start taken board board' (all_text e) (all_steps e)) }
-      by_both (Err stop) standing e whole next lost = record { all = tt; some = of_all (of_first e) }
+      by_both (Ok done) (Err memory) e whole stands = record { all = tt; some = of_all (all_out (moments channel.listed moves) start taken board board' (all_text e) (all_steps e)) }
+      by_both (Err stop) standing e whole stands = record { all = tt; some = of_all (of_first e) }

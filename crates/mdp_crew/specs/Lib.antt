@@ -1,3 +1,4 @@
+pub mod Plan
 pub mod Counted
 pub mod Stops
 pub mod Orders

@@ -1,27 +1,24 @@
 -- What the crew of a run has shown of the events that it took, as text and on a board.
 use Rattle.std.specs.Prelude.{◌≡◌, ℕ, List, [], ◌++◌, Option, Result, Ok, Err, IfOk, IfErr}
-use Rattle.mdp_templates.specs.declared.instrument.Instrument.{Instrument}
-use Rattle.mdp_arbiter.specs.declared.start.Start.{Start}
 use Rattle.mdp_arbiter.specs.Accepted.{Event}
-use Rattle.mdp_arbiter.specs.Channel.{channel_of}
-use Rattle.mdp_arbiter.specs.Machine.{is_lost, state_at, trace}
+use Rattle.mdp_arbiter.specs.Channel.{ListedChannel}
+use Rattle.mdp_arbiter.specs.Machine.{moves_of, standing_after}
 use Rattle.mdp_desks.specs.Moments.{Moment, moments, shown_lines}
 use Rattle.mdp_lanes.specs.Boards.{Published}
 use Rattle.mdp_lanes.specs.declared.step.Step.{Step}
 use Rattle.mdp_reports.specs.Behind.{IsBehind}
 use Rattle.mdp_reports.specs.BoardSteps.{board_steps}
-use Rattle.mdp_crew.specs.declared.arbiter.Standing.{Standing}
+use Rattle.mdp_arbiter.specs.declared.arbiter.Standing.{Standing}
 use Rattle.mdp_crew.specs.declared.stop.Stop.{Stop}
 use Rattle.mdp_crew.specs.declared.stop.Stop.TheVariants.{Memory}
 use Rattle.mdp_crew.specs.Publishing.{published_on}
 
 -- what the moves of these events show was written and published, and this is where the channel stands
-pub record HasShownAll (listed : List Instrument) (room : ℕ) (from : Start) (events : List Event) (start taken : List ℕ)
+pub record HasShownAll (channel : ListedChannel) (events : List Event) (start taken : List ℕ)
     (board board' : Option Published) (standing : Standing) : Type 0 where
-  pub shown : taken ≡ start ++ shown_lines listed (trace (channel_of listed room from) events)
-  pub published : board' ≡ published_on board (board_steps listed (trace (channel_of listed room from) events))
-  pub next_is : standing.next ≡ (state_at (channel_of listed room from) events).next
-  pub lost_is : standing.lost ≡ is_lost (channel_of listed room from) events (state_at (channel_of listed room from) events)
+  pub shown : taken ≡ start ++ shown_lines channel.listed (moves_of channel events)
+  pub published : board' ≡ published_on board (board_steps channel.listed (moves_of channel events))
+  pub standing_is : standing ≡ standing_after channel events
 
 -- Of these moments, after whose text stands this end, a beginning was written, and of that a beginning at most was published.
 pub record WentOut (shown : List Moment) (end start taken : List ℕ) (board board' : Option Published) : Type 0 where
@@ -38,7 +35,7 @@ outcome_of (Ok done) (Ok standing) = Ok standing
 outcome_of (Ok done) (Err memory) = Err Memory
 
 -- what went out, whatever the run came to
-pub record HasShown (listed : List Instrument) (room : ℕ) (from : Start) (events : List Event) (start taken : List ℕ)
+pub record HasShown (channel : ListedChannel) (events : List Event) (start taken : List ℕ)
     (board board' : Option Published) (outcome : Result Standing Stop) : Type 0 where
-  pub all : IfOk outcome (λ (standing : Standing). HasShownAll listed room from events start taken board board' standing)
-  pub some : IfErr outcome (λ (stop : Stop). WentOut (moments listed (trace (channel_of listed room from) events)) [] start taken board board')
+  pub all : IfOk outcome (λ (standing : Standing). HasShownAll channel events start taken board board' standing)
+  pub some : IfErr outcome (λ (stop : Stop). WentOut (moments channel.listed (moves_of channel events)) [] start taken board board')

@@ -1,9 +1,8 @@
 //! The arbiter's thread: it takes what the readers hand over, and sends to all workers what that makes possible.
 
-ghost use Rattle.std.specs.Prelude.{◌≡◌, ◌++◌, [], List, ℕ, map, IfErr, OnOk};
-ghost use Rattle.mdp_templates.specs.declared.instrument.Instrument.{Instrument};
+ghost use Rattle.std.specs.Prelude.{◌≡◌, ◌++◌, [], List, map, IfErr, OnOk};
 ghost use Rattle.mdp_arbiter.specs.Accepted.{Event as Accepted};
-ghost use Rattle.mdp_arbiter.specs.declared.start.Start.{Start};
+ghost use Rattle.mdp_arbiter.specs.Channel.{ListedChannel};
 ghost use Rattle.mdp_engine.specs.Steps.{event_of};
 ghost use Rattle.mdp_lanes.specs.Items.{ends_taken};
 ghost use Rattle.mdp_crew.specs.Arbitrating.{HasBegun, HasSent, SendsMore, StopsWithin};
@@ -12,7 +11,7 @@ ghost use Rattle.mdp_crew.specs.Batches.{HasTakenMore, events_taken};
 use crate::batch::Batch;
 use crate::last_orders::LastOrders;
 use crate::order::{Order, send_done, send_steps};
-use mdp_arbiter::Arbiter;
+use mdp_arbiter::{Arbiter, Standing};
 use mdp_engine::Event;
 use mdp_lanes::{IntakeReceiver, LaneSender};
 use mdp_steps::feed_all;
@@ -23,15 +22,6 @@ use std::sync::Wait;
 
 /// The packets that came ahead of the next one.
 pub type Ring<A> = RingWindow<Packet<A>, A>;
-
-/// Where the channel stands behind all events.
-#[derive(Clone, Copy)]
-pub struct Standing {
-    /// The number of the packet that passes next, 1 to 4294967296.
-    pub next: u64,
-    /// Whether the receiver is lost.
-    pub lost: bool,
-}
 
 /// What the arbiter leaves: its ends of the intake and of the workers' lanes, and where the channel stands, unless memory ran out.
 #[derive(Drop)]
@@ -126,8 +116,8 @@ pub fn arbitrate<R: Wait, A: Allocator + Copy>(
     mut receiver: IntakeReceiver<Batch<A>, A>,
     mut senders: Vec<LaneSender<Order<A>, A>, A>,
 ) -> ArbiterOutcome<A>
-    ensures { (listed : List Instrument) (room : ℕ) (from : Start) → HasBegun listed room from arbiter → receiver.taken ≡ []
-        → HasSent listed room from receiver senders.items result }
+    ensures { (channel : ListedChannel) → HasBegun channel arbiter → receiver.taken ≡ []
+        → HasSent channel receiver senders.items result }
 {
     let sent = take_all(
         rt,

@@ -9,6 +9,7 @@ mod crew;
 mod gate;
 mod last_orders;
 mod order;
+mod plan;
 mod publishing;
 mod running;
 mod starts;
@@ -17,9 +18,9 @@ mod stop;
 mod tests;
 mod worker;
 
-pub use arbiter::Standing;
 pub use batch::Batch;
 pub use gate::{Gate, Open};
+pub use plan::RunPlan;
 pub use running::{CrewOutcome, run_crew};
 pub use starts::{Always, Starts};
 pub use stop::Stop;

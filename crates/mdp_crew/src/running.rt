@@ -2,32 +2,32 @@
 
 ghost use Rattle.std.specs.Prelude.{◌≡◌, ◌≤◌, ◌<◌, ◌^◌, ◌-◌, [], ℕ, List, IfOk, MatchResult};
 ghost use Rattle.mdp_lanes.specs.Items.{ends_taken};
-ghost use Rattle.mdp_templates.specs.Instrument.{AreFit};
 ghost use Rattle.mdp_crew.specs.Arbitrating.{HasBegun, HasSent, IsNextNumber};
 ghost use Rattle.mdp_crew.specs.declared.batch.Batch.{Batch};
 ghost use Rattle.mdp_crew.specs.declared.order.Order.{Order};
 ghost use Rattle.mdp_lanes.specs.Queues.{IntakeReceiverView, LaneSenderView};
-ghost use Rattle.mdp_templates.specs.declared.instrument.Instrument.{Instrument};
-ghost use Rattle.mdp_arbiter.specs.declared.start.Start.{Start};
 ghost use Rattle.mdp_crew.specs.Batches.{HasTakenMore, events_taken};
 ghost use Rattle.mdp_crew.specs.Counted.{HasCounted};
 ghost use Rattle.mdp_crew.specs.Running.{HasShown, outcome_of};
+ghost use Rattle.mdp_crew.specs.Plan.{IsLawful, channel_in};
 ghost use Rattle.mdp_crew.specs.Ready.{IsReady};
+ghost use Rattle.mdp_crew.specs.declared.plan.RunPlan.{RunPlan};
 ghost use Rattle.mdp_crew.specs.Stops.{FailsByStop};
 
-use crate::arbiter::{ArbiterOutcome, Ring, Standing, arbitrate, drain};
+use crate::arbiter::{ArbiterOutcome, Ring, arbitrate, drain};
 use crate::batch::Batch;
 use crate::collector::collect;
 use crate::crew::{Post, hire_all, let_all_go};
 use crate::gate::Gate;
 use crate::order::Order;
+use crate::plan::RunPlan;
 use crate::starts::Starts;
 use crate::stop::Stop;
-use mdp_arbiter::{Arbiter, Start};
+use mdp_arbiter::{Arbiter, Standing};
 use mdp_lanes::{IntakeReceiver, LaneSender, Publisher};
 use mdp_print::CountedWrite;
 use mdp_reports::{Answer, BoardSteps, Collector};
-use mdp_templates::{Instrument, Memory};
+use mdp_templates::Memory;
 use mdp_window::RingWindow;
 use std::alloc::Allocator;
 use std::snapshot::Snapshot;
@@ -40,17 +40,16 @@ const ARBITER: usize = 3;
 /// The arbiter's promise: it has taken all batches of the readers, and sent what they make possible.
 #[derive(Drop)]
 pub struct SendsOrders<'s, A: Allocator + Copy> {
-    pub listed: Snapshot<&'s [Instrument]>,
-    pub room: u32,
-    pub start: Start,
+    pub plan: Snapshot<RunPlan<'s>>,
     pub receiver: Snapshot<IntakeReceiver<Batch<A>, A>>,
     pub senders: Snapshot<Vec<LaneSender<Order<A>, A>, A>>,
 }
 
 impl<'s, A: Allocator + Copy> Promise<ArbiterOutcome<A>> for SendsOrders<'s, A> {
     ghost use Rattle.mdp_crew.specs.Arbitrating.{HasSent};
+    ghost use Rattle.mdp_crew.specs.Plan.{channel_in};
 
-    ghost kept_by = { λ p outcome. HasSent p.listed.value.now p.room p.start p.receiver.value p.senders.value.items outcome };
+    ghost kept_by = { λ p outcome. HasSent (channel_in p.plan.value) p.receiver.value p.senders.value.items outcome };
 }
 
 /// What is left to know of the arbiter: its thread, or what it left where its thread couldn't be started.
@@ -84,10 +83,7 @@ fn prepare<'s, E, R, S, G, A>(
     starts: &S,
     alloc: A,
     gate: &'s G,
-    listed: &'s [Instrument],
-    workers: u16,
-    window: u32,
-    start: Start,
+    plan: RunPlan<'s>,
 ) -> Result<Ready<'s, A>, Memory>
 where
     R: Threads + Wait + Sync,
@@ -95,17 +91,21 @@ where
     G: Gate + Sync,
     A: Allocator + Copy + Send + Sync,
     A: 's,
-    requires fit { AreFit listed.now }
-    requires some { 1 ≤ workers }
-    requires least { 1 ≤ window }
-    requires most { window ≤ 65536 }
-    ensures { IfOk result (λ ready. IsReady listed.now workers window start ready) }
+    requires lawful { IsLawful plan }
+    requires some { 1 ≤ plan.workers }
+    ensures { IfOk result (λ ready. IsReady plan ready) }
 {
+    let RunPlan {
+        instruments,
+        window,
+        start,
+        workers,
+    } = plan;
     let window = RingWindow::new(alloc, u64::from(window))?;
-    let arbiter = Arbiter::new(alloc, listed, window, start)?;
-    let collector = Collector::new(alloc, listed)?;
+    let arbiter = Arbiter::new(alloc, instruments, window, start)?;
+    let collector = Collector::new(alloc, instruments)?;
     let round = Vec::with_capacity(alloc, usize::from(workers))?;
-    let (senders, posts) = hire_all(rt, scope, starts, alloc, gate, listed, workers)?;
+    let (senders, posts) = hire_all(rt, scope, starts, alloc, gate, instruments, workers)?;
     Ok(Ready {
         arbiter,
         collector,
@@ -122,9 +122,7 @@ fn begin_arbiter<'s, E, R, S, A>(
     go: &OnceLock<bool>,
     starts: &S,
     alloc: A,
-    listed: &'s [Instrument],
-    room: u32,
-    start: Start,
+    plan: RunPlan<'s>,
     arbiter: Arbiter<A, Ring<A>>,
     receiver: IntakeReceiver<Batch<A>, A>,
     senders: Vec<LaneSender<Order<A>, A>, A>,
@@ -134,21 +132,19 @@ where
     S: Starts,
     A: Allocator + Copy + Send + Sync,
     A: 's,
-    requires begun { HasBegun listed.now room start arbiter }
+    requires begun { HasBegun (channel_in plan) arbiter }
     requires fresh { receiver.taken ≡ [] }
     ensures { MatchResult result
-        (λ h. (h.promise.listed.value.now ≡ listed.now) × (h.promise.room ≡ room) × (h.promise.start ≡ start)
-        × (h.promise.receiver.value ≡ receiver) × (h.promise.senders.value.items ≡ senders.items))
-        (λ outcome. HasSent listed.now room start receiver senders.items outcome) }
+        (λ h. (h.promise.plan.value ≡ plan) × (h.promise.receiver.value ≡ receiver)
+        × (h.promise.senders.value.items ≡ senders.items))
+        (λ outcome. HasSent (channel_in plan) receiver senders.items outcome) }
 {
     if !starts.may_start(ARBITER) {
         let _ = go.set(rt, false);
         return Err(arbitrate(rt, alloc, arbiter, receiver, senders));
     }
     let promise = SendsOrders {
-        listed: Snapshot::of(&listed),
-        room,
-        start,
+        plan: Snapshot::of(&plan),
         receiver: Snapshot::of(&receiver),
         senders: Snapshot::of(&senders),
     };
@@ -169,12 +165,13 @@ fn join_arbiter<'s, R: Threads + Wait, A: Allocator + Copy>(
     rt: &R,
     arbitrating: Arbitrating<'s, A>,
 ) -> ArbiterOutcome<A>
-    ensures { (listed : List Instrument) (room : ℕ) (from : Start) (receiver : IntakeReceiverView (Batch A))
+    ensures { (plan : RunPlan) (receiver : IntakeReceiverView (Batch A))
         (senders : List (LaneSenderView (Order A))) →
         MatchResult arbitrating.entry
-        (λ h. (h.promise.listed.value.now ≡ listed) × (h.promise.room ≡ room) × (h.promise.start ≡ from)
-        × (h.promise.receiver.value ≡ receiver) × (h.promise.senders.value.items ≡ senders))
-        (λ outcome. HasSent listed room from receiver senders outcome) → HasSent listed room from receiver senders result }
+        (λ h. (h.promise.plan.value ≡ plan) × (h.promise.receiver.value ≡ receiver)
+        × (h.promise.senders.value.items ≡ senders))
+        (λ outcome. HasSent (channel_in plan) receiver senders outcome)
+        → HasSent (channel_in plan) receiver senders result }
 {
     match arbitrating {
         Ok(handle) => handle.join(rt),
@@ -203,10 +200,7 @@ fn run_ready<'s, E, R, S, W, A>(
     go: &OnceLock<bool>,
     starts: &S,
     alloc: A,
-    listed: &'s [Instrument],
-    workers: u16,
-    window: u32,
-    start: Start,
+    plan: RunPlan<'s>,
     ready: Ready<'s, A>,
     receiver: IntakeReceiver<Batch<A>, A>,
     board: &mut Option<Publisher<A>>,
@@ -219,13 +213,13 @@ where
     A: Allocator + Copy + Send + Sync,
     A: 's,
     requires sound { W.failed writer.old < 2 ^ 64 - 1 }
-    requires fit { AreFit listed.now }
-    requires some { 1 ≤ workers }
-    requires ready { IsReady listed.now workers window start ready }
+    requires lawful { IsLawful plan }
+    requires some { 1 ≤ plan.workers }
+    requires ready { IsReady plan ready }
     requires fresh { receiver.taken ≡ [] }
     ensures takes { HasTakenMore receiver result.receiver }
     ensures ends { ends_taken (λ b. b.is_last) result.receiver.taken ≡ 3 }
-    ensures shows { HasShown listed.now window start (events_taken result.receiver.taken)
+    ensures shows { HasShown (channel_in plan) (events_taken result.receiver.taken)
         (W.taken writer.old) (W.taken writer.new) board.old board.new result.standing }
     ensures counts { HasCounted (W.taken writer.old) (W.taken writer.new) result.written }
     ensures range { IfOk result.standing (λ standing. IsNextNumber standing.next) }
@@ -239,7 +233,7 @@ where
         mut posts,
     } = ready;
     let arbitrating = begin_arbiter(
-        rt, scope, go, starts, alloc, listed, window, start, arbiter, receiver, senders,
+        rt, scope, go, starts, alloc, plan, arbiter, receiver, senders,
     );
     let _ = go.set(rt, true);
     let mut text = Vec::new(alloc);
@@ -275,9 +269,6 @@ where
 /// hand over is taken, and all threads are joined, on every path. Where a thread can't be started the readers are told to stop; where
 /// it is the arbiter's, the caller's thread arbitrates what they put before.
 ///
-/// The number of workers is 1 to 16, and the window covers 1 to 65536 packet numbers. With `Start::Join` no packet passes before a
-/// first jump.
-///
 /// # Errors
 ///
 /// `Output` exactly where a write failed, else `Memory`, also where a worker's thread can't be started. What went out is a beginning of
@@ -289,10 +280,7 @@ pub fn run_crew<'s, E, R, S, G, W, A>(
     starts: &S,
     alloc: A,
     gate: &'s G,
-    listed: &'s [Instrument],
-    workers: u16,
-    window: u32,
-    start: Start,
+    plan: RunPlan<'s>,
     mut receiver: IntakeReceiver<Batch<A>, A>,
     board: &mut Option<Publisher<A>>,
     writer: &mut W,
@@ -305,25 +293,20 @@ where
     A: Allocator + Copy + Send + Sync,
     A: 's,
     requires sound { W.failed writer.old < 2 ^ 64 - 1 }
-    requires fit { AreFit listed.now }
-    requires some { 1 ≤ workers }
-    requires least { 1 ≤ window }
-    requires most { window ≤ 65536 }
+    requires lawful { IsLawful plan }
+    requires some { 1 ≤ plan.workers }
     requires fresh { receiver.taken ≡ [] }
     ensures takes { HasTakenMore receiver result.receiver }
     ensures ends { ends_taken (λ b. b.is_last) result.receiver.taken ≡ 3 }
-    ensures shows { HasShown listed.now window start (events_taken result.receiver.taken)
+    ensures shows { HasShown (channel_in plan) (events_taken result.receiver.taken)
         (W.taken writer.old) (W.taken writer.new) board.old board.new result.standing }
     ensures counts { HasCounted (W.taken writer.old) (W.taken writer.new) result.written }
     ensures range { IfOk result.standing (λ standing. IsNextNumber standing.next) }
     ensures failed { FailsByStop result.standing (W.failed writer.old) (W.failed writer.new) }
 {
-    match prepare(
-        rt, scope, starts, alloc, gate, listed, workers, window, start,
-    ) {
+    match prepare(rt, scope, starts, alloc, gate, plan) {
         Ok(ready) => run_ready(
-            rt, scope, go, starts, alloc, listed, workers, window, start, ready, receiver, board,
-            writer,
+            rt, scope, go, starts, alloc, plan, ready, receiver, board, writer,
         ),
         Err(Memory) => {
             let _ = go.set(rt, false);

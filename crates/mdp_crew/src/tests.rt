@@ -7,7 +7,6 @@ mod in_turn;
 mod on_board;
 mod writer;
 
-use crate::Standing;
 use crate::gate::{Gate, Open};
 use crate::starts::{Always, Starts};
 use crate::stop::Stop;
@@ -15,6 +14,7 @@ use crate::tests::channel::{Came, NEXT, TEXT, listed};
 use crate::tests::in_threads::run_in_threads;
 use crate::tests::in_turn::run_in_turn;
 use crate::tests::on_board::{STEPS, Shown, rows_after, run_on_board, text_length};
+use mdp_arbiter::Standing;
 use mdp_templates::{Instrument, Memory};
 use refusing::Refusing;
 use std::alloc::Global;

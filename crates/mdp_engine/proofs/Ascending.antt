@@ -51,4 +51,4 @@ go_ascends listed channel past s (e ∷ es) long first =
     (go_ascends listed channel (past ++ e ∷ []) (after_all s (settle channel (past ++ e ∷ []) s)) es long here.first)
 
 pub law_of_ascent : LawOfAscent
-law_of_ascent listed room from es = go_ascends listed (channel_of listed room from) [] (first_state (channel_of listed room from)) es (length-map listed (λ (i : Instrument). i.id)) (omega arith)
+law_of_ascent channel es = go_ascends channel.listed (channel_of channel) [] (first_state (channel_of channel)) es (length-map channel.listed (λ (i : Instrument). i.id)) (omega arith)

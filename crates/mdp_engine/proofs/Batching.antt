@@ -5,8 +5,7 @@ use Rattle.std.proofs.lemmas.List.{append-nil, map-append}
 use Rattle.mdp_quotes.specs.declared.best.Best.{Best}
 use Rattle.std.specs.Prelude.{Option}
 use Rattle.mdp_templates.specs.declared.instrument.Instrument.{Instrument}
-use Rattle.mdp_arbiter.specs.Machine.{Move, trace}
-use Rattle.mdp_arbiter.specs.Channel.{channel_of}
+use Rattle.mdp_arbiter.specs.Machine.{Move, moves_of}
 use Rattle.mdp_engine.proofs.Owing.{law_of_honest_moments}
 use Rattle.mdp_desks.proofs.Moments.{moments-append}
 use Rattle.mdp_desks.specs.Moments.{Moment, moments_after, moments_by, text_of_moments}
@@ -57,10 +56,10 @@ pub law_of_first_rounds : LawOfFirstRounds
 law_of_first_rounds listed rounds more = first_rounds listed (kept_at_start listed) rounds more
 
 pub law_of_runs : LawOfRuns
-law_of_runs n listed feed room from es batches some differ honest cut =
-    ap (collected_text listed) (law_of_batches n batches some ∙ ap (map (round_of n)) (sym cut))
-    ∙ law_of_workers n listed (trace (channel_of listed room from) es) some differ (law_of_ascent listed room from es)
-    ∙ ap text_of_moments (law_of_honest_moments listed feed room from es honest)
+law_of_runs n channel feed es batches some differ honest cut =
+    ap (collected_text channel.listed) (law_of_batches n batches some ∙ ap (map (round_of n)) (sym cut))
+    ∙ law_of_workers n channel.listed (moves_of channel es) some differ (law_of_ascent channel es)
+    ∙ ap text_of_moments (law_of_honest_moments channel feed es honest)
 
 cuts : (listed : List Instrument) (before : List Move) (batches : List (List Move)) → flat_map (λ (ms : List Moment). ms) (moments_by listed before batches) ≡ moments_after listed before (flat_map (λ (ms : List Move). ms) batches)
 cuts listed before [] = refl

@@ -85,7 +85,7 @@ law_of_owed_books listed feed es drained v honest stands =
     let moves = trace channel es in
     let sh = standing_after listed moves in
     let are : AreOf listed feed 1 moves =
-    subst (λ (c : Channel). AreOf listed feed 1 (trace c es)) (sym (listed_channel listed channel stands.settled.ids)) (honest_moves_agree listed feed channel.room channel.start es honest) in
+    subst (λ (c : Channel). AreOf listed feed 1 (trace c es)) (sym (listed_channel listed channel stands.settled.ids)) (honest_moves_agree (record { listed = listed; room = channel.room; start = channel.start }) feed es honest) in
     let end : EndsAs feed (state_at channel es).next sh = agrees_on listed feed (first_state channel) (footings_before_jump listed) (standing_after listed []) moves honest.complete (agrees_at_first feed listed) are in
     let fs = end.footings in
     let agrees : Agrees feed v.arbiter.next fs sh = subst (λ (s : State). Agrees feed s.next fs sh) (sym stands.settled.state) end.agrees in

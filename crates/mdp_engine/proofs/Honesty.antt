@@ -6,11 +6,10 @@ use Rattle.std.proofs.lemmas.List.{append-nil}
 use Rattle.mdp_templates.specs.Packet.{PacketContent}
 use Rattle.mdp_templates.specs.Snapshot.{SnapshotContent}
 use Rattle.mdp_templates.specs.declared.instrument.Instrument.{Instrument}
-use Rattle.mdp_arbiter.specs.declared.start.Start.{Start}
 use Rattle.mdp_arbiter.specs.Accepted.{Event, came, recovered, closed, accepted_packets, first_of, newest_snapshot}
 use Rattle.mdp_arbiter.specs.Machine.{Move, State, first_state, after, after_all, settle, go_on, Settles}
 use Rattle.mdp_arbiter.specs.Machine.Move.{passed, jumped}
-use Rattle.mdp_arbiter.specs.Channel.{ids_of, channel_of}
+use Rattle.mdp_arbiter.specs.Channel.{ListedChannel, channel_of, ids_of}
 use Rattle.mdp_arbiter.proofs.Runs.{settle_settles, law_of_passes}
 use Rattle.mdp_arbiter.proofs.Jumps.{law_of_jumps}
 use Rattle.mdp_engine.specs.Feed.{IsIn, IsSnapshotOf, IsJumpedTo}
@@ -57,16 +56,16 @@ jumped_to feed es new (i ∷ listed) (s ∷ snapshots) newest honest covered =
     let jump : IsJumpedTo feed new i s = record { covers = covered 0 s (omega arith); is = subst (λ (o : Option SnapshotContent). IfSome o (IsSnapshotOf feed i)) here honest.0 } in
     (jump, jumped_to feed es new listed snapshots others honest.1 (λ k d within. covered (suc k) d (omega (arith, within))))
 
-settled_are : (listed : List Instrument) (feed : List PacketContent) (room : ℕ) (from : Start) (es : List Event) (s : State) (moves : List Move) → IsHonest listed feed es → Settles (channel_of listed room from) es s moves → AreOf listed feed s.next moves
-settled_are listed feed room from es s [] honest is = tt
-settled_are listed feed room from es s (passed p ∷ moves) honest is =
-    let first = law_of_passes (channel_of listed room from) es s p is.0 in
+settled_are : (channel : ListedChannel) (feed : List PacketContent) (es : List Event) (s : State) (moves : List Move) → IsHonest channel.listed feed es → Settles (channel_of channel) es s moves → AreOf channel.listed feed s.next moves
+settled_are channel feed es s [] honest is = tt
+settled_are channel feed es s (passed p ∷ moves) honest is =
+    let first = law_of_passes (channel_of channel) es s p is.0 in
     let at : IsIn feed p = subst (λ (o : Option PacketContent). IfSome o (IsIn feed)) first.1 (honest.packets s.next) in
-    (first.0, at, settled_are listed feed room from es (after s (passed p)) moves honest is.1)
-settled_are listed feed room from es s (jumped old new snapshots ∷ moves) honest is =
-    let recovery = law_of_jumps (channel_of listed room from) es s old new snapshots is.0 in
+    (first.0, at, settled_are channel feed es (after s (passed p)) moves honest is.1)
+settled_are channel feed es s (jumped old new snapshots ∷ moves) honest is =
+    let recovery = law_of_jumps (channel_of channel) es s old new snapshots is.0 in
     let books = honest.snapshots es [] (sym (append-nil es)) in
-    (jumped_to feed es new listed snapshots recovery.newest books recovery.covered, settled_are listed feed room from es (after s (jumped old new snapshots)) moves honest is.1)
+    (jumped_to feed es new channel.listed snapshots recovery.newest books recovery.covered, settled_are channel feed es (after s (jumped old new snapshots)) moves honest is.1)
 
 -- ---- the moves of all events
 
@@ -75,15 +74,15 @@ are-append listed feed s [] more are later = later
 are-append listed feed s (passed p ∷ moves) more (number, at, are) later = (number, at, are-append listed feed (after s (passed p)) moves more are later)
 are-append listed feed s (jumped old new snapshots ∷ moves) more (is, are) later = (is, are-append listed feed (after s (jumped old new snapshots)) moves more are later)
 
-go_on_are : (listed : List Instrument) (feed : List PacketContent) (room : ℕ) (from : Start) (past es : List Event) (s : State) → IsHonest listed feed (past ++ es) → AreOf listed feed s.next (go_on (channel_of listed room from) past s es)
-go_on_are listed feed room from past [] s honest = tt
-go_on_are listed feed room from past (e ∷ es) s honest =
+go_on_are : (channel : ListedChannel) (feed : List PacketContent) (past es : List Event) (s : State) → IsHonest channel.listed feed (past ++ es) → AreOf channel.listed feed s.next (go_on (channel_of channel) past s es)
+go_on_are channel feed past [] s honest = tt
+go_on_are channel feed past (e ∷ es) s honest =
     let now = past ++ e ∷ [] in
-    let whole : IsHonest listed feed (now ++ es) = subst (λ (t : List Event). IsHonest listed feed t) (sym (append_assoc past (e ∷ []) es)) honest in
-    let moves = settle (channel_of listed room from) now s in
-    are-append listed feed s moves (go_on (channel_of listed room from) now (after_all s moves) es)
-    (settled_are listed feed room from now s moves (honest_front listed feed now es whole) (settle_settles (channel_of listed room from) now s))
-    (go_on_are listed feed room from now es (after_all s moves) whole)
+    let whole : IsHonest channel.listed feed (now ++ es) = subst (λ (t : List Event). IsHonest channel.listed feed t) (sym (append_assoc past (e ∷ []) es)) honest in
+    let moves = settle (channel_of channel) now s in
+    are-append channel.listed feed s moves (go_on (channel_of channel) now (after_all s moves) es)
+    (settled_are channel feed now s moves (honest_front channel.listed feed now es whole) (settle_settles (channel_of channel) now s))
+    (go_on_are channel feed now es (after_all s moves) whole)
 
 pub honest_moves_agree : HonestMovesAgree
-honest_moves_agree listed feed room from es honest = go_on_are listed feed room from [] es (first_state (channel_of listed room from)) honest
+honest_moves_agree channel feed es honest = go_on_are channel feed [] es (first_state (channel_of channel)) honest

@@ -4,7 +4,7 @@ use Rattle.std.proofs.lemmas.List.{map-append, take_more}
 use Rattle.mdp_templates.specs.declared.instrument.Instrument.{Instrument}
 use Rattle.mdp_arbiter.specs.Accepted.{Event}
 use Rattle.mdp_arbiter.specs.Channel.{Channel, channel_of, ids_of}
-use Rattle.mdp_arbiter.specs.Machine.{trace}
+use Rattle.mdp_arbiter.specs.Machine.{moves_of, trace}
 use Rattle.mdp_desks.specs.Moments.{shown_lines, text_of_moments}
 use Rattle.mdp_engine.specs.Owed.{steps_of, lines}
 use Rattle.mdp_engine.specs.Engine.{LawOfOwedText}
@@ -15,12 +15,12 @@ use Rattle.mdp_engine.proofs.Agreeing.{law_of_owed_moments}
 use Rattle.mdp_engine.proofs.Honesty.{honest_moves_agree}
 
 pub law_of_honest_moments : LawOfHonestMoments
-law_of_honest_moments listed feed room from es honest =
-    law_of_owed_moments listed feed (trace (channel_of listed room from) es) honest.complete (honest_moves_agree listed feed room from es honest)
+law_of_honest_moments channel feed es honest =
+    law_of_owed_moments channel.listed feed (moves_of channel es) honest.complete (honest_moves_agree channel feed es honest)
 
 -- ---- an engine
 
-pub listed_channel : (listed : List Instrument) (channel : Channel) → channel.ids ≡ ids_of listed → channel ≡ channel_of listed channel.room channel.start
+pub listed_channel : (listed : List Instrument) (channel : Channel) → channel.ids ≡ ids_of listed → channel ≡ channel_of (record { listed = listed; room = channel.room; start = channel.start })
 listed_channel listed channel is = ap (λ (ids : List ℤ). record { room = channel.room; ids = ids; start = channel.start }) is
 
 pub law_of_owed_text : LawOfOwedText
@@ -28,7 +28,7 @@ law_of_owed_text listed feed es drained v honest stands =
     let is = listed_channel listed v.arbiter.channel stands.settled.ids in
     stands.shows.text_is
     ∙ subst (λ (c : Channel). shown_lines listed (trace c es) ≡ lines listed feed (steps_of (trace c es))) (sym is)
-    (ap text_of_moments (law_of_honest_moments listed feed v.arbiter.channel.room v.arbiter.channel.start es honest))
+    (ap text_of_moments (law_of_honest_moments (record { listed = listed; room = v.arbiter.channel.room; start = v.arbiter.channel.start }) feed es honest))
 
 -- ---- a list of events
 

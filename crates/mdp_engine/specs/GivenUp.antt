@@ -10,10 +10,9 @@ use Rattle.mdp_templates.specs.declared.instrument.Instrument.{Instrument}
 use Rattle.mdp_templates.specs.declared.instrument.InstrumentKind.TheVariants.{Outright}
 use Rattle.mdp_arbiter.specs.declared.start.Start.TheVariants.{FromOne}
 use Rattle.mdp_arbiter.specs.Accepted.{Event, came, recovered}
-use Rattle.mdp_arbiter.specs.Channel.{channel_of}
-use Rattle.mdp_arbiter.specs.Machine.{trace}
 use Rattle.mdp_arbiter.specs.Machine.Move.{passed, jumped}
 use Rattle.mdp_engine.specs.Honest.{IsHonest}
+use Rattle.mdp_arbiter.specs.Machine.{moves_of}
 
 abbrev pub near : Instrument
 near = record { id = pos 1; name = codes "NEAR"; kind = Outright; depth = 10 }
@@ -52,4 +51,4 @@ first_is_lost = came (packet_with 2 Offer 103 4) ∷ recovered snapshot_of_first
 -- The feed is one that these events agree with, recovery jumps over packet 1, and packet 2 passes.
 abbrev pub LawOfARecovery : Type 0
 LawOfARecovery = IsHonest (near ∷ []) two_packets first_is_lost
-    × (trace (channel_of (near ∷ []) 1 FromOne) first_is_lost ≡ jumped 1 2 (snapshot_of_first ∷ []) ∷ passed (packet_with 2 Offer 103 4) ∷ [])
+    × (moves_of (record { listed = near ∷ []; room = 1; start = FromOne }) first_is_lost ≡ jumped 1 2 (snapshot_of_first ∷ []) ∷ passed (packet_with 2 Offer 103 4) ∷ [])

@@ -4,12 +4,11 @@ use Rattle.std.specs.List.{AllByRecursion, Contains}
 use Rattle.mdp_templates.specs.Packet.{PacketContent}
 use Rattle.mdp_templates.specs.Snapshot.{SnapshotContent}
 use Rattle.mdp_templates.specs.declared.instrument.Instrument.{Instrument}
-use Rattle.mdp_arbiter.specs.declared.start.Start.{Start}
 use Rattle.mdp_arbiter.specs.Accepted.{Event, accepted_packets, accepted_snapshots, first_of, newest_snapshot}
-use Rattle.mdp_arbiter.specs.Machine.{trace}
-use Rattle.mdp_arbiter.specs.Channel.{ids_of, channel_of}
+use Rattle.mdp_arbiter.specs.Channel.{ListedChannel, ids_of}
 use Rattle.mdp_engine.specs.Feed.{IsFeed, IsIn, IsSnapshotOf}
 use Rattle.mdp_engine.specs.Agreed.{AreOf}
+use Rattle.mdp_arbiter.specs.Machine.{moves_of}
 
 -- Of each number the packet that came first is the feed's, whatever later copies say; and at each front of the events
 -- each listed security's newest snapshot, if it has one, is the feed's book.
@@ -20,8 +19,8 @@ pub record IsHonest (listed : List Instrument) (feed : List PacketContent) (es :
 
 -- the moves of honest events are the complete feed's
 abbrev pub HonestMovesAgree : Type 0
-HonestMovesAgree = (listed : List Instrument) (feed : List PacketContent) (room : ℕ) (from : Start) (es : List Event)
-    → IsHonest listed feed es → AreOf listed feed 1 (trace (channel_of listed room from) es)
+HonestMovesAgree = (channel : ListedChannel) (feed : List PacketContent) (es : List Event)
+    → IsHonest channel.listed feed es → AreOf channel.listed feed 1 (moves_of channel es)
 
 -- Where each packet has a number that a complete feed can have, and no snapshot is of a listed security, there
 -- is a complete feed that the events agree with.

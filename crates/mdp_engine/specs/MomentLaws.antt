@@ -2,10 +2,9 @@
 use Rattle.std.specs.Prelude.{◌≡◌, ℕ, List}
 use Rattle.mdp_templates.specs.Packet.{PacketContent}
 use Rattle.mdp_templates.specs.declared.instrument.Instrument.{Instrument}
-use Rattle.mdp_arbiter.specs.declared.start.Start.{Start}
 use Rattle.mdp_arbiter.specs.Accepted.{Event}
-use Rattle.mdp_arbiter.specs.Channel.{channel_of}
-use Rattle.mdp_arbiter.specs.Machine.{Move, trace}
+use Rattle.mdp_arbiter.specs.Channel.{ListedChannel}
+use Rattle.mdp_arbiter.specs.Machine.{Move, moves_of}
 use Rattle.mdp_desks.specs.Moments.{moments}
 use Rattle.mdp_engine.specs.Agreed.{AreOf}
 use Rattle.mdp_engine.specs.Feed.{IsFeed}
@@ -20,5 +19,5 @@ LawOfOwedMoments = (listed : List Instrument) (feed : List PacketContent) (moves
 -- and so have the moves of events that agree with a complete feed
 abbrev pub LawOfHonestMoments : Type 0
 LawOfHonestMoments =
-    (listed : List Instrument) (feed : List PacketContent) (room : ℕ) (from : Start) (es : List Event) → IsHonest listed feed es
-    → moments listed (trace (channel_of listed room from) es) ≡ owed_moments listed feed (steps_of (trace (channel_of listed room from) es))
+    (channel : ListedChannel) (feed : List PacketContent) (es : List Event) → IsHonest channel.listed feed es
+    → moments channel.listed (moves_of channel es) ≡ owed_moments channel.listed feed (steps_of (moves_of channel es))

@@ -3,11 +3,10 @@ use Rattle.std.specs.Prelude.{◌≡◌, ◌≢◌, ◌≤◌, ℕ, ◌+◌, Lis
 use Rattle.std.specs.List.{AllPairs, flat_map}
 use Rattle.mdp_templates.specs.declared.instrument.Instrument.{Instrument}
 use Rattle.mdp_templates.specs.Packet.{PacketContent}
-use Rattle.mdp_arbiter.specs.declared.start.Start.{Start}
 use Rattle.mdp_arbiter.specs.Accepted.{Event}
-use Rattle.mdp_arbiter.specs.Machine.{Move, trace}
+use Rattle.mdp_arbiter.specs.Machine.{Move, moves_of}
 use Rattle.mdp_arbiter.specs.Machine.Move.{passed, jumped}
-use Rattle.mdp_arbiter.specs.Channel.{ids_of, channel_of}
+use Rattle.mdp_arbiter.specs.Channel.{ListedChannel, ids_of}
 use Rattle.mdp_engine.specs.Owed.{steps_of}
 use Rattle.mdp_engine.specs.Owed.{lines}
 use Rattle.mdp_engine.specs.Honest.{IsHonest}
@@ -29,7 +28,7 @@ LawOfWorkers = (n : ℕ) (listed : List Instrument) (moves : List Move) → 1 �
 
 -- the recovery machine's moves ascend, whatever came
 abbrev pub LawOfAscent : Type 0
-LawOfAscent = (listed : List Instrument) (room : ℕ) (from : Start) (es : List Event) → Ascend listed 1 (trace (channel_of listed room from) es)
+LawOfAscent = (channel : ListedChannel) (es : List Event) → Ascend channel.listed 1 (moves_of channel es)
 
 -- batches of reports are the rounds of all their moments, however the moments are cut into batches
 abbrev pub LawOfBatches : Type 0
@@ -42,10 +41,10 @@ LawOfFirstRounds = (listed : List Instrument) (rounds more : List (List Report))
 -- Whatever the number of workers and however their reports are cut into batches, of events that agree with a complete
 -- feed the text is that which the feed owes.
 abbrev pub LawOfRuns : Type 0
-LawOfRuns = (n : ℕ) (listed : List Instrument) (feed : List PacketContent) (room : ℕ) (from : Start) (es : List Event) (batches : List (List Moment))
-    → 1 ≤ n → AllPairs (λ a b. a ≢ b) (ids_of listed) → IsHonest listed feed es
-    → moments listed (trace (channel_of listed room from) es) ≡ flat_map (λ (ms : List Moment). ms) batches
-    → collected_text listed (all_rounds_in (map (batch_of n) batches)) ≡ lines listed feed (steps_of (trace (channel_of listed room from) es))
+LawOfRuns = (n : ℕ) (channel : ListedChannel) (feed : List PacketContent) (es : List Event) (batches : List (List Moment))
+    → 1 ≤ n → AllPairs (λ a b. a ≢ b) (ids_of channel.listed) → IsHonest channel.listed feed es
+    → moments channel.listed (moves_of channel es) ≡ flat_map (λ (ms : List Moment). ms) batches
+    → collected_text channel.listed (all_rounds_in (map (batch_of n) batches)) ≡ lines channel.listed feed (steps_of (moves_of channel es))
 
 -- the moments of moves that come batch by batch are those of all of them
 abbrev pub LawOfCuts : Type 0

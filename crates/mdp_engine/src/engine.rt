@@ -6,7 +6,7 @@ ghost use Rattle.mdp_templates.specs.Packet.{PacketContent};
 ghost use Rattle.mdp_templates.specs.Instrument.{AreFit};
 ghost use Rattle.mdp_templates.specs.declared.instrument.Instrument.{Instrument};
 ghost use Rattle.mdp_arbiter.specs.Accepted.{Event as Accepted, came};
-ghost use Rattle.mdp_arbiter.specs.Machine.{State, is_lost, state_at, trace};
+ghost use Rattle.mdp_arbiter.specs.Machine.{State, is_lost, moves_of, state_at};
 ghost use Rattle.mdp_arbiter.specs.Channel.{ids_of, channel_of};
 ghost use Rattle.mdp_arbiter.specs.Arbiter.{is_lost_now, state};
 ghost use Rattle.mdp_arbiter.specs.Standing.{StandsAt};
@@ -68,7 +68,7 @@ impl<A: Allocator + Copy, W: Window<Packet<A>> + Drop> Engine<A, W> {
         requires empty { (W.view window).held ≡ map.empty }
         ensures stands { IfOk result (λ engine. Stands instruments.now [] [] engine) }
         ensures channel { IfOk result (λ engine. engine.arbiter.channel
-            ≡ channel_of instruments.now (W.view window).room start) }
+            ≡ channel_of (record { listed = instruments.now; room = (W.view window).room; start = start })) }
         ensures sound { IfOk result (λ engine. engine.has_failed ≡ false) }
         ensures empty { IfOk result (λ engine. engine.held ≡ []) }
     {
@@ -280,10 +280,11 @@ pub fn replay<A: Allocator + Copy, W: Window<Packet<A>> + Drop>(
     requires first { (W.view window).first ≡ 1 }
     requires empty { (W.view window).held ≡ map.empty }
     ensures shown { IfOk result (λ text. text.items
-        ≡ shown_lines instruments.now (trace (channel_of instruments.now (W.view window).room start) (map event_of events.now))) }
+        ≡ shown_lines instruments.now
+        (moves_of (record { listed = instruments.now; room = (W.view window).room; start = start }) (map event_of events.now))) }
     ensures owed { IfOk result (λ text. (feed : List PacketContent) → IsHonest instruments.now feed (map event_of events.now)
-        → text.items ≡ lines instruments.now feed
-        (steps_of (trace (channel_of instruments.now (W.view window).room start) (map event_of events.now)))) }
+        → text.items ≡ lines instruments.now feed (steps_of
+        (moves_of (record { listed = instruments.now; room = (W.view window).room; start = start }) (map event_of events.now)))) }
 {
     let mut engine = Engine::new(alloc, instruments, window, start)?;
     for event in events {

@@ -17,7 +17,7 @@ use clap::Error;
 use clap::error::ErrorKind;
 use mdp_capture::{Capture, CaptureFault, CountedRead, read_capture, read_capture_over_threads};
 use mdp_crew::Open;
-use mdp_pipeline::{RunFault, Summary, run, run_in_order};
+use mdp_pipeline::{Feeds, RunFault, RunPlan, Summary, run, run_in_order};
 use mdp_print::{CountedWrite, write_all_counted};
 use std::alloc::{Allocator, Global};
 use std::sync::Wait;
@@ -238,24 +238,14 @@ where
         HasCounted (O.taken output.old) (O.taken output.new) (written_before fault)) }
     ensures failed { FailsBy result (O.failed output.old) (O.failed output.new) }
 {
-    let instruments = capture.instruments();
-    let (a, b, s) = (capture.a(), capture.b(), capture.s());
-    let Settings { window, start, .. } = settings;
+    let plan = RunPlan {
+        instruments: capture.instruments(),
+        window: settings.window,
+        start: settings.start,
+        workers: u16::from(settings.workers),
+    };
     if settings.in_order {
-        return run_in_order(alloc, instruments, a, b, s, window, start, output);
+        return run_in_order(alloc, plan, Feeds::of(capture), output);
     }
-    let workers = u16::from(settings.workers);
-    run(
-        rt,
-        alloc,
-        instruments,
-        a,
-        b,
-        s,
-        workers,
-        window,
-        start,
-        &Open,
-        output,
-    )
+    run(rt, alloc, plan, Feeds::of(capture), &Open, output)
 }

@@ -9,21 +9,19 @@ use Rattle.mdp_templates.specs.Incremental.{IsPacket, IsRefusedPacket}
 use Rattle.mdp_templates.specs.Recovery.{AreSnapshots, AreRefusedSnapshots}
 use Rattle.mdp_templates.specs.Refused.{FeedKind as Kind}
 use Rattle.mdp_templates.specs.Refused.FeedKind.{incremental, recovery}
-use Rattle.mdp_templates.specs.declared.instrument.Instrument.{Instrument}
 use Rattle.mdp_templates.proofs.OneAnswer.{one_packet, one_datagram}
 use Rattle.mdp_templates.specs.declared.feed.Feed.{Feed}
 use Rattle.mdp_capture.specs.Record.{RecordContent, Received, Datagram, Close}
-use Rattle.mdp_arbiter.specs.declared.start.Start.{Start}
 use Rattle.mdp_arbiter.specs.Accepted.{Event, came, recovered, closed}
-use Rattle.mdp_arbiter.specs.Machine.{state_at, trace, go_on}
-use Rattle.mdp_arbiter.specs.Channel.{Channel, channel_of}
+use Rattle.mdp_arbiter.specs.Machine.{go_on, moves_of, standing_after, state_at, trace}
+use Rattle.mdp_arbiter.specs.Channel.{Channel, ListedChannel, channel_of}
 use Rattle.mdp_arbiter.proofs.Runs.{law_of_fronts}
 use Rattle.mdp_engine.specs.Engine.{View}
 use Rattle.mdp_desks.specs.Moments.{moments_after, shown_lines, text_of_moments}
 use Rattle.mdp_pipeline.specs.declared.progress.Run.{Run}
-use Rattle.mdp_pipeline.specs.Merge.{Arrival, in_order}
+use Rattle.mdp_pipeline.specs.Merge.{Arrival, FeedRecords, in_order}
 use Rattle.mdp_pipeline.specs.Reading.{Reading, Said, Says, brings, refused, IsReading, AreReadings, brought_by, by_feed, events_of, kind_of, refusals_text}
-use Rattle.mdp_pipeline.specs.Output.{end_lines, is_lost_after, moves_of, next_after, shown_output}
+use Rattle.mdp_pipeline.specs.Output.{end_lines, shown_output}
 use Rattle.mdp_pipeline.specs.RefusalTexts.{RefusalTexts}
 use Rattle.mdp_pipeline.specs.Running.{BeginsAll, PrintsAll, TakesAs, Writes}
 use Rattle.mdp_desks.proofs.Moments.{shown_lines-append}
@@ -69,54 +67,53 @@ readings-append arrivals left readings more are later = record {
 
 -- ---- the text of the whole
 
-abbrev end_of : List Instrument → ℕ → Start → List Reading → List ℕ
-end_of listed room from readings = end_lines listed room from (refusals_text (by_feed readings)) (events_of readings)
+abbrev end_of : ListedChannel → List Reading → List ℕ
+end_of channel readings = end_lines channel (refusals_text (by_feed readings)) (events_of readings)
 
-abbrev text_of : List Instrument → ℕ → Start → List Reading → List ℕ
-text_of listed room from readings = shown_output listed room from (refusals_text (by_feed readings)) (events_of readings)
+abbrev text_of : ListedChannel → List Reading → List ℕ
+text_of channel readings = shown_output channel (refusals_text (by_feed readings)) (events_of readings)
 
-text_prints : (listed : List Instrument) (room : ℕ) (from : Start) (arrivals : List Arrival) (readings : List Reading) → AreReadings arrivals readings
-    → PrintsAll listed room from arrivals (text_of listed room from readings) (next_after listed room from (events_of readings)) (is_lost_after listed room from (events_of readings))
-text_prints listed room from arrivals readings are = record { readings = readings; are = are; next_is = refl; lost_is = refl; shown = refl }
+text_prints : (channel : ListedChannel) (arrivals : List Arrival) (readings : List Reading) → AreReadings arrivals readings
+    → PrintsAll channel arrivals (text_of channel readings) (standing_after channel (events_of readings))
+text_prints channel arrivals readings are = record { readings = readings; are = are; standing_is = refl; shown = refl }
 
 -- what is shown of the readings behind these ones
-abbrev shown_later : List Instrument → ℕ → Start → List Reading → List Reading → List ℕ
-shown_later listed room from readings more =
-    let moves = moves_of listed room from (events_of readings) in
-    text_of_moments (moments_after listed moves (go_on (channel_of listed room from) (events_of readings) (state_at (channel_of listed room from) (events_of readings)) (events_of more)))
+abbrev shown_later : ListedChannel → List Reading → List Reading → List ℕ
+shown_later channel readings more =
+    let moves = moves_of channel (events_of readings) in
+    text_of_moments (moments_after channel.listed moves (go_on (channel_of channel) (events_of readings) (state_at (channel_of channel) (events_of readings)) (events_of more)))
 
-shown-front : (listed : List Instrument) (room : ℕ) (from : Start) (readings more : List Reading) → shown_lines listed (moves_of listed room from (events_of (readings ++ more))) ≡ shown_lines listed (moves_of listed room from (events_of readings)) ++ shown_later listed room from readings more
-shown-front listed room from readings more =
+shown-front : (channel : ListedChannel) (readings more : List Reading) → shown_lines channel.listed (moves_of channel (events_of (readings ++ more))) ≡ shown_lines channel.listed (moves_of channel (events_of readings)) ++ shown_later channel readings more
+shown-front channel readings more =
     let es = events_of readings in
-    let later = go_on (channel_of listed room from) es (state_at (channel_of listed room from) es) (events_of more) in
-    ap (λ (t : List Event). shown_lines listed (trace (channel_of listed room from) t)) (flat_map-append (λ (r : Reading). brought_by r.said) readings more)
-    ∙ ap (shown_lines listed) (law_of_fronts (channel_of listed room from) es (events_of more))
-    ∙ shown_lines-append listed (moves_of listed room from (events_of readings)) later
+    let later = go_on (channel_of channel) es (state_at (channel_of channel) es) (events_of more) in
+    ap (λ (t : List Event). shown_lines channel.listed (moves_of channel t)) (flat_map-append (λ (r : Reading). brought_by r.said) readings more)
+    ∙ ap (shown_lines channel.listed) (law_of_fronts (channel_of channel) es (events_of more))
+    ∙ shown_lines-append channel.listed (moves_of channel (events_of readings)) later
 
 -- ---- a beginning
 
 -- Nothing went out.
-pub begins_none : (listed : List Instrument) (room : ℕ) (from : Start) (arrivals : List Arrival) (taken : List ℕ) → BeginsAll listed room from arrivals taken taken
-begins_none listed room from arrivals taken =
+pub begins_none : (channel : ListedChannel) (arrivals : List Arrival) (taken : List ℕ) → BeginsAll channel arrivals taken taken
+begins_none channel arrivals taken =
     let readings = readings_exist arrivals in
     record {
-      text = text_of listed room from readings.0;
-      next = next_after listed room from (events_of readings.0);
-      lost = is_lost_after listed room from (events_of readings.0);
-      prints = text_prints listed room from arrivals readings.0 readings.1;
+      text = text_of channel readings.0;
+      standing = standing_after channel (events_of readings.0);
+      prints = text_prints channel arrivals readings.0 readings.1;
       sent = [];
-      rest = text_of listed room from readings.0;
+      rest = text_of channel readings.0;
       taken_is = sym (append-nil taken);
       whole = refl;
     }
 
 -- the text of all readings, where so much was sent of what the first ones show, and so much is held
-text_begins : (listed : List Instrument) (room : ℕ) (from : Start) (readings more : List Reading) (sent held : List ℕ) (n : ℕ) → sent ++ held ≡ shown_lines listed (moves_of listed room from (events_of readings))
-    → text_of listed room from (readings ++ more) ≡ (sent ++ take n held) ++ (drop n held ++ (shown_later listed room from readings more ++ end_of listed room from (readings ++ more)))
-text_begins listed room from readings more sent held n shown =
-    let later = shown_later listed room from readings more in
-    let end = end_of listed room from (readings ++ more) in
-    ap (λ (t : List ℕ). t ++ end) (shown-front listed room from readings more)
+text_begins : (channel : ListedChannel) (readings more : List Reading) (sent held : List ℕ) (n : ℕ) → sent ++ held ≡ shown_lines channel.listed (moves_of channel (events_of readings))
+    → text_of channel (readings ++ more) ≡ (sent ++ take n held) ++ (drop n held ++ (shown_later channel readings more ++ end_of channel (readings ++ more)))
+text_begins channel readings more sent held n shown =
+    let later = shown_later channel readings more in
+    let end = end_of channel (readings ++ more) in
+    ap (λ (t : List ℕ). t ++ end) (shown-front channel readings more)
     ∙ ap (λ (t : List ℕ). (t ++ later) ++ end) (sym shown)
     ∙ append_assoc (sent ++ held) later end
     ∙ ap (λ (t : List ℕ). (sent ++ t) ++ (later ++ end)) (sym (take-append-drop n held))
@@ -124,43 +121,42 @@ text_begins listed room from readings more sent held n shown =
     ∙ append_assoc (sent ++ take n held) (drop n held) (later ++ end)
 
 -- The first records were taken, and of the text that is held so many bytes went out.
-pub begins_so_far : (listed : List Instrument) (room : ℕ) (from : Start) (arrivals done left : List Arrival) (start taken taken' : List ℕ) (engine : View) (refusals : RefusalTexts) (n : ℕ)
-    → arrivals ≡ done ++ left → taken' ≡ taken ++ take n engine.held → Writes listed room from done start taken engine refusals → BeginsAll listed room from arrivals start taken'
-begins_so_far listed room from arrivals done left start taken taken' engine refusals n parts went so_far =
+pub begins_so_far : (channel : ListedChannel) (arrivals done left : List Arrival) (start taken taken' : List ℕ) (engine : View) (refusals : RefusalTexts) (n : ℕ)
+    → arrivals ≡ done ++ left → taken' ≡ taken ++ take n engine.held → Writes channel done start taken engine refusals → BeginsAll channel arrivals start taken'
+begins_so_far channel arrivals done left start taken taken' engine refusals n parts went so_far =
     let readings = so_far.over.readings in
     let more = readings_exist left in
     let all = readings ++ more.0 in
     let run = so_far.over.run in
     let held = engine.held in
-    let shown : so_far.sent ++ held ≡ shown_lines listed (moves_of listed room from (events_of readings)) =
+    let shown : so_far.sent ++ held ≡ shown_lines channel.listed (moves_of channel (events_of readings)) =
     run.stands.shows.text_is
-    ∙ ap (λ (c : Channel). shown_lines listed (trace c (events_of readings))) run.channel in
+    ∙ ap (λ (c : Channel). shown_lines channel.listed (trace c (events_of readings))) run.channel_is in
     record {
-      text = text_of listed room from all;
-      next = next_after listed room from (events_of all);
-      lost = is_lost_after listed room from (events_of all);
-      prints = text_prints listed room from arrivals all (subst (λ (t : List Arrival). AreReadings t all) (sym parts) (readings-append done left readings more.0 so_far.over.are more.1));
+      text = text_of channel all;
+      standing = standing_after channel (events_of all);
+      prints = text_prints channel arrivals all (subst (λ (t : List Arrival). AreReadings t all) (sym parts) (readings-append done left readings more.0 so_far.over.are more.1));
       sent = so_far.sent ++ take n held;
-      rest = drop n held ++ (shown_later listed room from readings more.0 ++ end_of listed room from all);
+      rest = drop n held ++ (shown_later channel readings more.0 ++ end_of channel all);
       taken_is = went ∙ ap (λ (t : List ℕ). t ++ take n held) so_far.taken_is ∙ append_assoc start so_far.sent (take n held);
-      whole = text_begins listed room from readings more.0 so_far.sent held n shown;
+      whole = text_begins channel readings more.0 so_far.sent held n shown;
     }
 
 -- ---- a run
 
 -- a run whose records are not all taken
-pub taken_begins : (listed : List Instrument) (room : ℕ) (from : Start) (a b s : List RecordContent) (start taken : List ℕ) (engine : View) (refusals : RefusalTexts) (a' b' s' : List RecordContent)
-    → HasTaken listed room from a b s start taken engine refusals a' b' s' → BeginsAll listed room from (in_order a b s) start taken
-taken_begins listed room from a b s start taken engine refusals a' b' s' so_far =
-    begins_so_far listed room from (in_order a b s) so_far.done (in_order a' b' s') start taken taken engine refusals 0 so_far.left (sym (append-nil taken)) so_far.writes
+pub taken_begins : (channel : ListedChannel) (records : FeedRecords) (start taken : List ℕ) (engine : View) (refusals : RefusalTexts) (ahead : FeedRecords)
+    → HasTaken channel records start taken engine refusals ahead → BeginsAll channel (in_order records) start taken
+taken_begins channel records start taken engine refusals ahead so_far =
+    begins_so_far channel (in_order records) so_far.done (in_order ahead) start taken taken engine refusals 0 so_far.left (sym (append-nil taken)) so_far.writes
 
 -- a run whose text was to go out after one record more
-pub piece_begins : {A : Type 0} (listed : List Instrument) (room : ℕ) (from : Start) (a b s : List RecordContent) (start taken taken' : List ℕ) (old new : Run A) (a' b' s' a'' b'' s'' : List RecordContent) (feed : Feed) (entry : RecordContent) (n : ℕ)
-    → in_order a' b' s' ≡ (record { feed = feed; entry = entry }) ∷ in_order a'' b'' s''
+pub piece_begins : {A : Type 0} (channel : ListedChannel) (records : FeedRecords) (start taken taken' : List ℕ) (old new : Run A) (ahead ahead' : FeedRecords) (feed : Feed) (entry : RecordContent) (n : ℕ)
+    → in_order ahead ≡ (record { feed = feed; entry = entry }) ∷ in_order ahead'
     → TakesAs (kind_of feed) feed entry.line entry.received old new
     → taken' ≡ taken ++ take n new.engine.held
-    → HasTaken listed room from a b s start taken old.engine old.refusals a' b' s'
-    → BeginsAll listed room from (in_order a b s) start taken'
-piece_begins listed room from a b s start taken taken' old new a' b' s' a'' b'' s'' feed entry n next takes went so_far =
-    let on = taken_more listed room from a b s start taken taken old new new a' b' s' a'' b'' s'' feed entry next takes (λ arrivals writes. writes) so_far in
-    begins_so_far listed room from (in_order a b s) on.done (in_order a'' b'' s'') start taken taken' new.engine new.refusals n on.left went on.writes
+    → HasTaken channel records start taken old.engine old.refusals ahead
+    → BeginsAll channel (in_order records) start taken'
+piece_begins channel records start taken taken' old new ahead ahead' feed entry n next takes went so_far =
+    let on = taken_more channel records start taken taken old new new ahead ahead' feed entry next takes (λ arrivals writes. writes) so_far in
+    begins_so_far channel (in_order records) on.done (in_order ahead') start taken taken' new.engine new.refusals n on.left went on.writes

@@ -3,7 +3,7 @@ use Rattle.std.proofs.Common.{◌≡◌, ℕ, Bool, true, false, cond, List, [],
 use Rattle.mdp_capture.specs.Record.{RecordContent}
 use Rattle.mdp_templates.specs.declared.feed.Feed.{Feed}
 use Rattle.mdp_templates.specs.declared.feed.Feed.TheVariants as feeds
-use Rattle.mdp_pipeline.specs.Merge.{Arrival, arrivals, by_line, in_order, head_line, is_first, first_feed}
+use Rattle.mdp_pipeline.specs.Merge.{Arrival, arrivals, by_line, in_order, head_line, is_first, first_of_lines}
 
 -- ---- two lists
 
@@ -47,7 +47,7 @@ not_b true e = absurd cc
 not_b false e = absurd cc
 
 first_a : (x : RecordContent) (xs b s : List RecordContent) (ab sa bs : Bool) → is_first (Some x.line) (head_line b) ≡ ab → is_first (Some x.line) (head_line s) ≡ sa
-    → cond ab (cond sa feeds.A feeds.S) (cond bs feeds.B feeds.S) ≡ feeds.A → in_order (x ∷ xs) b s ≡ (record { feed = feeds.A; entry = x }) ∷ in_order xs b s
+    → cond ab (cond sa feeds.A feeds.S) (cond bs feeds.B feeds.S) ≡ feeds.A → in_order (record { a = x ∷ xs; b = b; s = s }) ≡ (record { feed = feeds.A; entry = x }) ∷ in_order (record { a = xs; b = b; s = s })
 first_a x xs b s true true bs before_b before_s found =
     let r : Arrival = record { feed = feeds.A; entry = x } in
     let rest = arrivals feeds.A xs in
@@ -58,12 +58,12 @@ first_a x xs b s true true bs before_b before_s found =
 first_a x xs b s true false bs before_b before_s found = absurd cc
 first_a x xs b s false sa bs before_b before_s found = absurd (not_a bs found)
 
-pub next_is_a : (x : RecordContent) (xs b s : List RecordContent) → first_feed (Some x.line) (head_line b) (head_line s) ≡ feeds.A
-    → in_order (x ∷ xs) b s ≡ (record { feed = feeds.A; entry = x }) ∷ in_order xs b s
+pub next_is_a : (x : RecordContent) (xs b s : List RecordContent) → first_of_lines (Some x.line) (head_line b) (head_line s) ≡ feeds.A
+    → in_order (record { a = x ∷ xs; b = b; s = s }) ≡ (record { feed = feeds.A; entry = x }) ∷ in_order (record { a = xs; b = b; s = s })
 next_is_a x xs b s found = first_a x xs b s (is_first (Some x.line) (head_line b)) (is_first (Some x.line) (head_line s)) (is_first (head_line b) (head_line s)) refl refl found
 
 first_b : (a : List RecordContent) (y : RecordContent) (ys s : List RecordContent) (ab sa bs : Bool) → is_first (head_line a) (Some y.line) ≡ ab → is_first (Some y.line) (head_line s) ≡ bs
-    → cond ab (cond sa feeds.A feeds.S) (cond bs feeds.B feeds.S) ≡ feeds.B → in_order a (y ∷ ys) s ≡ (record { feed = feeds.B; entry = y }) ∷ in_order a ys s
+    → cond ab (cond sa feeds.A feeds.S) (cond bs feeds.B feeds.S) ≡ feeds.B → in_order (record { a = a; b = y ∷ ys; s = s }) ≡ (record { feed = feeds.B; entry = y }) ∷ in_order (record { a = a; b = ys; s = s })
 first_b a y ys s true sa bs before_b before_s found = absurd (not_b sa found)
 first_b a y ys s false sa true before_b before_s found =
     let r : Arrival = record { feed = feeds.B; entry = y } in
@@ -74,6 +74,6 @@ first_b a y ys s false sa true before_b before_s found =
     ∙ by_line_left r (by_line others rest) snapshots (ap (is_first (Some y.line)) (line-arrivals feeds.S s) ∙ before_s)
 first_b a y ys s false sa false before_b before_s found = absurd cc
 
-pub next_is_b : (a : List RecordContent) (y : RecordContent) (ys s : List RecordContent) → first_feed (head_line a) (Some y.line) (head_line s) ≡ feeds.B
-    → in_order a (y ∷ ys) s ≡ (record { feed = feeds.B; entry = y }) ∷ in_order a ys s
+pub next_is_b : (a : List RecordContent) (y : RecordContent) (ys s : List RecordContent) → first_of_lines (head_line a) (Some y.line) (head_line s) ≡ feeds.B
+    → in_order (record { a = a; b = y ∷ ys; s = s }) ≡ (record { feed = feeds.B; entry = y }) ∷ in_order (record { a = a; b = ys; s = s })
 next_is_b a y ys s found = first_b a y ys s (is_first (head_line a) (Some y.line)) (is_first (head_line a) (head_line s)) (is_first (Some y.line) (head_line s)) refl refl found

@@ -7,9 +7,8 @@ use Rattle.std.proofs.lemmas.List.Elements.{filter-append}
 use Rattle.mdp_templates.specs.declared.feed.Feed.{Feed}
 use Rattle.mdp_templates.specs.declared.feed.Feed.TheVariants as feeds
 use Rattle.mdp_templates.specs.Feed.{feed_letter}
-use Rattle.mdp_templates.specs.declared.instrument.Instrument.{Instrument}
 use Rattle.mdp_capture.specs.Record.{RecordContent}
-use Rattle.mdp_arbiter.specs.declared.start.Start.{Start}
+use Rattle.mdp_arbiter.specs.Channel.{ListedChannel}
 use Rattle.mdp_arbiter.specs.Accepted.{Event}
 use Rattle.mdp_engine.proofs.Owing.{law_of_honest_moments}
 use Rattle.mdp_desks.specs.Moments.{moments, text_of_moments}
@@ -20,8 +19,7 @@ use Rattle.mdp_reports.specs.BoardSteps.{board_steps}
 use Rattle.mdp_reports.proofs.Behind.{behind_nothing, law_of_early_ends}
 use Rattle.mdp_lanes.specs.Items.{is_same, items_of}
 use Rattle.mdp_lanes.specs.Queues.{IntakeReceiverView, IntakeSenderView, IsFreshSenderOf}
-use Rattle.mdp_print.specs.Texts.{last_line}
-use Rattle.mdp_crew.specs.declared.arbiter.Standing.{Standing}
+use Rattle.mdp_arbiter.specs.declared.arbiter.Standing.{Standing}
 use Rattle.mdp_crew.specs.declared.batch.Batch.{Batch}
 use Rattle.mdp_crew.specs.declared.stop.Stop.{Stop}
 use Rattle.mdp_crew.specs.Batches.{HasTakenMore, all_events, batch_events, events_taken}
@@ -33,9 +31,9 @@ use Rattle.mdp_pipeline.specs.declared.reader.ReaderOutcome.{ReaderOutcome}
 use Rattle.mdp_pipeline.specs.declared.summary.RunFault.{RunFault}
 use Rattle.mdp_pipeline.specs.declared.summary.Summary.{Summary}
 use Rattle.mdp_pipeline.specs.Taken.{HasReadFor, tagged_as, tagged_taken}
-use Rattle.mdp_pipeline.specs.Merge.{arrivals}
+use Rattle.mdp_pipeline.specs.Merge.{FeedRecords, arrivals}
 use Rattle.mdp_pipeline.specs.Merging.{Tagged, IsMerge, events_from, events_in, is_from}
-use Rattle.mdp_pipeline.specs.Output.{BeginsToPublish, BeginsToPublishMerge, Prints, PublishesMerge, end_lines, is_lost_after, moves_of, next_after, shown_output}
+use Rattle.mdp_pipeline.specs.Output.{BeginsToPublish, Prints, SaysAll, SaysSome, end_lines, end_text, out, shown_output, standing_in}
 use Rattle.mdp_pipeline.specs.Reading.{Readings, events_of, refusals_text}
 use Rattle.mdp_pipeline.specs.Readers.{HasRead}
 use Rattle.mdp_pipeline.specs.RefusalTexts.{RefusalTexts}
@@ -43,6 +41,7 @@ use Rattle.mdp_pipeline.specs.Running.{EndsAs, joined_texts}
 use Rattle.mdp_pipeline.proofs.Beginnings.{readings_exist}
 use Rattle.mdp_pipeline.proofs.OnBoards.{publishes}
 use Rattle.mdp_pipeline.proofs.Ending.{ends_behind, out_early, out_in_end, told_as}
+use Rattle.mdp_arbiter.specs.Machine.{moves_of, standing_after}
 
 -- ---- one feed's events among those with feeds
 
@@ -120,51 +119,49 @@ from_s a b s =
 
 -- ---- text and board of one list of moments
 
-begins_at : (listed : List Instrument) (room : ℕ) (from : Start) (events : List Event) (end sent : List ℕ) (steps : List Step) → IsBehind (moments listed (moves_of listed room from events)) end sent steps
-    → BeginsToPublish listed room from events end sent steps
-begins_at listed room from events end sent steps behind = record {
-  shown = moments listed (moves_of listed room from events);
+begins_at : (channel : ListedChannel) (events : List Event) (end sent : List ℕ) (steps : List Step) → IsBehind (moments channel.listed (moves_of channel events)) end sent steps
+    → BeginsToPublish channel events end sent steps
+begins_at channel events end sent steps behind = record {
+  shown = moments channel.listed (moves_of channel events);
   shown_is = refl;
-  owed = λ feed honest. law_of_honest_moments listed feed room from events honest;
+  owed = λ feed honest. law_of_honest_moments channel feed events honest;
   behind = behind;
 }
 
 -- whatever the records say, nothing of its text went out, and nothing was published
-pub begins_nothing : (listed : List Instrument) (room : ℕ) (from : Start) (a b s : List RecordContent) (start : List ℕ) (board : Option Published)
-    → (steps : List Step) × (board ≡ published_on board steps) × BeginsToPublishMerge listed room from a b s start start steps
-begins_nothing listed room from a b s start board =
-    let read_a = readings_exist (arrivals feeds.A a) in
-    let read_b = readings_exist (arrivals feeds.B b) in
-    let read_s = readings_exist (arrivals feeds.S s) in
+pub begins_nothing : (channel : ListedChannel) (records : FeedRecords) (start : List ℕ) (board : Option Published)
+    → SaysSome channel records (out start board) (out start board)
+begins_nothing channel records start board =
+    let read_a = readings_exist (arrivals feeds.A records.a) in
+    let read_b = readings_exist (arrivals feeds.B records.b) in
+    let read_s = readings_exist (arrivals feeds.S records.s) in
     let ea = events_of read_a.0 in
     let eb = events_of read_b.0 in
     let es = events_of read_s.0 in
     let readings : Readings = record { a = read_a.0; b = read_b.0; s = read_s.0 } in
     let merge = rests ea eb es in
-    let text = shown_output listed room from (refusals_text readings) (events_in merge) in (
+    let text = shown_output channel (refusals_text readings) (events_in merge) in (
       [],
       published_nothing board,
       (
         merge,
         record {
           text = text;
-          next = next_after listed room from (events_in merge);
-          lost = is_lost_after listed room from (events_in merge);
+          standing = standing_after channel (events_in merge);
           prints = record {
             readings = readings;
             are = record { a_are = read_a.1; b_are = read_b.1; s_are = read_s.1 };
             merges = record { a = from_a ea eb es; b = from_b ea eb es; s = from_s ea eb es };
-            next_is = refl;
-            lost_is = refl;
+            standing_is = refl;
             shown = refl;
-            owed = λ feed honest. ap (λ (t : List ℕ). t ++ end_lines listed room from (refusals_text readings) (events_in merge)) (ap text_of_moments (law_of_honest_moments listed feed room from (events_in merge) honest));
+            owed = λ feed honest. ap (λ (t : List ℕ). t ++ end_lines channel (refusals_text readings) (events_in merge)) (ap text_of_moments (law_of_honest_moments channel feed (events_in merge) honest));
           };
           sent = [];
           rest = text;
           taken_is = sym (append-nil start);
           whole = refl;
         },
-        begins_at listed room from (events_in merge) (end_lines listed room from (refusals_text readings) (events_in merge)) [] [] (behind_nothing (moments listed (moves_of listed room from (events_in merge))) (end_lines listed room from (refusals_text readings) (events_in merge))),
+        begins_at channel (events_in merge) (end_lines channel (refusals_text readings) (events_in merge)) [] [] (behind_nothing (moments channel.listed (moves_of channel (events_in merge))) (end_lines channel (refusals_text readings) (events_in merge))),
       ),
     )
 
@@ -229,36 +226,36 @@ module _ {A : Type 0} where
       ∙ sym read.2.over.front
 
   -- what the three readers have read, and what was taken of them
-  pub record Joined (receiver : IntakeReceiverView (Batch A)) (a b s : List RecordContent) (left_a left_b left_s : ReaderOutcome A) : Type 0 where
-    pub read_a : HasReadFor receiver feeds.A a left_a
-    pub read_b : HasReadFor receiver feeds.B b left_b
-    pub read_s : HasReadFor receiver feeds.S s left_s
+  pub record Joined (receiver : IntakeReceiverView (Batch A)) (records : FeedRecords) (left_a left_b left_s : ReaderOutcome A) : Type 0 where
+    pub read_a : HasReadFor receiver feeds.A records.a left_a
+    pub read_b : HasReadFor receiver feeds.B records.b left_b
+    pub read_s : HasReadFor receiver feeds.S records.s left_s
     pub all_a : items_of feeds.A receiver.taken ≡ left_a.sender.sent
     pub all_b : items_of feeds.B receiver.taken ≡ left_b.sender.sent
     pub all_s : items_of feeds.S receiver.taken ≡ left_s.sender.sent
 
-  abbrev pub readings_in : {receiver : IntakeReceiverView (Batch A)} {a b s : List RecordContent} {left_a left_b left_s : ReaderOutcome A} → Joined receiver a b s left_a left_b left_s → Readings
+  abbrev pub readings_in : {receiver : IntakeReceiverView (Batch A)} {records : FeedRecords} {left_a left_b left_s : ReaderOutcome A} → Joined receiver records left_a left_b left_s → Readings
   readings_in joined = record { a = joined.read_a.2.over.readings; b = joined.read_b.2.over.readings; s = joined.read_s.2.over.readings }
 
-  abbrev pub rest_in : {receiver : IntakeReceiverView (Batch A)} {a b s : List RecordContent} {left_a left_b left_s : ReaderOutcome A} → Joined receiver a b s left_a left_b left_s → List Event
+  abbrev pub rest_in : {receiver : IntakeReceiverView (Batch A)} {records : FeedRecords} {left_a left_b left_s : ReaderOutcome A} → Joined receiver records left_a left_b left_s → List Event
   rest_in joined = joined.read_a.2.over.rest ++ (joined.read_b.2.over.rest ++ joined.read_s.2.over.rest)
 
-  abbrev merge_in : {receiver : IntakeReceiverView (Batch A)} {a b s : List RecordContent} {left_a left_b left_s : ReaderOutcome A} → Joined receiver a b s left_a left_b left_s → List Tagged
+  abbrev merge_in : {receiver : IntakeReceiverView (Batch A)} {records : FeedRecords} {left_a left_b left_s : ReaderOutcome A} → Joined receiver records left_a left_b left_s → List Tagged
   merge_in {receiver} joined = tagged_taken receiver.taken ++ rests joined.read_a.2.over.rest joined.read_b.2.over.rest joined.read_s.2.over.rest
 
-  is_merge : (receiver : IntakeReceiverView (Batch A)) (a b s : List RecordContent) (left_a left_b left_s : ReaderOutcome A) (joined : Joined receiver a b s left_a left_b left_s) → IsMerge (readings_in joined) (merge_in joined)
-  is_merge receiver a b s left_a left_b left_s joined =
+  is_merge : (receiver : IntakeReceiverView (Batch A)) (records : FeedRecords) (left_a left_b left_s : ReaderOutcome A) (joined : Joined receiver records left_a left_b left_s) → IsMerge (readings_in joined) (merge_in joined)
+  is_merge receiver records left_a left_b left_s joined =
       let ra = joined.read_a.2.over.rest in
       let rb = joined.read_b.2.over.rest in
       let rs = joined.read_s.2.over.rest in
       record {
-        a = all_of receiver feeds.A a left_a (rests ra rb rs) joined.read_a joined.all_a (from_a ra rb rs);
-        b = all_of receiver feeds.B b left_b (rests ra rb rs) joined.read_b joined.all_b (from_b ra rb rs);
-        s = all_of receiver feeds.S s left_s (rests ra rb rs) joined.read_s joined.all_s (from_s ra rb rs);
+        a = all_of receiver feeds.A records.a left_a (rests ra rb rs) joined.read_a joined.all_a (from_a ra rb rs);
+        b = all_of receiver feeds.B records.b left_b (rests ra rb rs) joined.read_b joined.all_b (from_b ra rb rs);
+        s = all_of receiver feeds.S records.s left_s (rests ra rb rs) joined.read_s joined.all_s (from_s ra rb rs);
       }
 
-  merge_events : (receiver : IntakeReceiverView (Batch A)) (a b s : List RecordContent) (left_a left_b left_s : ReaderOutcome A) (joined : Joined receiver a b s left_a left_b left_s) → events_in (merge_in joined) ≡ events_taken receiver.taken ++ rest_in joined
-  merge_events receiver a b s left_a left_b left_s joined =
+  merge_events : (receiver : IntakeReceiverView (Batch A)) (records : FeedRecords) (left_a left_b left_s : ReaderOutcome A) (joined : Joined receiver records left_a left_b left_s) → events_in (merge_in joined) ≡ events_taken receiver.taken ++ rest_in joined
+  merge_events receiver records left_a left_b left_s joined =
       let ra = joined.read_a.2.over.rest in
       let rb = joined.read_b.2.over.rest in
       let rs = joined.read_s.2.over.rest in
@@ -267,123 +264,120 @@ module _ {A : Type 0} where
       ∙ ap (λ (t : List Event). events_taken receiver.taken ++ t) (rests_in ra rb rs)
 
   -- the text of the merge
-  prints : (receiver : IntakeReceiverView (Batch A)) (a b s : List RecordContent) (left_a left_b left_s : ReaderOutcome A) (joined : Joined receiver a b s left_a left_b left_s) (listed : List Instrument) (room : ℕ) (from : Start)
-      → Prints listed room from a b s (merge_in joined) (shown_output listed room from (refusals_text (readings_in joined)) (events_in (merge_in joined))) (next_after listed room from (events_in (merge_in joined))) (is_lost_after listed room from (events_in (merge_in joined)))
-  prints receiver a b s left_a left_b left_s joined listed room from =
+  prints : (receiver : IntakeReceiverView (Batch A)) (records : FeedRecords) (left_a left_b left_s : ReaderOutcome A) (joined : Joined receiver records left_a left_b left_s) (channel : ListedChannel)
+      → Prints channel records (merge_in joined) (shown_output channel (refusals_text (readings_in joined)) (events_in (merge_in joined))) (standing_after channel (events_in (merge_in joined)))
+  prints receiver records left_a left_b left_s joined channel =
       let es = events_in (merge_in joined) in
       record {
         readings = readings_in joined;
         are = record { a_are = joined.read_a.2.over.are; b_are = joined.read_b.2.over.are; s_are = joined.read_s.2.over.are };
-        merges = is_merge receiver a b s left_a left_b left_s joined;
-        next_is = refl;
-        lost_is = refl;
+        merges = is_merge receiver records left_a left_b left_s joined;
+        standing_is = refl;
         shown = refl;
-        owed = λ feed honest. ap (λ (t : List ℕ). t ++ end_lines listed room from (refusals_text (readings_in joined)) es) (ap text_of_moments (law_of_honest_moments listed feed room from es honest));
+        owed = λ feed honest. ap (λ (t : List ℕ). t ++ end_lines channel (refusals_text (readings_in joined)) es) (ap text_of_moments (law_of_honest_moments channel feed es honest));
       }
 
-  pub begins_merge : (receiver : IntakeReceiverView (Batch A)) (a b s : List RecordContent) (left_a left_b left_s : ReaderOutcome A) (joined : Joined receiver a b s left_a left_b left_s) (listed : List Instrument) (room : ℕ) (from : Start) (start taken : List ℕ) (was now : Option Published)
-      → WentOut (moments listed (moves_of listed room from (events_taken receiver.taken ++ rest_in joined))) (end_lines listed room from (refusals_text (readings_in joined)) (events_taken receiver.taken ++ rest_in joined)) start taken was now
-      → (steps : List Step) × (now ≡ published_on was steps) × BeginsToPublishMerge listed room from a b s start taken steps
+  pub begins_merge : (receiver : IntakeReceiverView (Batch A)) (records : FeedRecords) (left_a left_b left_s : ReaderOutcome A) (joined : Joined receiver records left_a left_b left_s) (channel : ListedChannel) (start taken : List ℕ) (was now : Option Published)
+      → WentOut (moments channel.listed (moves_of channel (events_taken receiver.taken ++ rest_in joined))) (end_lines channel (refusals_text (readings_in joined)) (events_taken receiver.taken ++ rest_in joined)) start taken was now
+      → SaysSome channel records (out start was) (out taken now)
   unfolding prints
-  begins_merge receiver a b s left_a left_b left_s joined listed room from start taken was now went =
+  begins_merge receiver records left_a left_b left_s joined channel start taken was now went =
       let es = events_in (merge_in joined) in
-      let end = end_lines listed room from (refusals_text (readings_in joined)) es in
-      let out : WentOut (moments listed (moves_of listed room from es)) end start taken was now =
-      subst (λ (events : List Event). WentOut (moments listed (moves_of listed room from events)) (end_lines listed room from (refusals_text (readings_in joined)) events) start taken was now)
-      (sym (merge_events receiver a b s left_a left_b left_s joined)) went in
-      let left = (law_of_early_ends (moments listed (moves_of listed room from es)) end out.sent out.steps out.behind).0 in (
-        out.steps,
-        out.board_is,
+      let end = end_lines channel (refusals_text (readings_in joined)) es in
+      let gone : WentOut (moments channel.listed (moves_of channel es)) end start taken was now =
+      subst (λ (events : List Event). WentOut (moments channel.listed (moves_of channel events)) (end_lines channel (refusals_text (readings_in joined)) events) start taken was now)
+      (sym (merge_events receiver records left_a left_b left_s joined)) went in
+      let left = (law_of_early_ends (moments channel.listed (moves_of channel es)) end gone.sent gone.steps gone.behind).0 in (
+        gone.steps,
+        gone.board_is,
         (
           merge_in joined,
           record {
-            text = shown_output listed room from (refusals_text (readings_in joined)) es;
-            next = next_after listed room from es;
-            lost = is_lost_after listed room from es;
-            prints = prints receiver a b s left_a left_b left_s joined listed room from;
-            sent = out.sent;
+            text = shown_output channel (refusals_text (readings_in joined)) es;
+            standing = standing_after channel es;
+            prints = prints receiver records left_a left_b left_s joined channel;
+            sent = gone.sent;
             rest = left.0;
-            taken_is = out.taken_is;
+            taken_is = gone.taken_is;
             whole = left.1;
           },
-          begins_at listed room from es end out.sent out.steps out.behind,
+          begins_at channel es end gone.sent gone.steps gone.behind,
         ),
       )
 
-  pub prints_merge : (receiver : IntakeReceiverView (Batch A)) (a b s : List RecordContent) (left_a left_b left_s : ReaderOutcome A) (joined : Joined receiver a b s left_a left_b left_s) (listed : List Instrument) (room : ℕ) (from : Start) (refusals start taken : List ℕ) (next : ℕ) (lost : Bool) (was now : Option Published)
-      → rest_in joined ≡ [] → refusals ≡ refusals_text (readings_in joined) → EndsAs listed room from (events_taken receiver.taken) refusals start taken next lost
-      → now ≡ published_on was (board_steps listed (moves_of listed room from (events_taken receiver.taken)))
-      → (text : List ℕ) × (steps : List Step) × (taken ≡ start ++ text) × (now ≡ published_on was steps) × PublishesMerge listed room from a b s text next lost steps
+  pub prints_merge : (receiver : IntakeReceiverView (Batch A)) (records : FeedRecords) (left_a left_b left_s : ReaderOutcome A) (joined : Joined receiver records left_a left_b left_s) (channel : ListedChannel) (refusals start taken : List ℕ) (standing : Standing) (was now : Option Published)
+      → rest_in joined ≡ [] → refusals ≡ refusals_text (readings_in joined) → EndsAs channel (events_taken receiver.taken) refusals start taken standing
+      → now ≡ published_on was (board_steps channel.listed (moves_of channel (events_taken receiver.taken)))
+      → SaysAll channel records (out start was) (out taken now) standing
   unfolding prints
-  prints_merge receiver a b s left_a left_b left_s joined listed room from refusals start taken next lost was now none told ends published =
+  prints_merge receiver records left_a left_b left_s joined channel refusals start taken standing was now none told ends published =
       let es = events_in (merge_in joined) in
-      let all : events_taken receiver.taken ≡ es = sym (append-nil (events_taken receiver.taken)) ∙ ap (λ (t : List Event). events_taken receiver.taken ++ t) (sym none) ∙ sym (merge_events receiver a b s left_a left_b left_s joined) in
-      let is = prints receiver a b s left_a left_b left_s joined listed room from in
-      let text_is : ends.text ≡ shown_output listed room from (refusals_text (readings_in joined)) es = ends.shown ∙ ap (λ (r : List ℕ). shown_output listed room from r (events_taken receiver.taken)) told ∙ ap (shown_output listed room from (refusals_text (readings_in joined))) all in (
+      let all : events_taken receiver.taken ≡ es = sym (append-nil (events_taken receiver.taken)) ∙ ap (λ (t : List Event). events_taken receiver.taken ++ t) (sym none) ∙ sym (merge_events receiver records left_a left_b left_s joined) in
+      let is = prints receiver records left_a left_b left_s joined channel in
+      let text_is : ends.text ≡ shown_output channel (refusals_text (readings_in joined)) es = ends.shown ∙ ap (λ (r : List ℕ). shown_output channel r (events_taken receiver.taken)) told ∙ ap (shown_output channel (refusals_text (readings_in joined))) all in (
         ends.text,
-        board_steps listed (moves_of listed room from es),
+        board_steps channel.listed (moves_of channel es),
         ends.taken_is,
-        published ∙ ap (λ (events : List Event). published_on was (board_steps listed (moves_of listed room from events))) all,
+        published ∙ ap (λ (events : List Event). published_on was (board_steps channel.listed (moves_of channel events))) all,
         (
           merge_in joined,
           record {
             readings = is.readings;
             are = is.are;
             merges = is.merges;
-            next_is = ends.next_is ∙ ap (next_after listed room from) all;
-            lost_is = ends.lost_is ∙ ap (is_lost_after listed room from) all;
+            standing_is = ends.standing_is ∙ ap (standing_after channel) all;
             shown = text_is;
             owed = λ feed honest. text_is ∙ is.owed feed honest;
           },
-          publishes listed room from es,
+          publishes channel es,
         ),
       )
 
   -- ---- what the end of a run answers
 
   -- memory sufficed in all readers
-  pub none_left : (receiver : IntakeReceiverView (Batch A)) (a b s : List RecordContent) (left_a left_b left_s : ReaderOutcome A) (joined : Joined receiver a b s left_a left_b left_s)
+  pub none_left : (receiver : IntakeReceiverView (Batch A)) (records : FeedRecords) (left_a left_b left_s : ReaderOutcome A) (joined : Joined receiver records left_a left_b left_s)
       → joined.read_a.2.over.rest ≡ [] → joined.read_b.2.over.rest ≡ [] → joined.read_s.2.over.rest ≡ [] → rest_in joined ≡ []
-  none_left receiver a b s left_a left_b left_s joined ra rb rs =
+  none_left receiver records left_a left_b left_s joined ra rb rs =
       ap (λ (t : List Event). t ++ (joined.read_b.2.over.rest ++ joined.read_s.2.over.rest)) ra
       ∙ ap (λ (t : List Event). t ++ joined.read_s.2.over.rest) rb
       ∙ rs
 
-  pub ends_well : (receiver : IntakeReceiverView (Batch A)) (a b s : List RecordContent) (left_a left_b left_s : ReaderOutcome A) (joined : Joined receiver a b s left_a left_b left_s)
+  pub ends_well : (receiver : IntakeReceiverView (Batch A)) (records : FeedRecords) (left_a left_b left_s : ReaderOutcome A) (joined : Joined receiver records left_a left_b left_s)
       (taken after : List ℕ) (outcome : Result Standing Stop) (standing : Standing) (refusals : RefusalTexts) (result : Result Summary RunFault)
       → outcome ≡ Ok standing → rest_in joined ≡ [] → joined_texts refusals ≡ refusals_text (readings_in joined)
-      → IfOk result (λ (summary : Summary). (summary.next ≡ standing.next) × (summary.lost ≡ standing.lost)) → OnOk result (after ≡ taken ++ (joined_texts refusals ++ last_line standing.next standing.lost))
-      → IfOk result (λ (summary : Summary). (listed : List Instrument) (room : ℕ) (from : Start) (start : List ℕ) (was now : Option Published) → HasShown listed room from (events_taken receiver.taken) start taken was now outcome
-      → (text : List ℕ) × (steps : List Step) × (after ≡ start ++ text) × (now ≡ published_on was steps) × PublishesMerge listed room from a b s text summary.next summary.lost steps)
-  ends_well receiver a b s left_a left_b left_s joined taken after outcome standing refusals (Ok summary) is none told tells went = λ listed room from start was now shown.
+      → IfOk result (λ (summary : Summary). standing_in summary ≡ standing) → OnOk result (after ≡ taken ++ end_text (joined_texts refusals) standing)
+      → IfOk result (λ (summary : Summary). (channel : ListedChannel) (start : List ℕ) (was now : Option Published) → HasShown channel (events_taken receiver.taken) start taken was now outcome
+      → SaysAll channel records (out start was) (out after now) (standing_in summary))
+  ends_well receiver records left_a left_b left_s joined taken after outcome standing refusals (Ok summary) is none told tells went = λ channel start was now shown.
       let events = events_taken receiver.taken in
-      let all = subst (λ (o : Result Standing Stop). IfOk o (λ (st : Standing). HasShownAll listed room from events start taken was now st)) is shown.all in
-      prints_merge receiver a b s left_a left_b left_s joined listed room from (joined_texts refusals) start after summary.next summary.lost was now none told
-      (told_as listed room from events (joined_texts refusals) start after standing.next summary.next standing.lost summary.lost tells.0 tells.1 (ends_behind listed room from events start taken after was now standing refusals went all)) all.published
-  ends_well receiver a b s left_a left_b left_s joined taken after outcome standing refusals (Err fault) is none told tells went = tt
+      let all = subst (λ (o : Result Standing Stop). IfOk o (λ (st : Standing). HasShownAll channel events start taken was now st)) is shown.all in
+      prints_merge receiver records left_a left_b left_s joined channel (joined_texts refusals) start after (standing_in summary) was now none told
+      (told_as channel events (joined_texts refusals) start after standing (standing_in summary) tells (ends_behind channel events start taken after was now standing refusals went all)) all.published
+  ends_well receiver records left_a left_b left_s joined taken after outcome standing refusals (Err fault) is none told tells went = tt
 
-  pub ends_early : (receiver : IntakeReceiverView (Batch A)) (a b s : List RecordContent) (left_a left_b left_s : ReaderOutcome A) (joined : Joined receiver a b s left_a left_b left_s)
+  pub ends_early : (receiver : IntakeReceiverView (Batch A)) (records : FeedRecords) (left_a left_b left_s : ReaderOutcome A) (joined : Joined receiver records left_a left_b left_s)
       (taken after : List ℕ) (outcome : Result Standing Stop) (standing : Standing) (refusals : RefusalTexts) (result : Result Summary RunFault)
       → outcome ≡ Ok standing → rest_in joined ≡ [] → joined_texts refusals ≡ refusals_text (readings_in joined)
-      → IfErr result (λ (fault : RunFault). (n : ℕ) × (after ≡ taken ++ take n (joined_texts refusals ++ last_line standing.next standing.lost)))
-      → IfErr result (λ (fault : RunFault). (listed : List Instrument) (room : ℕ) (from : Start) (start : List ℕ) (was now : Option Published) → HasShown listed room from (events_taken receiver.taken) start taken was now outcome
-      → (steps : List Step) × (now ≡ published_on was steps) × BeginsToPublishMerge listed room from a b s start after steps)
-  ends_early receiver a b s left_a left_b left_s joined taken after outcome standing refusals (Ok summary) is none told begins = tt
-  ends_early receiver a b s left_a left_b left_s joined taken after outcome standing refusals (Err fault) is none told begins = λ listed room from start was now shown.
+      → IfErr result (λ (fault : RunFault). (n : ℕ) × (after ≡ taken ++ take n (end_text (joined_texts refusals) standing)))
+      → IfErr result (λ (fault : RunFault). (channel : ListedChannel) (start : List ℕ) (was now : Option Published) → HasShown channel (events_taken receiver.taken) start taken was now outcome
+      → SaysSome channel records (out start was) (out after now))
+  ends_early receiver records left_a left_b left_s joined taken after outcome standing refusals (Ok summary) is none told begins = tt
+  ends_early receiver records left_a left_b left_s joined taken after outcome standing refusals (Err fault) is none told begins = λ channel start was now shown.
       let events = events_taken receiver.taken in
-      let all = subst (λ (o : Result Standing Stop). IfOk o (λ (st : Standing). HasShownAll listed room from events start taken was now st)) is shown.all in
-      begins_merge receiver a b s left_a left_b left_s joined listed room from start after was now
-      (subst (λ (r : List ℕ). WentOut (moments listed (moves_of listed room from (events ++ rest_in joined))) (end_lines listed room from r (events ++ rest_in joined)) start after was now) told
-      (subst (λ (es : List Event). WentOut (moments listed (moves_of listed room from es)) (end_lines listed room from (joined_texts refusals) es) start after was now) (sym (append-nil events) ∙ ap (λ (t : List Event). events ++ t) (sym none))
-      (out_in_end listed room from events start taken after was now standing refusals begins.0 begins.1 all)))
+      let all = subst (λ (o : Result Standing Stop). IfOk o (λ (st : Standing). HasShownAll channel events start taken was now st)) is shown.all in
+      begins_merge receiver records left_a left_b left_s joined channel start after was now
+      (subst (λ (r : List ℕ). WentOut (moments channel.listed (moves_of channel (events ++ rest_in joined))) (end_lines channel r (events ++ rest_in joined)) start after was now) told
+      (subst (λ (es : List Event). WentOut (moments channel.listed (moves_of channel es)) (end_lines channel (joined_texts refusals) es) start after was now) (sym (append-nil events) ∙ ap (λ (t : List Event). events ++ t) (sym none))
+      (out_in_end channel events start taken after was now standing refusals begins.0 begins.1 all)))
 
   -- the crew stopped early, or a reader met want of memory
-  pub ends_short : (receiver : IntakeReceiverView (Batch A)) (a b s : List RecordContent) (left_a left_b left_s : ReaderOutcome A) → Joined receiver a b s left_a left_b left_s
-      → (taken : List ℕ) (outcome : Result Standing Stop) (listed : List Instrument) (room : ℕ) (from : Start) (start : List ℕ) (was now : Option Published) → HasShown listed room from (events_taken receiver.taken) start taken was now outcome
-      → (steps : List Step) × (now ≡ published_on was steps) × BeginsToPublishMerge listed room from a b s start taken steps
-  ends_short receiver a b s left_a left_b left_s joined taken outcome listed room from start was now shown =
-      begins_merge receiver a b s left_a left_b left_s joined listed room from start taken was now
-      (out_early listed room from (events_taken receiver.taken) (rest_in joined) (end_lines listed room from (refusals_text (readings_in joined)) (events_taken receiver.taken ++ rest_in joined)) start taken was now outcome shown)
+  pub ends_short : (receiver : IntakeReceiverView (Batch A)) (records : FeedRecords) (left_a left_b left_s : ReaderOutcome A) → Joined receiver records left_a left_b left_s
+      → (taken : List ℕ) (outcome : Result Standing Stop) (channel : ListedChannel) (start : List ℕ) (was now : Option Published) → HasShown channel (events_taken receiver.taken) start taken was now outcome
+      → SaysSome channel records (out start was) (out taken now)
+  ends_short receiver records left_a left_b left_s joined taken outcome channel start was now shown =
+      begins_merge receiver records left_a left_b left_s joined channel start taken was now
+      (out_early channel (events_taken receiver.taken) (rest_in joined) (end_lines channel (refusals_text (readings_in joined)) (events_taken receiver.taken ++ rest_in joined)) start taken was now outcome shown)
 
 -- a run that has not stopped early met no failed write
 pub none_failed : (outcome : Result Standing Stop) (before after most : ℕ) → before < most → FailsByStop outcome before after → IfOk outcome (λ (standing : Standing). after < most)

@@ -4,22 +4,23 @@ use Rattle.std.specs.Prelude.{Result, Ok, Err, IfOk, IfErr, nat_le, ◌==◌}
 use Rattle.std.specs.List.{AllByRecursion, filter, flat_map}
 use Rattle.std.proofs.lemmas.List.{map-append}
 use Rattle.std.proofs.lemmas.List.Elements.{filter-append}
-use Rattle.mdp_templates.specs.declared.instrument.Instrument.{Instrument}
 use Rattle.mdp_templates.specs.declared.feed.Feed.{Feed}
 use Rattle.mdp_templates.specs.declared.feed.Feed.TheVariants as feeds
 use Rattle.mdp_templates.specs.Feed.{feed_letter}
 use Rattle.mdp_capture.specs.Record.{RecordContent}
-use Rattle.mdp_arbiter.specs.declared.start.Start.{Start}
+use Rattle.mdp_arbiter.specs.Channel.{ListedChannel}
 use Rattle.mdp_arbiter.specs.Accepted.{Event}
 use Rattle.mdp_engine.proofs.Owing.{law_of_honest_moments}
 use Rattle.mdp_desks.specs.Moments.{text_of_moments}
 use Rattle.mdp_pipeline.specs.declared.summary.Summary.{Summary}
 use Rattle.mdp_pipeline.specs.declared.summary.RunFault.{RunFault}
-use Rattle.mdp_pipeline.specs.Merge.{Arrival, arrivals, by_line, in_order}
+use Rattle.mdp_pipeline.specs.Merge.{Arrival, FeedRecords, arrivals, by_line, in_order}
 use Rattle.mdp_pipeline.specs.Reading.{Reading, AreReadings, AreReadingsOf, IsReading, brought_by, by_feed, events_of, is_on, readings_on, refusals_text}
 use Rattle.mdp_pipeline.specs.Merging.{Tagged, IsMerge, events_from, events_in, is_from, tagged_by}
-use Rattle.mdp_pipeline.specs.Output.{BeginsByLine, Prints, PrintsByLine, end_lines, is_lost_after, next_after, shown_output}
+use Rattle.mdp_pipeline.specs.Output.{BeginsByLine, Prints, PrintsByLine, end_lines, shown_output, standing_in}
 use Rattle.mdp_pipeline.specs.Running.{BeginsAll, PrintsAll}
+use Rattle.mdp_arbiter.specs.Machine.{standing_after}
+use Rattle.mdp_arbiter.specs.declared.arbiter.Standing.{Standing}
 
 -- ---- the records of one feed
 
@@ -79,23 +80,23 @@ others_by_line feed (x ∷ xs) (y ∷ ys) left right =
     by_first true one other = one
     by_first false one other = other
 
-a_of : (a b s : List RecordContent) → filter (is_on feeds.A) (in_order a b s) ≡ arrivals feeds.A a
-a_of a b s =
-    of_first feeds.A (by_line (arrivals feeds.A a) (arrivals feeds.B b)) (arrivals feeds.S s) (others_of feeds.A feeds.S s refl)
-    ∙ of_first feeds.A (arrivals feeds.A a) (arrivals feeds.B b) (others_of feeds.A feeds.B b refl)
-    ∙ all_of feeds.A a refl
+a_of : (records : FeedRecords) → filter (is_on feeds.A) (in_order records) ≡ arrivals feeds.A records.a
+a_of records =
+    of_first feeds.A (by_line (arrivals feeds.A records.a) (arrivals feeds.B records.b)) (arrivals feeds.S records.s) (others_of feeds.A feeds.S records.s refl)
+    ∙ of_first feeds.A (arrivals feeds.A records.a) (arrivals feeds.B records.b) (others_of feeds.A feeds.B records.b refl)
+    ∙ all_of feeds.A records.a refl
 
-b_of : (a b s : List RecordContent) → filter (is_on feeds.B) (in_order a b s) ≡ arrivals feeds.B b
-b_of a b s =
-    of_first feeds.B (by_line (arrivals feeds.A a) (arrivals feeds.B b)) (arrivals feeds.S s) (others_of feeds.B feeds.S s refl)
-    ∙ of_second feeds.B (arrivals feeds.A a) (arrivals feeds.B b) (others_of feeds.B feeds.A a refl)
-    ∙ all_of feeds.B b refl
+b_of : (records : FeedRecords) → filter (is_on feeds.B) (in_order records) ≡ arrivals feeds.B records.b
+b_of records =
+    of_first feeds.B (by_line (arrivals feeds.A records.a) (arrivals feeds.B records.b)) (arrivals feeds.S records.s) (others_of feeds.B feeds.S records.s refl)
+    ∙ of_second feeds.B (arrivals feeds.A records.a) (arrivals feeds.B records.b) (others_of feeds.B feeds.A records.a refl)
+    ∙ all_of feeds.B records.b refl
 
-s_of : (a b s : List RecordContent) → filter (is_on feeds.S) (in_order a b s) ≡ arrivals feeds.S s
-s_of a b s =
-    of_second feeds.S (by_line (arrivals feeds.A a) (arrivals feeds.B b)) (arrivals feeds.S s)
-    (others_by_line feeds.S (arrivals feeds.A a) (arrivals feeds.B b) (others_of feeds.S feeds.A a refl) (others_of feeds.S feeds.B b refl))
-    ∙ all_of feeds.S s refl
+s_of : (records : FeedRecords) → filter (is_on feeds.S) (in_order records) ≡ arrivals feeds.S records.s
+s_of records =
+    of_second feeds.S (by_line (arrivals feeds.A records.a) (arrivals feeds.B records.b)) (arrivals feeds.S records.s)
+    (others_by_line feeds.S (arrivals feeds.A records.a) (arrivals feeds.B records.b) (others_of feeds.S feeds.A records.a refl) (others_of feeds.S feeds.B records.b refl))
+    ∙ all_of feeds.S records.s refl
 
 -- ---- their readings
 
@@ -124,11 +125,11 @@ read_on feed all mine readings same are = record {
   each = each_on feed readings are.each;
 }
 
-are_by_feed : (a b s : List RecordContent) (readings : List Reading) → AreReadings (in_order a b s) readings → AreReadingsOf a b s (by_feed readings)
-are_by_feed a b s readings are = record {
-  a_are = read_on feeds.A (in_order a b s) (arrivals feeds.A a) readings (a_of a b s) are;
-  b_are = read_on feeds.B (in_order a b s) (arrivals feeds.B b) readings (b_of a b s) are;
-  s_are = read_on feeds.S (in_order a b s) (arrivals feeds.S s) readings (s_of a b s) are;
+are_by_feed : (records : FeedRecords) (readings : List Reading) → AreReadings (in_order records) readings → AreReadingsOf records (by_feed readings)
+are_by_feed records readings are = record {
+  a_are = read_on feeds.A (in_order records) (arrivals feeds.A records.a) readings (a_of records) are;
+  b_are = read_on feeds.B (in_order records) (arrivals feeds.B records.b) readings (b_of records) are;
+  s_are = read_on feeds.S (in_order records) (arrivals feeds.S records.s) readings (s_of records) are;
 }
 
 -- ---- their events
@@ -176,36 +177,34 @@ merges_by_feed readings = record { a = events_on feeds.A readings; b = events_on
 -- ---- the text
 
 -- what all records print in the order of their lines is what their merge prints, and what is owed under a complete feed
-prints_merge : (listed : List Instrument) (room : ℕ) (from : Start) (a b s : List RecordContent) (text : List ℕ) (next : ℕ) (lost : Bool) (all : PrintsAll listed room from (in_order a b s) text next lost) → Prints listed room from a b s (flat_map tagged_by all.readings) text next lost
-prints_merge listed room from a b s text next lost all =
+prints_merge : (channel : ListedChannel) (records : FeedRecords) (text : List ℕ) (standing : Standing) (all : PrintsAll channel (in_order records) text standing) → Prints channel records (flat_map tagged_by all.readings) text standing
+prints_merge channel records text standing all =
     let readings = all.readings in
     let same : events_of readings ≡ events_in (flat_map tagged_by readings) = sym (events_tagged readings) in
     record {
       readings = by_feed readings;
-      are = are_by_feed a b s readings all.are;
+      are = are_by_feed records readings all.are;
       merges = merges_by_feed readings;
-      next_is = all.next_is ∙ ap (λ (es : List Event). next_after listed room from es) same;
-      lost_is = all.lost_is ∙ ap (λ (es : List Event). is_lost_after listed room from es) same;
-      shown = all.shown ∙ ap (λ (es : List Event). shown_output listed room from (refusals_text (by_feed readings)) es) same;
+      standing_is = all.standing_is ∙ ap (standing_after channel) same;
+      shown = all.shown ∙ ap (λ (es : List Event). shown_output channel (refusals_text (by_feed readings)) es) same;
       owed = λ feed honest.
           let es : List Event = events_in (flat_map tagged_by readings) in
           all.shown
-          ∙ ap (λ (es : List Event). shown_output listed room from (refusals_text (by_feed readings)) es) same
-          ∙ ap (λ (t : List ℕ). t ++ end_lines listed room from (refusals_text (by_feed readings)) es) (ap text_of_moments (law_of_honest_moments listed feed room from es honest));
+          ∙ ap (λ (es : List Event). shown_output channel (refusals_text (by_feed readings)) es) same
+          ∙ ap (λ (t : List ℕ). t ++ end_lines channel (refusals_text (by_feed readings)) es) (ap text_of_moments (law_of_honest_moments channel feed es honest));
     }
 
-pub prints_by_line : (listed : List Instrument) (room : ℕ) (from : Start) (a b s : List RecordContent) (text : List ℕ) (next : ℕ) (lost : Bool) → PrintsAll listed room from (in_order a b s) text next lost → PrintsByLine listed room from a b s text next lost
-prints_by_line listed room from a b s text next lost all = (flat_map tagged_by all.readings, (all.readings, all.are, refl), prints_merge listed room from a b s text next lost all)
+pub prints_by_line : (channel : ListedChannel) (records : FeedRecords) (text : List ℕ) (standing : Standing) → PrintsAll channel (in_order records) text standing → PrintsByLine channel records text standing
+prints_by_line channel records text standing all = (flat_map tagged_by all.readings, (all.readings, all.are, refl), prints_merge channel records text standing all)
 
-pub begins_by_line : (listed : List Instrument) (room : ℕ) (from : Start) (a b s : List RecordContent) (start taken : List ℕ) → BeginsAll listed room from (in_order a b s) start taken → BeginsByLine listed room from a b s start taken
-begins_by_line listed room from a b s start taken all = (
+pub begins_by_line : (channel : ListedChannel) (records : FeedRecords) (start taken : List ℕ) → BeginsAll channel (in_order records) start taken → BeginsByLine channel records start taken
+begins_by_line channel records start taken all = (
   flat_map tagged_by all.prints.readings,
   (all.prints.readings, all.prints.are, refl),
   record {
     text = all.text;
-    next = all.next;
-    lost = all.lost;
-    prints = prints_merge listed room from a b s all.text all.next all.lost all.prints;
+    standing = all.standing;
+    prints = prints_merge channel records all.text all.standing all.prints;
     sent = all.sent;
     rest = all.rest;
     taken_is = all.taken_is;
@@ -215,14 +214,14 @@ begins_by_line listed room from a b s start taken all = (
 
 -- ---- what a run answers
 
-pub ended_by_line : (listed : List Instrument) (room : ℕ) (from : Start) (a b s : List RecordContent) (start after : List ℕ) (result : Result Summary RunFault)
-    → IfOk result (λ (summary : Summary). (text : List ℕ) × (after ≡ start ++ text) × PrintsAll listed room from (in_order a b s) text summary.next summary.lost)
-    → IfOk result (λ (summary : Summary). (text : List ℕ) × (after ≡ start ++ text) × PrintsByLine listed room from a b s text summary.next summary.lost)
-ended_by_line listed room from a b s start after (Ok summary) all = (all.0, all.1, prints_by_line listed room from a b s all.0 summary.next summary.lost all.2)
-ended_by_line listed room from a b s start after (Err fault) all = tt
+pub ended_by_line : (channel : ListedChannel) (records : FeedRecords) (start after : List ℕ) (result : Result Summary RunFault)
+    → IfOk result (λ (summary : Summary). (text : List ℕ) × (after ≡ start ++ text) × PrintsAll channel (in_order records) text (standing_in summary))
+    → IfOk result (λ (summary : Summary). (text : List ℕ) × (after ≡ start ++ text) × PrintsByLine channel records text (standing_in summary))
+ended_by_line channel records start after (Ok summary) all = (all.0, all.1, prints_by_line channel records all.0 (standing_in summary) all.2)
+ended_by_line channel records start after (Err fault) all = tt
 
-pub failed_by_line : (listed : List Instrument) (room : ℕ) (from : Start) (a b s : List RecordContent) (start after : List ℕ) (result : Result Summary RunFault)
-    → IfErr result (λ (fault : RunFault). BeginsAll listed room from (in_order a b s) start after)
-    → IfErr result (λ (fault : RunFault). BeginsByLine listed room from a b s start after)
-failed_by_line listed room from a b s start after (Ok summary) all = tt
-failed_by_line listed room from a b s start after (Err fault) all = begins_by_line listed room from a b s start after all
+pub failed_by_line : (channel : ListedChannel) (records : FeedRecords) (start after : List ℕ) (result : Result Summary RunFault)
+    → IfErr result (λ (fault : RunFault). BeginsAll channel (in_order records) start after)
+    → IfErr result (λ (fault : RunFault). BeginsByLine channel records start after)
+failed_by_line channel records start after (Ok summary) all = tt
+failed_by_line channel records start after (Err fault) all = begins_by_line channel records start after all

@@ -1,9 +1,7 @@
 -- What a run has published of the events that it took.
 use Rattle.std.proofs.Common.{◌≡◌, ℕ, List, ◌++◌, map, refl, sym, ap, ◌∙◌}
 use Rattle.std.specs.Prelude.{Option, Some, None, Result, Ok, Err, IfOk, IfErr}
-use Rattle.mdp_templates.specs.declared.instrument.Instrument.{Instrument}
-use Rattle.mdp_capture.specs.Record.{RecordContent}
-use Rattle.mdp_arbiter.specs.declared.start.Start.{Start}
+use Rattle.mdp_arbiter.specs.Channel.{ListedChannel}
 use Rattle.mdp_arbiter.specs.Accepted.{Event}
 use Rattle.mdp_lanes.specs.Boards.{Published}
 use Rattle.mdp_lanes.specs.declared.step.Step.{Step}
@@ -12,53 +10,49 @@ use Rattle.mdp_engine.proofs.Owing.{law_of_honest_moments}
 use Rattle.mdp_crew.specs.Publishing.{published_on}
 use Rattle.mdp_pipeline.specs.declared.summary.RunFault.{RunFault}
 use Rattle.mdp_pipeline.specs.declared.summary.Summary.{Summary}
-use Rattle.mdp_pipeline.specs.Output.{BeginsMerge, BeginsToPublishMerge, PrintsMerge, Publishes, PublishesMerge, moves_of}
+use Rattle.mdp_pipeline.specs.Output.{BeginsMerge, BeginsToPublishMerge, Ends, PrintsMerge, Publishes, PublishesMerge, SaysAll, SaysSome, out}
+use Rattle.mdp_arbiter.specs.Machine.{moves_of}
+use Rattle.mdp_arbiter.specs.declared.arbiter.Standing.{Standing}
+use Rattle.mdp_pipeline.specs.Merge.{FeedRecords}
 
-pub publishes : (listed : List Instrument) (room : ℕ) (from : Start) (events : List Event) → Publishes listed room from events (board_steps listed (moves_of listed room from events))
-publishes listed room from events = record { shown = refl; owed = λ feed honest. ap (map step_of_moment) (law_of_honest_moments listed feed room from events honest) }
+pub publishes : (channel : ListedChannel) (events : List Event) → Publishes channel events (board_steps channel.listed (moves_of channel events))
+publishes channel events = record { shown = refl; owed = λ feed honest. ap (map step_of_moment) (law_of_honest_moments channel feed events honest) }
 
 -- ---- what a run says of its text and of its board
 
-abbrev pub SaysAll : List Instrument → ℕ → Start → List RecordContent → List RecordContent → List RecordContent → List ℕ → List ℕ → Option Published → Option Published → Summary → Type 0
-SaysAll listed room from a b s start taken was now summary =
-    (text : List ℕ) × (steps : List Step) × (taken ≡ start ++ text) × (now ≡ published_on was steps) × PublishesMerge listed room from a b s text summary.next summary.lost steps
-
-abbrev pub SaysSome : List Instrument → ℕ → Start → List RecordContent → List RecordContent → List RecordContent → List ℕ → List ℕ → Option Published → Option Published → Type 0
-SaysSome listed room from a b s start taken was now = (steps : List Step) × (now ≡ published_on was steps) × BeginsToPublishMerge listed room from a b s start taken steps
-
-module _ (listed : List Instrument) (room : ℕ) (from : Start) (a b s : List RecordContent) (start taken : List ℕ) where
+module _ (channel : ListedChannel) (records : FeedRecords) (start taken : List ℕ) where
   -- the text alone
-  pub prints_alone : (was now : Option Published) (summary : Summary) → SaysAll listed room from a b s start taken was now summary
-      → (text : List ℕ) × (taken ≡ start ++ text) × PrintsMerge listed room from a b s text summary.next summary.lost
-  prints_alone was now summary says = (says.0, says.2, (says.4.0, says.4.1))
+  pub prints_alone : (was now : Option Published) (standing : Standing) → SaysAll channel records (out start was) (out taken now) standing
+      → (text : List ℕ) × (taken ≡ start ++ text) × PrintsMerge channel records text standing
+  prints_alone was now standing says = (says.0, says.2, (says.4.0, says.4.1))
 
-  pub begins_alone : (was now : Option Published) → SaysSome listed room from a b s start taken was now → BeginsMerge listed room from a b s start taken
+  pub begins_alone : (was now : Option Published) → SaysSome channel records (out start was) (out taken now) → BeginsMerge channel records start taken
   begins_alone was now says = (says.2.0, says.2.1)
 
   -- a board that was there is there
   same_board : (p q : Published) (now : Option Published) (steps : List Step) → now ≡ Some q → now ≡ published_on (Some p) steps → q ≡ record p { steps = p.steps ++ steps }
   same_board p q now steps some is = let same : Some q ≡ Some (record p { steps = p.steps ++ steps }) = sym some ∙ is in cc
 
-  pub prints_on_board : (p q : Published) (now : Option Published) (summary : Summary) → now ≡ Some q → SaysAll listed room from a b s start taken (Some p) now summary
-      → (text : List ℕ) × (steps : List Step) × (taken ≡ start ++ text) × (q ≡ record p { steps = p.steps ++ steps }) × PublishesMerge listed room from a b s text summary.next summary.lost steps
-  prints_on_board p q now summary some says = (says.0, says.1, says.2, same_board p q now says.1 some says.3, says.4)
+  pub prints_on_board : (p q : Published) (now : Option Published) (standing : Standing) → now ≡ Some q → SaysAll channel records (out start (Some p)) (out taken now) standing
+      → (text : List ℕ) × (steps : List Step) × (taken ≡ start ++ text) × (q ≡ record p { steps = p.steps ++ steps }) × PublishesMerge channel records text standing steps
+  prints_on_board p q now standing some says = (says.0, says.1, says.2, same_board p q now says.1 some says.3, says.4)
 
-  pub begins_on_board : (p q : Published) (now : Option Published) → now ≡ Some q → SaysSome listed room from a b s start taken (Some p) now
-      → (steps : List Step) × (q ≡ record p { steps = p.steps ++ steps }) × BeginsToPublishMerge listed room from a b s start taken steps
+  pub begins_on_board : (p q : Published) (now : Option Published) → now ≡ Some q → SaysSome channel records (out start (Some p)) (out taken now)
+      → (steps : List Step) × (q ≡ record p { steps = p.steps ++ steps }) × BeginsToPublishMerge channel records start taken steps
   begins_on_board p q now some says = (says.0, same_board p q now says.0 some says.1, says.2)
 
-  pub board_stays : (p q : Published) (now : Option Published) (outcome : Result Summary RunFault) → now ≡ Some q → IfOk outcome (SaysAll listed room from a b s start taken (Some p) now)
-      → IfErr outcome (λ (fault : RunFault). SaysSome listed room from a b s start taken (Some p) now) → q.board ≡ p.board
-  board_stays p q now (Ok summary) some all begun = ap (λ (r : Published). r.board) (same_board p q now all.1 some all.3)
-  board_stays p q now (Err fault) some all begun = ap (λ (r : Published). r.board) (same_board p q now begun.0 some begun.1)
+  pub board_stays : (p q : Published) (now : Option Published) (outcome : Result Summary RunFault) → now ≡ Some q
+      → Ends channel records (out start (Some p)) (out taken now) outcome → q.board ≡ p.board
+  board_stays p q now (Ok summary) some ends = ap (λ (r : Published). r.board) (same_board p q now ends.text.1 some ends.text.3)
+  board_stays p q now (Err fault) some ends = ap (λ (r : Published). r.board) (same_board p q now ends.begins.0 some ends.begins.1)
 
-  pub board_is_there : (p : Published) (now : Option Published) (outcome : Result Summary RunFault) → now ≡ None → IfOk outcome (SaysAll listed room from a b s start taken (Some p) now)
-      → IfErr outcome (λ (fault : RunFault). SaysSome listed room from a b s start taken (Some p) now) → ⊥
-  board_is_there p now (Ok summary) none all begun = let same : None ≡ published_on (Some p) all.1 = sym none ∙ all.3 in cc
-  board_is_there p now (Err fault) none all begun = let same : None ≡ published_on (Some p) begun.0 = sym none ∙ begun.1 in cc
+  pub board_is_there : (p : Published) (now : Option Published) (outcome : Result Summary RunFault) → now ≡ None
+      → Ends channel records (out start (Some p)) (out taken now) outcome → ⊥
+  board_is_there p now (Ok summary) none ends = let same : None ≡ published_on (Some p) ends.text.1 = sym none ∙ ends.text.3 in cc
+  board_is_there p now (Err fault) none ends = let same : None ≡ published_on (Some p) ends.begins.0 = sym none ∙ ends.begins.1 in cc
 
   -- and where there was none there is none
-  pub no_board : (q : Published) (now : Option Published) (outcome : Result Summary RunFault) → now ≡ Some q → IfOk outcome (SaysAll listed room from a b s start taken None now)
-      → IfErr outcome (λ (fault : RunFault). SaysSome listed room from a b s start taken None now) → ⊥
-  no_board q now (Ok summary) some all begun = let same : Some q ≡ published_on None all.1 = sym some ∙ all.3 in cc
-  no_board q now (Err fault) some all begun = let same : Some q ≡ published_on None begun.0 = sym some ∙ begun.1 in cc
+  pub no_board : (q : Published) (now : Option Published) (outcome : Result Summary RunFault) → now ≡ Some q
+      → Ends channel records (out start None) (out taken now) outcome → ⊥
+  no_board q now (Ok summary) some ends = let same : Some q ≡ published_on None ends.text.1 = sym some ∙ ends.text.3 in cc
+  no_board q now (Err fault) some ends = let same : Some q ≡ published_on None ends.begins.0 = sym some ∙ ends.begins.1 in cc

@@ -7,11 +7,10 @@ use Rattle.std.proofs.lemmas.List.{append-nil, map-append, take_more}
 use Rattle.std.proofs.lemmas.List.Elements.{filter-append}
 use Rattle.std.proofs.lemmas.List.Concat.{flat_map-append}
 use Rattle.mdp_templates.specs.Snapshot.{SnapshotContent}
-use Rattle.mdp_templates.specs.declared.instrument.Instrument.{Instrument}
 use Rattle.mdp_templates.specs.declared.feed.Feed.{Feed}
 use Rattle.mdp_templates.specs.declared.feed.Feed.TheVariants as feeds
 use Rattle.mdp_capture.specs.Record.{RecordContent}
-use Rattle.mdp_arbiter.specs.declared.start.Start.{Start}
+use Rattle.mdp_arbiter.specs.Channel.{ListedChannel}
 use Rattle.mdp_arbiter.specs.Accepted.{Event, recovered}
 use Rattle.mdp_engine.specs.Engine.{View, Stands}
 use Rattle.mdp_pipeline.specs.declared.progress.Run.{Run}
@@ -19,12 +18,13 @@ use Rattle.mdp_pipeline.specs.declared.summary.Summary.{Summary}
 use Rattle.mdp_pipeline.specs.declared.summary.RunFault.{RunFault}
 use Rattle.mdp_crew.specs.Counted.{HasCounted, saturating_count}
 use Rattle.mdp_pipeline.specs.Counted.{written_before}
-use Rattle.mdp_pipeline.specs.Merge.{Arrival, in_order}
+use Rattle.mdp_pipeline.specs.Merge.{Arrival, FeedRecords, in_order}
 use Rattle.mdp_pipeline.specs.Reading.{Reading, Said, brings, refused, IsReading, AreReadings, brought_by, events_of, is_on, kind_of, readings_on, refusal_lines, refusal_text}
 use Rattle.mdp_pipeline.specs.RefusalTexts.{RefusalTexts}
 use Rattle.mdp_pipeline.specs.Running.{BeginsAll, EndsAs, EndsEarly, GoesOn, HasRun, HasShown, PrintsAll, TakesAs, Writes, after_said, joined_texts, refusals_of}
 use Rattle.mdp_pipeline.proofs.Ending.{begins_all, prints_all, writes_shown}
 use Rattle.mdp_pipeline.proofs.Going.{goes_more}
+use Rattle.mdp_pipeline.specs.Output.{standing_in}
 
 -- ---- a reading more
 
@@ -82,70 +82,70 @@ refusals-push readings feeds.S entry (refused refusal) =
     same_texts _ _ _ _ _ _ (lines-push feeds.A readings r ∙ append-nil (refusal_lines (readings_on feeds.A readings))) (lines-push feeds.B readings r ∙ append-nil (refusal_lines (readings_on feeds.B readings))) (lines-push feeds.S readings r)
 
 -- a record more
-read_more : {A : Type 0} (listed : List Instrument) (room : ℕ) (from : Start) (readings : List Reading) (feed : Feed) (entry : RecordContent) (sent : List ℕ) (old new : Run A)
-    → (takes : TakesAs (kind_of feed) feed entry.line entry.received old new) → HasRun listed room from readings sent old.engine old.refusals
-    → HasRun listed room from (readings ++ reading_of (record { feed = feed; entry = entry }) takes.said ∷ []) sent new.engine new.refusals
-read_more listed room from readings feed entry sent old new takes run =
+read_more : {A : Type 0} (channel : ListedChannel) (readings : List Reading) (feed : Feed) (entry : RecordContent) (sent : List ℕ) (old new : Run A)
+    → (takes : TakesAs (kind_of feed) feed entry.line entry.received old new) → HasRun channel readings sent old.engine old.refusals
+    → HasRun channel (readings ++ reading_of (record { feed = feed; entry = entry }) takes.said ∷ []) sent new.engine new.refusals
+read_more channel readings feed entry sent old new takes run =
     let reading = reading_of (record { feed = feed; entry = entry }) takes.said in
     record {
-      stands = subst (λ (es : List Event). Stands listed es sent new.engine) (sym (events-push readings reading)) (takes.takes.goes.stands listed (events_of readings) sent run.stands);
-      channel = takes.takes.goes.channel ∙ run.channel;
+      stands = subst (λ (es : List Event). Stands channel.listed es sent new.engine) (sym (events-push readings reading)) (takes.takes.goes.stands channel.listed (events_of readings) sent run.stands);
+      channel_is = takes.takes.goes.channel ∙ run.channel_is;
       refusals_are = takes.takes.refusals ∙ ap (after_said feed entry.line takes.said) run.refusals_are ∙ sym (refusals-push readings feed entry takes.said);
     }
 
 -- ---- what went out
 
-pub writes_none : (listed : List Instrument) (room : ℕ) (from : Start) (taken : List ℕ) (engine : View) (refusals : RefusalTexts) → HasRun listed room from [] [] engine refusals → Writes listed room from [] taken taken engine refusals
-writes_none listed room from taken engine refusals run = record {
+pub writes_none : (channel : ListedChannel) (taken : List ℕ) (engine : View) (refusals : RefusalTexts) → HasRun channel [] [] engine refusals → Writes channel [] taken taken engine refusals
+writes_none channel taken engine refusals run = record {
   sent = [];
   taken_is = sym (append-nil taken);
   over = record { readings = []; are = record { of = refl; each = tt }; run = run };
 }
 
-pub writes_more : {A : Type 0} (listed : List Instrument) (room : ℕ) (from : Start) (arrivals : List Arrival) (feed : Feed) (entry : RecordContent) (start taken : List ℕ) (old new : Run A)
-    → TakesAs (kind_of feed) feed entry.line entry.received old new → Writes listed room from arrivals start taken old.engine old.refusals
-    → Writes listed room from (arrivals ++ (record { feed = feed; entry = entry }) ∷ []) start taken new.engine new.refusals
-writes_more listed room from arrivals feed entry start taken old new takes so_far = record {
+pub writes_more : {A : Type 0} (channel : ListedChannel) (arrivals : List Arrival) (feed : Feed) (entry : RecordContent) (start taken : List ℕ) (old new : Run A)
+    → TakesAs (kind_of feed) feed entry.line entry.received old new → Writes channel arrivals start taken old.engine old.refusals
+    → Writes channel (arrivals ++ (record { feed = feed; entry = entry }) ∷ []) start taken new.engine new.refusals
+writes_more channel arrivals feed entry start taken old new takes so_far = record {
   sent = so_far.sent;
   taken_is = so_far.taken_is;
   over = record {
     readings = so_far.over.readings ++ reading_of (record { feed = feed; entry = entry }) takes.said ∷ [];
     are = readings-push arrivals so_far.over.readings (reading_of (record { feed = feed; entry = entry }) takes.said) so_far.over.are takes.says;
-    run = read_more listed room from so_far.over.readings feed entry so_far.sent old new takes so_far.over.run;
+    run = read_more channel so_far.over.readings feed entry so_far.sent old new takes so_far.over.run;
   };
 }
 
 -- ---- the records that are left
 
 -- the records so far, in the order of their lines, and what was written of them
-pub record HasTaken (listed : List Instrument) (room : ℕ) (from : Start) (a b s : List RecordContent) (start taken : List ℕ) (engine : View) (refusals : RefusalTexts) (a' b' s' : List RecordContent) : Type 0 where
+pub record HasTaken (channel : ListedChannel) (records : FeedRecords) (start taken : List ℕ) (engine : View) (refusals : RefusalTexts) (ahead : FeedRecords) : Type 0 where
   pub done : List Arrival
-  pub left : in_order a b s ≡ done ++ in_order a' b' s'
-  pub writes : Writes listed room from done start taken engine refusals
+  pub left : in_order records ≡ done ++ in_order ahead
+  pub writes : Writes channel done start taken engine refusals
 
-pub taken_none : (listed : List Instrument) (room : ℕ) (from : Start) (a b s : List RecordContent) (taken : List ℕ) (engine : View) (refusals : RefusalTexts) → HasRun listed room from [] [] engine refusals
-    → HasTaken listed room from a b s taken taken engine refusals a b s
-taken_none listed room from a b s taken engine refusals run = record { done = []; left = refl; writes = writes_none listed room from taken engine refusals run }
+pub taken_none : (channel : ListedChannel) (records : FeedRecords) (taken : List ℕ) (engine : View) (refusals : RefusalTexts) → HasRun channel [] [] engine refusals
+    → HasTaken channel records taken taken engine refusals records
+taken_none channel records taken engine refusals run = record { done = []; left = refl; writes = writes_none channel taken engine refusals run }
 
-pub taken_more : {A : Type 0} (listed : List Instrument) (room : ℕ) (from : Start) (a b s : List RecordContent) (start taken taken' : List ℕ) (old new sent : Run A) (a' b' s' a'' b'' s'' : List RecordContent) (feed : Feed) (entry : RecordContent)
-    → in_order a' b' s' ≡ (record { feed = feed; entry = entry }) ∷ in_order a'' b'' s''
+pub taken_more : {A : Type 0} (channel : ListedChannel) (records : FeedRecords) (start taken taken' : List ℕ) (old new sent : Run A) (ahead ahead' : FeedRecords) (feed : Feed) (entry : RecordContent)
+    → in_order ahead ≡ (record { feed = feed; entry = entry }) ∷ in_order ahead'
     → TakesAs (kind_of feed) feed entry.line entry.received old new
-    → ((arrivals : List Arrival) → Writes listed room from arrivals start taken new.engine new.refusals → Writes listed room from arrivals start taken' sent.engine sent.refusals)
-    → HasTaken listed room from a b s start taken old.engine old.refusals a' b' s'
-    → HasTaken listed room from a b s start taken' sent.engine sent.refusals a'' b'' s''
-taken_more listed room from a b s start taken taken' old new sent a' b' s' a'' b'' s'' feed entry next takes goes_out so_far =
+    → ((arrivals : List Arrival) → Writes channel arrivals start taken new.engine new.refusals → Writes channel arrivals start taken' sent.engine sent.refusals)
+    → HasTaken channel records start taken old.engine old.refusals ahead
+    → HasTaken channel records start taken' sent.engine sent.refusals ahead'
+taken_more channel records start taken taken' old new sent ahead ahead' feed entry next takes goes_out so_far =
     let arrival : Arrival = record { feed = feed; entry = entry } in
     record {
       done = so_far.done ++ arrival ∷ [];
-      left = so_far.left ∙ ap (λ (t : List Arrival). so_far.done ++ t) next ∙ sym (append_assoc so_far.done (arrival ∷ []) (in_order a'' b'' s''));
-      writes = goes_out (so_far.done ++ arrival ∷ []) (writes_more listed room from so_far.done feed entry start taken old new takes so_far.writes);
+      left = so_far.left ∙ ap (λ (t : List Arrival). so_far.done ++ t) next ∙ sym (append_assoc so_far.done (arrival ∷ []) (in_order ahead'));
+      writes = goes_out (so_far.done ++ arrival ∷ []) (writes_more channel so_far.done feed entry start taken old new takes so_far.writes);
     }
 
-pub taken_all : (listed : List Instrument) (room : ℕ) (from : Start) (a b s : List RecordContent) (start taken : List ℕ) (engine : View) (refusals : RefusalTexts) (a' b' s' : List RecordContent) → in_order a' b' s' ≡ []
-    → HasTaken listed room from a b s start taken engine refusals a' b' s' → Writes listed room from (in_order a b s) start taken engine refusals
-taken_all listed room from a b s start taken engine refusals a' b' s' none so_far =
-    let all : in_order a b s ≡ so_far.done = so_far.left ∙ ap (λ (t : List Arrival). so_far.done ++ t) none ∙ append-nil so_far.done in
-    subst (λ (arrivals : List Arrival). Writes listed room from arrivals start taken engine refusals) (sym all) so_far.writes
+pub taken_all : (channel : ListedChannel) (records : FeedRecords) (start taken : List ℕ) (engine : View) (refusals : RefusalTexts) (ahead : FeedRecords) → in_order ahead ≡ []
+    → HasTaken channel records start taken engine refusals ahead → Writes channel (in_order records) start taken engine refusals
+taken_all channel records start taken engine refusals ahead none so_far =
+    let all : in_order records ≡ so_far.done = so_far.left ∙ ap (λ (t : List Arrival). so_far.done ++ t) none ∙ append-nil so_far.done in
+    subst (λ (arrivals : List Arrival). Writes channel arrivals start taken engine refusals) (sym all) so_far.writes
 
 -- ---- how much went out
 
@@ -167,25 +167,25 @@ fault_counted start taken after written (Ok summary) told so_far = tt
 fault_counted start taken after written (Err fault) told so_far = told start so_far
 
 -- a run over all records has ended
-pub run_printed : (listed : List Instrument) (room : ℕ) (from : Start) (arrivals : List Arrival) (start taken after : List ℕ) (engine : View) (refusals : RefusalTexts) (result : Result Summary RunFault)
-    → IfOk result (λ (summary : Summary). (listed : List Instrument) (room : ℕ) (from : Start) (events : List Event) (start : List ℕ) → HasShown listed room from events start taken engine
-    → EndsAs listed room from events (joined_texts refusals) start after summary.next summary.lost)
-    → Writes listed room from arrivals start taken engine refusals
-    → IfOk result (λ (summary : Summary). (text : List ℕ) × (after ≡ start ++ text) × PrintsAll listed room from arrivals text summary.next summary.lost)
-run_printed listed room from arrivals start taken after engine refusals (Ok summary) ends so_far =
-    prints_all listed room from arrivals start taken after engine refusals summary.next summary.lost so_far
-    (ends listed room from (events_of so_far.over.readings) start (writes_shown listed room from arrivals start taken engine refusals so_far))
-run_printed listed room from arrivals start taken after engine refusals (Err fault) ends so_far = tt
+pub run_printed : (channel : ListedChannel) (arrivals : List Arrival) (start taken after : List ℕ) (engine : View) (refusals : RefusalTexts) (result : Result Summary RunFault)
+    → IfOk result (λ (summary : Summary). (channel : ListedChannel) (events : List Event) (start : List ℕ) → HasShown channel events start taken engine
+    → EndsAs channel events (joined_texts refusals) start after (standing_in summary))
+    → Writes channel arrivals start taken engine refusals
+    → IfOk result (λ (summary : Summary). (text : List ℕ) × (after ≡ start ++ text) × PrintsAll channel arrivals text (standing_in summary))
+run_printed channel arrivals start taken after engine refusals (Ok summary) ends so_far =
+    prints_all channel arrivals start taken after engine refusals (standing_in summary) so_far
+    (ends channel (events_of so_far.over.readings) start (writes_shown channel arrivals start taken engine refusals so_far))
+run_printed channel arrivals start taken after engine refusals (Err fault) ends so_far = tt
 
-pub run_begins : (listed : List Instrument) (room : ℕ) (from : Start) (arrivals : List Arrival) (start taken after : List ℕ) (engine : View) (refusals : RefusalTexts) (result : Result Summary RunFault)
-    → IfErr result (λ (fault : RunFault). (listed : List Instrument) (room : ℕ) (from : Start) (events : List Event) (start : List ℕ) → HasShown listed room from events start taken engine
-    → EndsEarly listed room from events (joined_texts refusals) start after)
-    → Writes listed room from arrivals start taken engine refusals
-    → IfErr result (λ (fault : RunFault). BeginsAll listed room from arrivals start after)
-run_begins listed room from arrivals start taken after engine refusals (Ok summary) ends so_far = tt
-run_begins listed room from arrivals start taken after engine refusals (Err fault) ends so_far =
-    begins_all listed room from arrivals start taken after engine refusals so_far
-    (ends listed room from (events_of so_far.over.readings) start (writes_shown listed room from arrivals start taken engine refusals so_far))
+pub run_begins : (channel : ListedChannel) (arrivals : List Arrival) (start taken after : List ℕ) (engine : View) (refusals : RefusalTexts) (result : Result Summary RunFault)
+    → IfErr result (λ (fault : RunFault). (channel : ListedChannel) (events : List Event) (start : List ℕ) → HasShown channel events start taken engine
+    → EndsEarly channel events (joined_texts refusals) start after)
+    → Writes channel arrivals start taken engine refusals
+    → IfErr result (λ (fault : RunFault). BeginsAll channel arrivals start after)
+run_begins channel arrivals start taken after engine refusals (Ok summary) ends so_far = tt
+run_begins channel arrivals start taken after engine refusals (Err fault) ends so_far =
+    begins_all channel arrivals start taken after engine refusals so_far
+    (ends channel (events_of so_far.over.readings) start (writes_shown channel arrivals start taken engine refusals so_far))
 
 -- ---- snapshots
 

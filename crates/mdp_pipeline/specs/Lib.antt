@@ -2,11 +2,11 @@ pub mod Merge
 pub mod Reading
 pub mod Merging
 pub mod Decoding
+pub mod Counted
 pub mod Output
 pub mod RefusalTexts
 pub mod Running
 pub mod Faults
-pub mod Counted
 pub mod Readers
 pub mod Taken
 pub mod Copies

@@ -1,8 +1,22 @@
 -- The records of the three feeds in the order of the capture's lines.
 use Rattle.std.specs.Prelude.{ℕ, Bool, true, false, nat_le, if◌then◌else◌, List, [], ◌∷◌, map, Option, Some, None}
+use Rattle.mdp_capture.specs.Capture.{CaptureContent}
 use Rattle.mdp_capture.specs.Record.{RecordContent}
 use Rattle.mdp_templates.specs.declared.feed.Feed.{Feed}
 use Rattle.mdp_templates.specs.declared.feed.Feed.TheVariants as feeds
+use Rattle.mdp_pipeline.specs.declared.feeds.Feeds.{Feeds}
+
+-- the records of the feeds A, B and S, each list in the order of the capture's lines
+pub record FeedRecords : Type 0 where
+  pub a : List RecordContent
+  pub b : List RecordContent
+  pub s : List RecordContent
+
+abbrev pub records_of : CaptureContent → FeedRecords
+records_of capture = record { a = capture.a; b = capture.b; s = capture.s }
+
+abbrev pub records_in : {A : Type 0} → Feeds A → FeedRecords
+records_in lent = record { a = lent.a.now; b = lent.b.now; s = lent.s.now }
 
 -- a record, and the feed that it came on
 pub record Arrival : Type 0 where
@@ -19,8 +33,8 @@ by_line (x ∷ xs) [] = x ∷ xs
 by_line (x ∷ xs) (y ∷ ys) = if nat_le x.entry.line y.entry.line then x ∷ by_line xs (y ∷ ys) else y ∷ by_line (x ∷ xs) ys
 
 -- of equal lines feed A's record, then B's, then S's
-abbrev pub in_order : List RecordContent → List RecordContent → List RecordContent → List Arrival
-in_order a b s = by_line (by_line (arrivals feeds.A a) (arrivals feeds.B b)) (arrivals feeds.S s)
+abbrev pub in_order : FeedRecords → List Arrival
+in_order records = by_line (by_line (arrivals feeds.A records.a) (arrivals feeds.B records.b)) (arrivals feeds.S records.s)
 
 -- ---- which list goes first
 
@@ -34,5 +48,8 @@ is_first (Some line) None = true
 is_first (Some line) (Some other) = nat_le line other
 
 -- the feed whose first record is the next, S where there is none
-abbrev pub first_feed : Option ℕ → Option ℕ → Option ℕ → Feed
-first_feed a b s = if is_first a b then (if is_first a s then feeds.A else feeds.S) else (if is_first b s then feeds.B else feeds.S)
+abbrev pub first_of_lines : Option ℕ → Option ℕ → Option ℕ → Feed
+first_of_lines a b s = if is_first a b then (if is_first a s then feeds.A else feeds.S) else (if is_first b s then feeds.B else feeds.S)
+
+abbrev pub first_feed : FeedRecords → Feed
+first_feed records = first_of_lines (head_line records.a) (head_line records.b) (head_line records.s)

@@ -4,9 +4,8 @@ use Rattle.std.specs.List.{filter, flat_map}
 use Rattle.mdp_templates.specs.declared.feed.Feed.{Feed}
 use Rattle.mdp_templates.specs.declared.feed.Feed.TheVariants as feeds
 use Rattle.mdp_templates.specs.Feed.{feed_letter}
-use Rattle.mdp_capture.specs.Record.{RecordContent}
 use Rattle.mdp_arbiter.specs.Accepted.{Event}
-use Rattle.mdp_pipeline.specs.Merge.{in_order}
+use Rattle.mdp_pipeline.specs.Merge.{FeedRecords, in_order}
 use Rattle.mdp_pipeline.specs.Reading.{Reading, Readings, AreReadings, brought_by, events_of}
 
 -- an event, and the feed that brought it
@@ -37,5 +36,5 @@ abbrev pub tagged_by : Reading → List Tagged
 tagged_by r = map (λ (e : Event). record { feed = r.arrival.feed; event = e }) (brought_by r.said)
 
 -- Record by record in the order of the capture's lines; of equal lines feed A's goes before B's, and B's before S's.
-abbrev pub IsByLine : List RecordContent → List RecordContent → List RecordContent → List Tagged → Type 0
-IsByLine a b s merge = (readings : List Reading) × AreReadings (in_order a b s) readings × (merge ≡ flat_map tagged_by readings)
+abbrev pub IsByLine : FeedRecords → List Tagged → Type 0
+IsByLine records merge = (readings : List Reading) × AreReadings (in_order records) readings × (merge ≡ flat_map tagged_by readings)

@@ -1,124 +1,148 @@
 -- What a run over the records of a channel's feeds prints and publishes, and what a complete feed that agrees with them has to do with it.
-use Rattle.std.specs.Prelude.{◌≡◌, ℕ, List, ◌++◌, Bool}
+use Rattle.std.specs.Prelude.{◌≡◌, ℕ, List, ◌++◌, Option, Result, IfOk, IfErr}
 use Rattle.mdp_templates.specs.Packet.{PacketContent}
-use Rattle.mdp_templates.specs.declared.instrument.Instrument.{Instrument}
 use Rattle.mdp_print.specs.Texts.{last_line}
-use Rattle.mdp_capture.specs.Record.{RecordContent}
-use Rattle.mdp_arbiter.specs.declared.start.Start.{Start}
 use Rattle.mdp_arbiter.specs.Accepted.{Event}
-use Rattle.mdp_arbiter.specs.Machine.{Move, is_lost, state_at, trace}
-use Rattle.mdp_arbiter.specs.Channel.{channel_of}
+use Rattle.mdp_arbiter.specs.Machine.{moves_of, standing_after}
+use Rattle.mdp_arbiter.specs.declared.arbiter.Standing.{Standing}
+use Rattle.mdp_arbiter.specs.Channel.{ListedChannel}
 use Rattle.mdp_desks.specs.Moments.{Moment, moments, shown_lines}
 use Rattle.mdp_engine.specs.Honest.{IsHonest}
 use Rattle.mdp_engine.specs.Owed.{lines, owed_moments, steps_of}
+use Rattle.mdp_lanes.specs.Boards.{Published}
 use Rattle.mdp_lanes.specs.declared.step.Step.{Step}
 use Rattle.mdp_reports.specs.Behind.{IsBehind}
 use Rattle.mdp_reports.specs.BoardSteps.{board_steps, owed_board_steps}
+use Rattle.mdp_crew.specs.Arbitrating.{IsNextNumber}
+use Rattle.mdp_crew.specs.Counted.{HasCounted}
+use Rattle.mdp_crew.specs.Publishing.{published_on}
+use Rattle.mdp_pipeline.specs.declared.summary.RunFault.{RunFault}
+use Rattle.mdp_pipeline.specs.declared.summary.Summary.{Summary}
+use Rattle.mdp_pipeline.specs.Counted.{written_before}
+use Rattle.mdp_pipeline.specs.Merge.{FeedRecords}
 use Rattle.mdp_pipeline.specs.Reading.{Readings, AreReadingsOf, refusals_text}
 use Rattle.mdp_pipeline.specs.Merging.{Tagged, IsMerge, IsByLine, events_in}
 
 -- ---- the text for these events
 
--- The moves of the recovery machine, the number of the packet that comes next, and whether the receiver is lost then.
-abbrev pub moves_of : List Instrument → ℕ → Start → List Event → List Move
-moves_of listed room from events = trace (channel_of listed room from) events
+-- where a run came to, of what it sums up
+abbrev pub standing_in : Summary → Standing
+standing_in summary = record { next = summary.next; lost = summary.lost }
 
-abbrev pub next_after : List Instrument → ℕ → Start → List Event → ℕ
-next_after listed room from events = (state_at (channel_of listed room from) events).next
+-- what stands after the moves' lines: those of the refused datagrams, and the last line
+abbrev pub end_text : List ℕ → Standing → List ℕ
+end_text refusals standing = refusals ++ last_line standing.next standing.lost
 
-abbrev pub is_lost_after : List Instrument → ℕ → Start → List Event → Bool
-is_lost_after listed room from events = is_lost (channel_of listed room from) events (state_at (channel_of listed room from) events)
-
--- what stands behind the moves' lines: those of the refused datagrams, and the last line
-abbrev pub end_lines : List Instrument → ℕ → Start → List ℕ → List Event → List ℕ
-end_lines listed room from refusals events =
-    refusals ++ last_line (next_after listed room from events) (is_lost_after listed room from events)
+abbrev pub end_lines : ListedChannel → List ℕ → List Event → List ℕ
+end_lines channel refusals events = end_text refusals (standing_after channel events)
 
 -- the text that the moves themselves show, whatever came
-abbrev pub shown_output : List Instrument → ℕ → Start → List ℕ → List Event → List ℕ
-shown_output listed room from refusals events =
-    shown_lines listed (moves_of listed room from events) ++ end_lines listed room from refusals events
+abbrev pub shown_output : ListedChannel → List ℕ → List Event → List ℕ
+shown_output channel refusals events =
+    shown_lines channel.listed (moves_of channel events) ++ end_lines channel refusals events
 
 -- the text that a complete feed defines: the lines that it owes for the moves
-abbrev pub output : List Instrument → List PacketContent → ℕ → Start → List ℕ → List Event → List ℕ
-output listed feed room from refusals events =
-    lines listed feed (steps_of (moves_of listed room from events)) ++ end_lines listed room from refusals events
+abbrev pub output : ListedChannel → List PacketContent → List ℕ → List Event → List ℕ
+output channel feed refusals events =
+    lines channel.listed feed (steps_of (moves_of channel events)) ++ end_lines channel refusals events
 
 -- ---- a run
 
 -- What a run over these records prints, where this is the merge of what they brought: the text that the merge's moves show. It
 -- is the text of every complete feed that agrees with the merge.
-pub record Prints (listed : List Instrument) (room : ℕ) (from : Start) (a b s : List RecordContent) (merge : List Tagged) (text : List ℕ)
-    (next : ℕ) (lost : Bool) : Type 0 where
+pub record Prints (channel : ListedChannel) (records : FeedRecords) (merge : List Tagged) (text : List ℕ)
+    (standing : Standing) : Type 0 where
   pub readings : Readings
-  pub are : AreReadingsOf a b s readings
+  pub are : AreReadingsOf records readings
   pub merges : IsMerge readings merge
-  pub next_is : next ≡ next_after listed room from (events_in merge)
-  pub lost_is : lost ≡ is_lost_after listed room from (events_in merge)
-  pub shown : text ≡ shown_output listed room from (refusals_text readings) (events_in merge)
-  pub owed : (feed : List PacketContent) → IsHonest listed feed (events_in merge)
-      → text ≡ output listed feed room from (refusals_text readings) (events_in merge)
+  pub standing_is : standing ≡ standing_after channel (events_in merge)
+  pub shown : text ≡ shown_output channel (refusals_text readings) (events_in merge)
+  pub owed : (feed : List PacketContent) → IsHonest channel.listed feed (events_in merge)
+      → text ≡ output channel feed (refusals_text readings) (events_in merge)
 
 -- What went out of a run that ended early is a beginning of the text that the whole run prints.
-pub record Begins (listed : List Instrument) (room : ℕ) (from : Start) (a b s : List RecordContent) (merge : List Tagged)
+pub record Begins (channel : ListedChannel) (records : FeedRecords) (merge : List Tagged)
     (start taken : List ℕ) : Type 0 where
   pub text : List ℕ
-  pub next : ℕ
-  pub lost : Bool
-  pub prints : Prints listed room from a b s merge text next lost
+  pub standing : Standing
+  pub prints : Prints channel records merge text standing
   pub sent : List ℕ
   pub rest : List ℕ
   pub taken_is : taken ≡ start ++ sent
   pub whole : text ≡ sent ++ rest
 
 -- the same of some merge
-abbrev pub PrintsMerge : List Instrument → ℕ → Start → List RecordContent → List RecordContent → List RecordContent → List ℕ → ℕ → Bool
-    → Type 0
-PrintsMerge listed room from a b s text next lost = (merge : List Tagged) × Prints listed room from a b s merge text next lost
+abbrev pub PrintsMerge : ListedChannel → FeedRecords → List ℕ → Standing → Type 0
+PrintsMerge channel records text standing = (merge : List Tagged) × Prints channel records merge text standing
 
-abbrev pub BeginsMerge : List Instrument → ℕ → Start → List RecordContent → List RecordContent → List RecordContent → List ℕ → List ℕ
-    → Type 0
-BeginsMerge listed room from a b s start taken = (merge : List Tagged) × Begins listed room from a b s merge start taken
+abbrev pub BeginsMerge : ListedChannel → FeedRecords → List ℕ → List ℕ → Type 0
+BeginsMerge channel records start taken = (merge : List Tagged) × Begins channel records merge start taken
 
 -- the same of the one merge that follows the capture's lines
-abbrev pub PrintsByLine : List Instrument → ℕ → Start → List RecordContent → List RecordContent → List RecordContent → List ℕ → ℕ → Bool
-    → Type 0
-PrintsByLine listed room from a b s text next lost =
-    (merge : List Tagged) × IsByLine a b s merge × Prints listed room from a b s merge text next lost
+abbrev pub PrintsByLine : ListedChannel → FeedRecords → List ℕ → Standing → Type 0
+PrintsByLine channel records text standing =
+    (merge : List Tagged) × IsByLine records merge × Prints channel records merge text standing
 
-abbrev pub BeginsByLine : List Instrument → ℕ → Start → List RecordContent → List RecordContent → List RecordContent → List ℕ → List ℕ
-    → Type 0
-BeginsByLine listed room from a b s start taken =
-    (merge : List Tagged) × IsByLine a b s merge × Begins listed room from a b s merge start taken
+abbrev pub BeginsByLine : ListedChannel → FeedRecords → List ℕ → List ℕ → Type 0
+BeginsByLine channel records start taken =
+    (merge : List Tagged) × IsByLine records merge × Begins channel records merge start taken
 
 -- ---- a run that publishes on a board
 
 -- The steps for these events: those that the moves themselves show. They are those of every complete feed that agrees with the events.
-pub record Publishes (listed : List Instrument) (room : ℕ) (from : Start) (events : List Event) (steps : List Step) : Type 0 where
-  pub shown : steps ≡ board_steps listed (moves_of listed room from events)
-  pub owed : (feed : List PacketContent) → IsHonest listed feed events
-      → steps ≡ owed_board_steps listed feed (steps_of (moves_of listed room from events))
+pub record Publishes (channel : ListedChannel) (events : List Event) (steps : List Step) : Type 0 where
+  pub shown : steps ≡ board_steps channel.listed (moves_of channel events)
+  pub owed : (feed : List PacketContent) → IsHonest channel.listed feed events
+      → steps ≡ owed_board_steps channel.listed feed (steps_of (moves_of channel events))
 
 -- What went out before an early end, as text and on the board: both are read off one list of moments, those that the moves show. They are
 -- those of every complete feed that agrees with the events.
-pub record BeginsToPublish (listed : List Instrument) (room : ℕ) (from : Start) (events : List Event) (end sent : List ℕ)
+pub record BeginsToPublish (channel : ListedChannel) (events : List Event) (end sent : List ℕ)
     (steps : List Step) : Type 0 where
   pub shown : List Moment
-  pub shown_is : shown ≡ moments listed (moves_of listed room from events)
-  pub owed : (feed : List PacketContent) → IsHonest listed feed events
-      → shown ≡ owed_moments listed feed (steps_of (moves_of listed room from events))
+  pub shown_is : shown ≡ moments channel.listed (moves_of channel events)
+  pub owed : (feed : List PacketContent) → IsHonest channel.listed feed events
+      → shown ≡ owed_moments channel.listed feed (steps_of (moves_of channel events))
   pub behind : IsBehind shown end sent steps
 
 -- the text and the steps are those of one merge
-abbrev pub PublishesMerge : List Instrument → ℕ → Start → List RecordContent → List RecordContent → List RecordContent → List ℕ → ℕ
-    → Bool → List Step → Type 0
-PublishesMerge listed room from a b s text next lost steps =
-    (merge : List Tagged) × Prints listed room from a b s merge text next lost × Publishes listed room from (events_in merge) steps
+abbrev pub PublishesMerge : ListedChannel → FeedRecords → List ℕ → Standing → List Step → Type 0
+PublishesMerge channel records text standing steps =
+    (merge : List Tagged) × Prints channel records merge text standing × Publishes channel (events_in merge) steps
 
 -- what went out is a beginning of the text of one merge, and what was published is no further than that text
-abbrev pub BeginsToPublishMerge : List Instrument → ℕ → Start → List RecordContent → List RecordContent → List RecordContent → List ℕ
-    → List ℕ → List Step → Type 0
-BeginsToPublishMerge listed room from a b s start taken steps =
-    (merge : List Tagged) × (begins : Begins listed room from a b s merge start taken)
-    × BeginsToPublish listed room from (events_in merge)
-    (end_lines listed room from (refusals_text begins.prints.readings) (events_in merge)) begins.sent steps
+abbrev pub BeginsToPublishMerge : ListedChannel → FeedRecords → List ℕ → List ℕ → List Step → Type 0
+BeginsToPublishMerge channel records start taken steps =
+    (merge : List Tagged) × (begins : Begins channel records merge start taken)
+    × BeginsToPublish channel (events_in merge)
+    (end_lines channel (refusals_text begins.prints.readings) (events_in merge)) begins.sent steps
+
+-- ---- what a run has done to its writer and its board
+
+-- the bytes that the writer took, and the board, if there is one
+pub record Outlet : Type 0 where
+  pub taken : List ℕ
+  pub board : Option Published
+
+abbrev pub out : List ℕ → Option Published → Outlet
+out taken board = record { taken = taken; board = board }
+
+-- the text and the steps of one merge went out, after what had gone out before
+abbrev pub SaysAll : ListedChannel → FeedRecords → Outlet → Outlet → Standing → Type 0
+SaysAll channel records old new standing =
+    (text : List ℕ) × (steps : List Step) × (new.taken ≡ old.taken ++ text) × (new.board ≡ published_on old.board steps)
+    × PublishesMerge channel records text standing steps
+
+-- beginnings of them did
+abbrev pub SaysSome : ListedChannel → FeedRecords → Outlet → Outlet → Type 0
+SaysSome channel records old new =
+    (steps : List Step) × (new.board ≡ published_on old.board steps)
+    × BeginsToPublishMerge channel records old.taken new.taken steps
+
+-- What became of a run: all went out, and it tells where the channel stands; or beginnings did. It tells how many bytes.
+pub record Ends (channel : ListedChannel) (records : FeedRecords) (old new : Outlet) (result : Result Summary RunFault) : Type 0 where
+  pub text : IfOk result (λ summary. SaysAll channel records old new (standing_in summary))
+  pub begins : IfErr result (λ _. SaysSome channel records old new)
+  pub written : IfOk result (λ summary. HasCounted old.taken new.taken summary.written)
+  pub told : IfErr result (λ fault. HasCounted old.taken new.taken (written_before fault))
+  pub range : IfOk result (λ summary. IsNextNumber summary.next)

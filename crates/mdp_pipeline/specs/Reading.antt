@@ -8,13 +8,13 @@ use Rattle.mdp_templates.specs.Incremental.{IsPacket}
 use Rattle.mdp_templates.specs.Recovery.{AreSnapshots}
 use Rattle.mdp_templates.specs.Refused.{FeedKind as Kind, IsRefusedAs}
 use Rattle.mdp_templates.specs.Refused.FeedKind.{incremental, recovery}
-use Rattle.mdp_capture.specs.Record.{RecordContent, Received, Datagram, Close}
+use Rattle.mdp_capture.specs.Record.{Received, Datagram, Close}
 use Rattle.mdp_templates.specs.declared.feed.Feed.{Feed}
 use Rattle.mdp_templates.specs.declared.feed.Feed.TheVariants as feeds
 use Rattle.mdp_templates.specs.Feed.{feed_letter}
 use Rattle.mdp_print.specs.Texts.{refusal_line}
 use Rattle.mdp_arbiter.specs.Accepted.{Event, came, recovered, closed}
-use Rattle.mdp_pipeline.specs.Merge.{Arrival, arrivals}
+use Rattle.mdp_pipeline.specs.Merge.{Arrival, FeedRecords, arrivals}
 
 -- a record brings events, in order, or is refused
 pub data Said : Type 0 where
@@ -72,10 +72,10 @@ pub record Readings : Type 0 where
   pub s : List Reading
 
 -- the readings of the records of A, of B and of S
-pub record AreReadingsOf (a b s : List RecordContent) (readings : Readings) : Type 0 where
-  pub a_are : AreReadings (arrivals feeds.A a) readings.a
-  pub b_are : AreReadings (arrivals feeds.B b) readings.b
-  pub s_are : AreReadings (arrivals feeds.S s) readings.s
+pub record AreReadingsOf (records : FeedRecords) (readings : Readings) : Type 0 where
+  pub a_are : AreReadings (arrivals feeds.A records.a) readings.a
+  pub b_are : AreReadings (arrivals feeds.B records.b) readings.b
+  pub s_are : AreReadings (arrivals feeds.S records.s) readings.s
 
 -- the lines of feed A's refused datagrams, then of B's, then of S's
 abbrev pub refusals_text : Readings → List ℕ

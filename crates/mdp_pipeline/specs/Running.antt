@@ -3,17 +3,18 @@ use Rattle.std.specs.Prelude.{◌≡◌, ℕ, List, [], ◌∷◌, ◌++◌, Boo
 use Rattle.mdp_templates.specs.declared.instrument.Instrument.{Instrument}
 use Rattle.mdp_templates.specs.declared.feed.Feed.{Feed}
 use Rattle.mdp_templates.specs.declared.feed.Feed.TheVariants as feeds
-use Rattle.mdp_arbiter.specs.declared.start.Start.{Start}
-use Rattle.mdp_arbiter.specs.Channel.{channel_of}
+use Rattle.mdp_arbiter.specs.Channel.{ListedChannel, channel_of}
 use Rattle.mdp_arbiter.specs.Accepted.{Event}
 use Rattle.mdp_engine.specs.Engine.{View, Stands}
 use Rattle.mdp_pipeline.specs.Merge.{Arrival}
 use Rattle.mdp_templates.specs.Refused.{FeedKind as Kind}
 use Rattle.mdp_capture.specs.Record.{Received}
 use Rattle.mdp_pipeline.specs.declared.progress.Run.{Run}
-use Rattle.mdp_pipeline.specs.Output.{is_lost_after, next_after, shown_output}
+use Rattle.mdp_pipeline.specs.Output.{shown_output}
 use Rattle.mdp_pipeline.specs.RefusalTexts.{RefusalTexts, with_refusal}
 use Rattle.mdp_pipeline.specs.Reading.{Reading, AreReadings, Said, Says, brings, refused, brought_by, by_feed, events_of, kind_of, readings_on, refusal_lines, refusals_text}
+use Rattle.mdp_arbiter.specs.Machine.{standing_after}
+use Rattle.mdp_arbiter.specs.declared.arbiter.Standing.{Standing}
 
 -- the lines of those that these readings refuse
 abbrev pub refusals_of : List Reading → RefusalTexts
@@ -41,35 +42,35 @@ pub record TakesAs {A : Type 0} (kind : Kind) (feed : Feed) (line : ℕ) (receiv
   pub takes : TakesSaid feed line said old new
 
 -- the engine stands at the events of these readings, of which this text was sent
-pub record HasRun (listed : List Instrument) (room : ℕ) (from : Start) (readings : List Reading) (sent : List ℕ) (engine : View)
+pub record HasRun (channel : ListedChannel) (readings : List Reading) (sent : List ℕ) (engine : View)
     (refusals : RefusalTexts) : Type 0 where
-  pub stands : Stands listed (events_of readings) sent engine
-  pub channel : engine.arbiter.channel ≡ channel_of listed room from
+  pub stands : Stands channel.listed (events_of readings) sent engine
+  pub channel_is : engine.arbiter.channel ≡ channel_of channel
   pub refusals_are : refusals ≡ refusals_of readings
 
 -- a run over these records, of which this text was sent
-pub record RunsOver (listed : List Instrument) (room : ℕ) (from : Start) (arrivals : List Arrival) (sent : List ℕ) (engine : View)
+pub record RunsOver (channel : ListedChannel) (arrivals : List Arrival) (sent : List ℕ) (engine : View)
     (refusals : RefusalTexts) : Type 0 where
   pub readings : List Reading
   pub are : AreReadings arrivals readings
-  pub run : HasRun listed room from readings sent engine refusals
+  pub run : HasRun channel readings sent engine refusals
 
 -- a run over these records whose text went out as far as the writer took it; the rest is held by the engine
-pub record Writes (listed : List Instrument) (room : ℕ) (from : Start) (arrivals : List Arrival) (start taken : List ℕ) (engine : View)
+pub record Writes (channel : ListedChannel) (arrivals : List Arrival) (start taken : List ℕ) (engine : View)
     (refusals : RefusalTexts) : Type 0 where
   pub sent : List ℕ
   pub taken_is : taken ≡ start ++ sent
-  pub over : RunsOver listed room from arrivals sent engine refusals
+  pub over : RunsOver channel arrivals sent engine refusals
 
 -- ---- what the caller's thread has shown of the events that it took, whatever the feeds
 
 -- the engine stands at these events, and what it shows of them went out as far as the writer took it; the rest is held
-pub record HasShown (listed : List Instrument) (room : ℕ) (from : Start) (events : List Event) (start taken : List ℕ)
+pub record HasShown (channel : ListedChannel) (events : List Event) (start taken : List ℕ)
     (engine : View) : Type 0 where
   pub sent : List ℕ
   pub taken_is : taken ≡ start ++ sent
-  pub stands : Stands listed events sent engine
-  pub channel : engine.arbiter.channel ≡ channel_of listed room from
+  pub stands : Stands channel.listed events sent engine
+  pub channel_is : engine.arbiter.channel ≡ channel_of channel
 
 -- lines that the engine held went out: wherever it stood, after whatever text was sent before, it stands there still after these lines too
 pub record HandsOn {A : Type 0} (taken taken' : List ℕ) (old new : Run A) : Type 0 where
@@ -84,39 +85,35 @@ abbrev pub joined_texts : RefusalTexts → List ℕ
 joined_texts texts = texts.a ++ (texts.b ++ texts.s)
 
 -- the whole text went out
-pub record EndsAs (listed : List Instrument) (room : ℕ) (from : Start) (events : List Event) (refusals start taken : List ℕ) (next : ℕ)
-    (lost : Bool) : Type 0 where
+pub record EndsAs (channel : ListedChannel) (events : List Event) (refusals start taken : List ℕ)
+    (standing : Standing) : Type 0 where
   pub text : List ℕ
   pub taken_is : taken ≡ start ++ text
-  pub next_is : next ≡ next_after listed room from events
-  pub lost_is : lost ≡ is_lost_after listed room from events
-  pub shown : text ≡ shown_output listed room from refusals events
+  pub standing_is : standing ≡ standing_after channel events
+  pub shown : text ≡ shown_output channel refusals events
 
 -- a beginning of the text went out
-pub record EndsEarly (listed : List Instrument) (room : ℕ) (from : Start) (events : List Event)
+pub record EndsEarly (channel : ListedChannel) (events : List Event)
     (refusals start taken : List ℕ) : Type 0 where
   pub sent : List ℕ
   pub rest : List ℕ
   pub taken_is : taken ≡ start ++ sent
-  pub whole : shown_output listed room from refusals events ≡ sent ++ rest
+  pub whole : shown_output channel refusals events ≡ sent ++ rest
 
 -- ---- runs over records of all feeds in one list
 
 -- the text of these records, in this order: what their moves show
-pub record PrintsAll (listed : List Instrument) (room : ℕ) (from : Start) (arrivals : List Arrival) (text : List ℕ) (next : ℕ)
-    (lost : Bool) : Type 0 where
+pub record PrintsAll (channel : ListedChannel) (arrivals : List Arrival) (text : List ℕ) (standing : Standing) : Type 0 where
   pub readings : List Reading
   pub are : AreReadings arrivals readings
-  pub next_is : next ≡ next_after listed room from (events_of readings)
-  pub lost_is : lost ≡ is_lost_after listed room from (events_of readings)
-  pub shown : text ≡ shown_output listed room from (refusals_text (by_feed readings)) (events_of readings)
+  pub standing_is : standing ≡ standing_after channel (events_of readings)
+  pub shown : text ≡ shown_output channel (refusals_text (by_feed readings)) (events_of readings)
 
 -- what went out is a beginning of it
-pub record BeginsAll (listed : List Instrument) (room : ℕ) (from : Start) (arrivals : List Arrival) (start taken : List ℕ) : Type 0 where
+pub record BeginsAll (channel : ListedChannel) (arrivals : List Arrival) (start taken : List ℕ) : Type 0 where
   pub text : List ℕ
-  pub next : ℕ
-  pub lost : Bool
-  pub prints : PrintsAll listed room from arrivals text next lost
+  pub standing : Standing
+  pub prints : PrintsAll channel arrivals text standing
   pub sent : List ℕ
   pub rest : List ℕ
   pub taken_is : taken ≡ start ++ sent

@@ -1,26 +1,24 @@
 //! A run on one thread, in the order of the capture's lines.
 
-ghost use Rattle.std.specs.Prelude.{◌≡◌, ◌≤◌, ◌<◌, ◌^◌, ◌-◌, ◌++◌, [], ℕ, List, take, IfOk, IfErr, OnOk};
-ghost use Rattle.mdp_templates.specs.Instrument.{AreFit};
+ghost use Rattle.std.specs.Prelude.{◌≡◌, ◌<◌, ◌^◌, ◌-◌, ◌++◌, [], ℕ, List, take, IfOk, IfErr, OnOk};
 ghost use Rattle.mdp_crew.specs.Arbitrating.{IsNextNumber};
 ghost use Rattle.mdp_crew.specs.Counted.{HasCounted};
+ghost use Rattle.mdp_crew.specs.Plan.{IsLawful, channel_in};
 ghost use Rattle.mdp_pipeline.specs.Counted.{written_before};
 ghost use Rattle.mdp_pipeline.specs.Faults.{FailsBy};
-ghost use Rattle.mdp_pipeline.specs.Output.{BeginsByLine, PrintsByLine};
+ghost use Rattle.mdp_pipeline.specs.Merge.{records_in};
+ghost use Rattle.mdp_pipeline.specs.Output.{BeginsByLine, PrintsByLine, end_text, standing_in};
 ghost use Rattle.mdp_pipeline.specs.Running.{EndsAs, EndsEarly, HandsOn, HasShown, joined_texts};
-ghost use Rattle.mdp_templates.specs.declared.instrument.Instrument.{Instrument};
 ghost use Rattle.mdp_arbiter.specs.Accepted.{Event};
-ghost use Rattle.mdp_arbiter.specs.declared.start.Start.{Start};
-ghost use Rattle.mdp_print.specs.Texts.{last_line};
+ghost use Rattle.mdp_arbiter.specs.Channel.{ListedChannel};
 
-use crate::merge::InOrder;
+use crate::feeds::Feeds;
 use crate::progress::Run;
 use crate::refusals::Refusals;
 use crate::summary::{RunFault, Summary};
-use mdp_arbiter::Start;
-use mdp_capture::Record;
+use mdp_arbiter::Standing;
+use mdp_crew::RunPlan;
 use mdp_print::{CountedWrite, write_all_counted};
-use mdp_templates::Instrument;
 use std::alloc::Allocator;
 
 /// How many bytes of text are gathered before they are written.
@@ -68,8 +66,7 @@ fn hand_on_pieces<W: CountedWrite, A: Allocator + Copy>(
 }
 
 /// Runs over the records of the feeds on one thread, in the order of the capture's lines, and writes what is owed; of
-/// equal lines feed A's record goes before B's, and B's before S's. The window covers 1 to 65536 packet numbers. With `Start::Join` no
-/// packet passes before a first jump.
+/// equal lines feed A's record goes before B's, and B's before S's. It works on the caller's thread, whatever the plan's number of workers.
 ///
 /// # Errors
 ///
@@ -77,21 +74,15 @@ fn hand_on_pieces<W: CountedWrite, A: Allocator + Copy>(
 /// whole run prints.
 pub fn run_in_order<W: CountedWrite, A: Allocator + Copy>(
     alloc: A,
-    instruments: &[Instrument],
-    a: &[Record<A>],
-    b: &[Record<A>],
-    s: &[Record<A>],
-    window: u32,
-    start: Start,
+    plan: RunPlan<'_>,
+    mut feeds: Feeds<'_, A>,
     writer: &mut W,
 ) -> Result<Summary, RunFault>
     requires sound { W.failed writer.old < 2 ^ 64 - 1 }
-    requires fit { AreFit instruments.now }
-    requires least { 1 ≤ window }
-    requires most { window ≤ 65536 }
+    requires lawful { IsLawful plan }
     ensures text { IfOk result (λ summary. (text : List ℕ) × (W.taken writer.new ≡ W.taken writer.old ++ text)
-        × PrintsByLine instruments.now window start a.now b.now s.now text summary.next summary.lost) }
-    ensures begins { IfErr result (λ _. BeginsByLine instruments.now window start a.now b.now s.now
+        × PrintsByLine (channel_in plan) (records_in feeds) text (standing_in summary)) }
+    ensures begins { IfErr result (λ _. BeginsByLine (channel_in plan) (records_in feeds)
         (W.taken writer.old) (W.taken writer.new)) }
     ensures written { IfOk result (λ summary. HasCounted (W.taken writer.old) (W.taken writer.new) summary.written) }
     ensures told { IfErr result (λ fault. HasCounted (W.taken writer.old) (W.taken writer.new) (written_before fault)) }
@@ -99,11 +90,10 @@ pub fn run_in_order<W: CountedWrite, A: Allocator + Copy>(
     ensures failed { FailsBy result (W.failed writer.old) (W.failed writer.new) }
 {
     let mut written = 0;
-    let Ok(mut run) = Run::new(alloc, instruments, window, start) else {
+    let Ok(mut run) = Run::new(alloc, plan) else {
         return Err(RunFault::Memory { written });
     };
-    let mut records = InOrder { a, b, s };
-    while let Some((feed, record)) = records.next() {
+    while let Some((feed, record)) = feeds.next_by_line() {
         let Ok(()) = run.take(alloc, feed, record) else {
             return Err(RunFault::Memory { written });
         };
@@ -119,12 +109,12 @@ fn finish<W: CountedWrite, A: Allocator + Copy>(
     mut written: u64,
 ) -> Result<Summary, RunFault>
     requires { W.failed writer.old < 2 ^ 64 - 1 }
-    ensures text { IfOk result (λ summary. (listed : List Instrument) (room : ℕ) (from : Start) (events : List Event) (start : List ℕ) →
-        HasShown listed room from events start (W.taken writer.old) run.engine →
-        EndsAs listed room from events (joined_texts run.refusals) start (W.taken writer.new) summary.next summary.lost) }
-    ensures begins { IfErr result (λ _. (listed : List Instrument) (room : ℕ) (from : Start) (events : List Event) (start : List ℕ) →
-        HasShown listed room from events start (W.taken writer.old) run.engine →
-        EndsEarly listed room from events (joined_texts run.refusals) start (W.taken writer.new)) }
+    ensures text { IfOk result (λ summary. (channel : ListedChannel) (events : List Event) (start : List ℕ) →
+        HasShown channel events start (W.taken writer.old) run.engine →
+        EndsAs channel events (joined_texts run.refusals) start (W.taken writer.new) (standing_in summary)) }
+    ensures begins { IfErr result (λ _. (channel : ListedChannel) (events : List Event) (start : List ℕ) →
+        HasShown channel events start (W.taken writer.old) run.engine →
+        EndsEarly channel events (joined_texts run.refusals) start (W.taken writer.new)) }
     ensures counts { IfOk result (λ summary. (start : List ℕ) → HasCounted start (W.taken writer.old) written → HasCounted start (W.taken writer.new) summary.written) }
     ensures told { IfErr result (λ fault. (start : List ℕ) → HasCounted start (W.taken writer.old) written → HasCounted start (W.taken writer.new) (written_before fault)) }
     ensures range { IfOk result (λ summary. IsNextNumber summary.next) }
@@ -135,28 +125,31 @@ fn finish<W: CountedWrite, A: Allocator + Copy>(
         refusals,
         last: _,
     } = run;
-    let next = engine.next();
-    let lost = engine.lost();
+    let standing = Standing {
+        next: engine.next(),
+        lost: engine.lost(),
+    };
     hand_on(writer, engine.lines(), &mut written)?;
-    write_end(writer, refusals, next, lost, written)
+    write_end(writer, refusals, standing, written)
 }
 
-/// Writes the lines of the refused datagrams and the last line, behind all others.
+/// Writes the lines of the refused datagrams and the last line, after all others.
 pub fn write_end<W: CountedWrite, A: Allocator + Copy>(
     writer: &mut W,
     refusals: Refusals<A>,
-    next: u64,
-    lost: bool,
+    standing: Standing,
     mut written: u64,
 ) -> Result<Summary, RunFault>
     requires { W.failed writer.old < 2 ^ 64 - 1 }
-    ensures stands { IfOk result (λ summary. (summary.next ≡ next) × (summary.lost ≡ lost)) }
-    ensures text { OnOk result (W.taken writer.new ≡ W.taken writer.old ++ (joined_texts refusals ++ last_line next lost)) }
-    ensures begins { IfErr result (λ _. (n : ℕ) × (W.taken writer.new ≡ W.taken writer.old ++ take n (joined_texts refusals ++ last_line next lost))) }
+    ensures stands { IfOk result (λ summary. standing_in summary ≡ standing) }
+    ensures text { OnOk result (W.taken writer.new ≡ W.taken writer.old ++ end_text (joined_texts refusals) standing) }
+    ensures begins { IfErr result (λ _. (n : ℕ) × (W.taken writer.new
+        ≡ W.taken writer.old ++ take n (end_text (joined_texts refusals) standing))) }
     ensures counts { IfOk result (λ summary. (start : List ℕ) → HasCounted start (W.taken writer.old) written → HasCounted start (W.taken writer.new) summary.written) }
     ensures told { IfErr result (λ fault. (start : List ℕ) → HasCounted start (W.taken writer.old) written → HasCounted start (W.taken writer.new) (written_before fault)) }
     ensures failed { FailsBy result (W.failed writer.old) (W.failed writer.new) }
 {
+    let Standing { next, lost } = standing;
     let Ok(end) = refusals.into_end(next, lost) else {
         return Err(RunFault::Memory { written });
     };

@@ -3,9 +3,9 @@
 #![tactic(auto)]
 
 mod decoding;
+mod feeds;
 mod in_order;
 mod last_packet;
-mod merge;
 mod pace;
 mod progress;
 mod reader;
@@ -16,6 +16,8 @@ mod summary;
 mod tests;
 mod threads;
 
+pub use feeds::Feeds;
 pub use in_order::run_in_order;
+pub use mdp_crew::RunPlan;
 pub use summary::{RunFault, Summary};
 pub use threads::{run, run_published};

@@ -1,9 +1,9 @@
 //! A run over the records of a channel's feeds, so far.
 
 ghost use Rattle.std.specs.Prelude.{◌≡◌, ◌≤◌, [], ◌∷◌, ℕ, true, IfOk, OnOk, map};
-ghost use Rattle.mdp_templates.specs.Instrument.{AreFit};
 ghost use Rattle.mdp_arbiter.specs.Accepted.{recovered};
 ghost use Rattle.mdp_engine.specs.Steps.{event_of};
+ghost use Rattle.mdp_crew.specs.Plan.{IsLawful, channel_in};
 ghost use Rattle.mdp_pipeline.specs.Decoding.{said_of};
 ghost use Rattle.mdp_templates.specs.declared.feed.Feed.{Feed};
 ghost use Rattle.mdp_templates.specs.Refused.FeedKind.{incremental};
@@ -14,10 +14,10 @@ ghost use Rattle.mdp_pipeline.specs.Running.{GoesOn, HasRun, TakesAs, TakesSaid}
 use crate::decoding::{Decoded, read_record};
 use crate::last_packet::LastPacket;
 use crate::refusals::Refusals;
-use mdp_arbiter::Start;
 use mdp_capture::Record;
+use mdp_crew::RunPlan;
 use mdp_engine::{Engine, Event};
-use mdp_templates::{Feed, Instrument, Memory, Packet, Snapshot};
+use mdp_templates::{Feed, Memory, Packet, Snapshot};
 use mdp_window::RingWindow;
 use std::alloc::Allocator;
 
@@ -31,21 +31,14 @@ pub struct Run<A: Allocator + Copy> {
 }
 
 impl<A: Allocator + Copy> Run<A> {
-    /// Makes a run before any record, over a window of 1 to 65536.
-    pub fn new(
-        alloc: A,
-        instruments: &[Instrument],
-        window: u32,
-        start: Start,
-    ) -> Result<Run<A>, Memory>
-        requires fit { AreFit instruments.now }
-        requires least { 1 ≤ window }
-        requires most { window ≤ 65536 }
-        ensures run { IfOk result (λ r. HasRun instruments.now window start [] [] r.engine r.refusals) }
+    /// Makes a run before any record.
+    pub fn new(alloc: A, plan: RunPlan<'_>) -> Result<Run<A>, Memory>
+        requires { IsLawful plan }
+        ensures run { IfOk result (λ r. HasRun (channel_in plan) [] [] r.engine r.refusals) }
     {
-        let window = RingWindow::new(alloc, u64::from(window))?;
+        let window = RingWindow::new(alloc, u64::from(plan.window))?;
         Ok(Run {
-            engine: Engine::new(alloc, instruments, window, start)?,
+            engine: Engine::new(alloc, plan.instruments, window, plan.start)?,
             refusals: Refusals::new(alloc),
             last: LastPacket::new(alloc),
         })

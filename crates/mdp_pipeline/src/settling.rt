@@ -1,27 +1,25 @@
 //! The end of a run over threads, where what the readers sent and what was taken of them come together.
 
-ghost use Rattle.std.specs.Prelude.{◌≡◌, ◌<◌, ◌^◌, ◌-◌, ◌++◌, ℕ, List, Option, IfErr, IfOk};
+ghost use Rattle.std.specs.Prelude.{◌≡◌, ◌<◌, ◌^◌, ◌-◌, ℕ, List, Option, IfErr, IfOk};
 ghost use Rattle.mdp_lanes.specs.Boards.{Published};
 ghost use Rattle.mdp_lanes.specs.Items.{ends_taken};
-ghost use Rattle.mdp_lanes.specs.declared.step.Step.{Step};
-ghost use Rattle.mdp_templates.specs.declared.instrument.Instrument.{Instrument};
-ghost use Rattle.mdp_arbiter.specs.declared.start.Start.{Start};
+ghost use Rattle.mdp_arbiter.specs.Channel.{ListedChannel};
 ghost use Rattle.mdp_crew.specs.Arbitrating.{IsNextNumber};
 ghost use Rattle.mdp_crew.specs.Batches.{events_taken};
 ghost use Rattle.mdp_crew.specs.Counted.{HasCounted};
-ghost use Rattle.mdp_crew.specs.Publishing.{published_on};
 ghost use Rattle.mdp_crew.specs.Running.{HasShown};
 ghost use Rattle.mdp_crew.specs.Stops.{FailsByStop};
 ghost use Rattle.mdp_pipeline.specs.Counted.{written_before};
 ghost use Rattle.mdp_pipeline.specs.Faults.{FailsBy};
-ghost use Rattle.mdp_pipeline.specs.Output.{BeginsToPublishMerge, PublishesMerge};
+ghost use Rattle.mdp_pipeline.specs.Merge.{records_in};
+ghost use Rattle.mdp_pipeline.specs.Output.{SaysAll, SaysSome, out, standing_in};
 ghost use Rattle.mdp_pipeline.specs.Taken.{HasReadFor};
 
+use crate::feeds::Feeds;
 use crate::in_order::write_end;
 use crate::reader::ReaderOutcome;
 use crate::refusals::Refusals;
 use crate::summary::{RunFault, Summary};
-use mdp_capture::Record;
 use mdp_crew::{CrewOutcome, Stop};
 use mdp_lanes::Intake;
 use mdp_print::CountedWrite;
@@ -41,26 +39,22 @@ pub fn settle_and_finish<W: CountedWrite, A: Allocator + Copy>(
     writer: &mut W,
     crew: CrewOutcome<A>,
     readers: Readers<A>,
-    a: &[Record<A>],
-    b: &[Record<A>],
-    s: &[Record<A>],
+    feeds: Feeds<'_, A>,
 ) -> Result<Summary, RunFault>
     requires sound { IfOk crew.standing (λ _. W.failed writer.old < 2 ^ 64 - 1) }
     requires range { IfOk crew.standing (λ standing. IsNextNumber standing.next) }
     requires ends { ends_taken (λ b. b.is_last) crew.receiver.taken ≡ 3 }
-    requires a { HasReadFor crew.receiver Feed.A a.now readers.a }
-    requires b { HasReadFor crew.receiver Feed.B b.now readers.b }
-    requires s { HasReadFor crew.receiver Feed.S s.now readers.s }
-    ensures text { IfOk result (λ summary. (listed : List Instrument) (room : ℕ) (from : Start) (start : List ℕ)
+    requires a { HasReadFor crew.receiver Feed.A feeds.a.now readers.a }
+    requires b { HasReadFor crew.receiver Feed.B feeds.b.now readers.b }
+    requires s { HasReadFor crew.receiver Feed.S feeds.s.now readers.s }
+    ensures text { IfOk result (λ summary. (channel : ListedChannel) (start : List ℕ)
         (before after : Option Published)
-        → HasShown listed room from (events_taken crew.receiver.taken) start (W.taken writer.old) before after crew.standing
-        → (text : List ℕ) × (steps : List Step) × (W.taken writer.new ≡ start ++ text) × (after ≡ published_on before steps)
-        × PublishesMerge listed room from a.now b.now s.now text summary.next summary.lost steps) }
-    ensures begins { IfErr result (λ _. (listed : List Instrument) (room : ℕ) (from : Start) (start : List ℕ)
+        → HasShown channel (events_taken crew.receiver.taken) start (W.taken writer.old) before after crew.standing
+        → SaysAll channel (records_in feeds) (out start before) (out (W.taken writer.new) after) (standing_in summary)) }
+    ensures begins { IfErr result (λ _. (channel : ListedChannel) (start : List ℕ)
         (before after : Option Published)
-        → HasShown listed room from (events_taken crew.receiver.taken) start (W.taken writer.old) before after crew.standing
-        → (steps : List Step) × (after ≡ published_on before steps) × BeginsToPublishMerge listed room from a.now b.now s.now start
-        (W.taken writer.new) steps) }
+        → HasShown channel (events_taken crew.receiver.taken) start (W.taken writer.old) before after crew.standing
+        → SaysSome channel (records_in feeds) (out start before) (out (W.taken writer.new) after)) }
     ensures counts { IfOk result (λ summary. (start : List ℕ)
         → HasCounted start (W.taken writer.old) crew.written → HasCounted start (W.taken writer.new) summary.written) }
     ensures told { IfErr result (λ fault. (start : List ℕ)
@@ -94,5 +88,5 @@ pub fn settle_and_finish<W: CountedWrite, A: Allocator + Copy>(
         return Err(RunFault::Memory { written });
     };
     let refusals = Refusals::of(refused_a, refused_b, refused_s);
-    write_end(writer, refusals, standing.next, standing.lost, written)
+    write_end(writer, refusals, standing, written)
 }

@@ -10,11 +10,12 @@ mod ways;
 
 ghost use Rattle.std.specs.Prelude.{◌≤◌};
 
+use crate::feeds::Feeds;
 use crate::summary::{RunFault, Summary};
 use crate::threads::run_where;
 use mdp_arbiter::Start;
 use mdp_capture::{CountingReader, read_capture};
-use mdp_crew::{Always, Gate, Open, Starts};
+use mdp_crew::{Always, Gate, Open, RunPlan, Starts};
 use refusing::Refusing;
 use std::alloc::{Allocator, Global};
 use std::process::Abort;
@@ -157,13 +158,13 @@ where
         rt,
         starts,
         heap,
-        capture.instruments(),
-        capture.a(),
-        capture.b(),
-        capture.s(),
-        workers,
-        4,
-        Start::FromOne,
+        RunPlan {
+            instruments: capture.instruments(),
+            window: 4,
+            start: Start::FromOne,
+            workers,
+        },
+        Feeds::of(&capture),
         gate,
         &mut board,
         &mut kept,

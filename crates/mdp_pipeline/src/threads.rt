@@ -4,26 +4,26 @@ ghost use Rattle.std.specs.Prelude.{◌≡◌, ◌≤◌, ◌<◌, ◌^◌, ◌-
 ghost use Rattle.mdp_capture.specs.Record.{RecordContent};
 ghost use Rattle.mdp_lanes.specs.Queues.{IntakeSenderView};
 ghost use Rattle.mdp_lanes.specs.declared.step.Step.{Step};
-ghost use Rattle.mdp_templates.specs.Instrument.{AreFit};
 ghost use Rattle.mdp_crew.specs.Arbitrating.{IsNextNumber};
 ghost use Rattle.mdp_crew.specs.declared.batch.Batch.{Batch};
 ghost use Rattle.mdp_crew.specs.Counted.{HasCounted};
-ghost use Rattle.mdp_crew.specs.Publishing.{published_on};
+ghost use Rattle.mdp_crew.specs.Plan.{IsLawful, channel_in};
 ghost use Rattle.mdp_pipeline.specs.Counted.{written_before};
 ghost use Rattle.mdp_pipeline.specs.Faults.{FailsBy};
-ghost use Rattle.mdp_pipeline.specs.Output.{BeginsMerge, BeginsToPublishMerge, PrintsMerge, PublishesMerge};
+ghost use Rattle.mdp_pipeline.specs.Merge.{records_in};
+ghost use Rattle.mdp_pipeline.specs.Output.{BeginsMerge, BeginsToPublishMerge, Ends, PrintsMerge, PublishesMerge, out, standing_in};
 ghost use Rattle.mdp_pipeline.specs.Readers.{HasRead, has_ended};
 
+use crate::feeds::Feeds;
 use crate::pace::Pace;
 use crate::reader::{ReaderOutcome, read_feed};
 use crate::settling::{Readers, settle_and_finish};
 use crate::summary::{RunFault, Summary};
-use mdp_arbiter::Start;
 use mdp_capture::Record;
-use mdp_crew::{Always, Batch, Gate, Starts, run_crew};
+use mdp_crew::{Always, Batch, Gate, RunPlan, Starts, run_crew};
 use mdp_lanes::{Intake, IntakeSender, Publisher};
 use mdp_print::CountedWrite;
-use mdp_templates::{Feed, Instrument};
+use mdp_templates::Feed;
 use std::alloc::Allocator;
 use std::snapshot::Snapshot;
 use std::sync::Wait;
@@ -116,13 +116,8 @@ fn run_in<'s, E, R, S, G, W, A>(
     pace: &'s Pace,
     starts: &S,
     alloc: A,
-    instruments: &'s [Instrument],
-    a: &'s [Record<A>],
-    b: &'s [Record<A>],
-    s: &'s [Record<A>],
-    workers: u16,
-    window: u32,
-    start: Start,
+    plan: RunPlan<'s>,
+    feeds: Feeds<'s, A>,
     gate: &'s G,
     board: &mut Option<Publisher<A>>,
     writer: &mut W,
@@ -135,48 +130,60 @@ where
     A: Allocator + Copy + Send + Sync,
     A: 's,
     requires sound { W.failed writer.old < 2 ^ 64 - 1 }
-    requires fit { AreFit instruments.now }
-    requires some { 1 ≤ workers }
-    requires least { 1 ≤ window }
-    requires most { window ≤ 65536 }
-    ensures text { IfOk result (λ summary. (text : List ℕ) × (steps : List Step)
-        × (W.taken writer.new ≡ W.taken writer.old ++ text) × (board.new ≡ published_on board.old steps)
-        × PublishesMerge instruments.entry.now window start a.entry.now b.entry.now s.entry.now text summary.next summary.lost steps) }
-    ensures begins { IfErr result (λ _. (steps : List Step) × (board.new ≡ published_on board.old steps)
-        × BeginsToPublishMerge instruments.entry.now window start a.entry.now b.entry.now s.entry.now
-        (W.taken writer.old) (W.taken writer.new) steps) }
-    ensures written { IfOk result (λ summary. HasCounted (W.taken writer.old) (W.taken writer.new) summary.written) }
-    ensures told { IfErr result (λ fault. HasCounted (W.taken writer.old) (W.taken writer.new) (written_before fault)) }
-    ensures range { IfOk result (λ summary. IsNextNumber summary.next) }
+    requires lawful { IsLawful plan }
+    requires some { 1 ≤ plan.workers }
+    ensures ends { Ends (channel_in plan) (records_in feeds)
+        (out (W.taken writer.old) board.old) (out (W.taken writer.new) board.new) result }
     ensures failed { FailsBy result (W.failed writer.old) (W.failed writer.new) }
 {
     let Ok((to_a, to_b, to_s, receiver)) = Intake::new(alloc, INTAKE_ROOM) else {
         return Err(RunFault::Memory { written: 0 });
     };
-    let reads_a = begin_reader(rt, scope, pace, starts, 0, alloc, gate, Feed::A, a, to_a);
-    let reads_b = begin_reader(rt, scope, pace, starts, 1, alloc, gate, Feed::B, b, to_b);
-    let reads_s = begin_reader(rt, scope, pace, starts, 2, alloc, gate, Feed::S, s, to_s);
-    let crew = run_crew(
+    let reads_a = begin_reader(
         rt,
         scope,
-        &pace.go,
+        pace,
         starts,
+        0,
         alloc,
         gate,
-        instruments,
-        workers,
-        window,
-        start,
-        receiver,
-        board,
-        writer,
+        Feed::A,
+        feeds.a,
+        to_a,
+    );
+    let reads_b = begin_reader(
+        rt,
+        scope,
+        pace,
+        starts,
+        1,
+        alloc,
+        gate,
+        Feed::B,
+        feeds.b,
+        to_b,
+    );
+    let reads_s = begin_reader(
+        rt,
+        scope,
+        pace,
+        starts,
+        2,
+        alloc,
+        gate,
+        Feed::S,
+        feeds.s,
+        to_s,
+    );
+    let crew = run_crew(
+        rt, scope, &pace.go, starts, alloc, gate, plan, receiver, board, writer,
     );
     let readers = Readers {
         a: join_reader(rt, reads_a),
         b: join_reader(rt, reads_b),
         s: join_reader(rt, reads_s),
     };
-    settle_and_finish(writer, crew, readers, a, b, s)
+    settle_and_finish(writer, crew, readers, feeds)
 }
 
 /// Runs as [`run_published`] does where there is a board, and else as [`run`]; a thread that may not start is one that can't be started.
@@ -184,13 +191,8 @@ pub(crate) fn run_where<R, S, G, W, A>(
     rt: &R,
     starts: &S,
     alloc: A,
-    instruments: &[Instrument],
-    a: &[Record<A>],
-    b: &[Record<A>],
-    s: &[Record<A>],
-    workers: u16,
-    window: u32,
-    start: Start,
+    plan: RunPlan<'_>,
+    feeds: Feeds<'_, A>,
     gate: &G,
     board: &mut Option<Publisher<A>>,
     writer: &mut W,
@@ -202,56 +204,26 @@ where
     W: CountedWrite,
     A: Allocator + Copy + Send + Sync,
     requires sound { W.failed writer.old < 2 ^ 64 - 1 }
-    requires fit { AreFit instruments.now }
-    requires some { 1 ≤ workers }
-    requires least { 1 ≤ window }
-    requires most { window ≤ 65536 }
-    ensures text { IfOk result (λ summary. (text : List ℕ) × (steps : List Step)
-        × (W.taken writer.new ≡ W.taken writer.old ++ text) × (board.new ≡ published_on board.old steps)
-        × PublishesMerge instruments.now window start a.now b.now s.now text summary.next summary.lost steps) }
-    ensures begins { IfErr result (λ _. (steps : List Step) × (board.new ≡ published_on board.old steps)
-        × BeginsToPublishMerge instruments.now window start a.now b.now s.now (W.taken writer.old) (W.taken writer.new) steps) }
-    ensures written { IfOk result (λ summary. HasCounted (W.taken writer.old) (W.taken writer.new) summary.written) }
-    ensures told { IfErr result (λ fault. HasCounted (W.taken writer.old) (W.taken writer.new) (written_before fault)) }
-    ensures range { IfOk result (λ summary. IsNextNumber summary.next) }
+    requires lawful { IsLawful plan }
+    requires some { 1 ≤ plan.workers }
+    ensures ends { Ends (channel_in plan) (records_in feeds)
+        (out (W.taken writer.old) board.old) (out (W.taken writer.new) board.new) result }
     ensures failed { FailsBy result (W.failed writer.old) (W.failed writer.new) }
 {
-    let paced = Pace::new(window, s);
+    let paced = Pace::new(plan.window, feeds.s);
     let pace = &paced;
     let (back, board_back, outcome) = thread::scope(
         thread::scope_env(),
         rt,
         move |scope| -> (&mut W, &mut Option<Publisher<A>>, Result<Summary, RunFault>)
-            requires { (W.failed writer.now < 2 ^ 64 - 1) × AreFit instruments.now × (1 ≤ workers) × (1 ≤ window) × (window ≤ 65536) }
+            requires { (W.failed writer.now < 2 ^ 64 - 1) × IsLawful plan × (1 ≤ plan.workers) }
             ensures same { (result.0.ghost_name ≡ writer.entry.ghost_name) × (result.1.ghost_name ≡ board.entry.ghost_name) }
-            ensures text { IfOk result.2 (λ summary. (text : List ℕ) × (steps : List Step)
-                × (W.taken result.0.now ≡ W.taken writer.entry.now ++ text) × (result.1.now ≡ published_on board.entry.now steps)
-                × PublishesMerge instruments.entry.now window start a.entry.now b.entry.now s.entry.now
-                text summary.next summary.lost steps) }
-            ensures begins { IfErr result.2 (λ _. (steps : List Step) × (result.1.now ≡ published_on board.entry.now steps)
-                × BeginsToPublishMerge instruments.entry.now window start a.entry.now b.entry.now s.entry.now
-                (W.taken writer.entry.now) (W.taken result.0.now) steps) }
-            ensures written { IfOk result.2 (λ summary. HasCounted (W.taken writer.entry.now) (W.taken result.0.now) summary.written) }
-            ensures told { IfErr result.2 (λ fault. HasCounted (W.taken writer.entry.now) (W.taken result.0.now) (written_before fault)) }
-            ensures range { IfOk result.2 (λ summary. IsNextNumber summary.next) }
+            ensures ends { Ends (channel_in plan) (records_in feeds)
+                (out (W.taken writer.entry.now) board.entry.now) (out (W.taken result.0.now) result.1.now) result.2 }
             ensures failed { FailsBy result.2 (W.failed writer.entry.now) (W.failed result.0.now) }
         {
             let outcome = run_in(
-                rt,
-                scope,
-                pace,
-                starts,
-                alloc,
-                instruments,
-                a,
-                b,
-                s,
-                workers,
-                window,
-                start,
-                gate,
-                board,
-                writer,
+                rt, scope, pace, starts, alloc, plan, feeds, gate, board, writer,
             );
             (writer, board, outcome)
         },
@@ -261,12 +233,11 @@ where
     outcome
 }
 
-/// Runs over the records of the feeds in threads: one for each feed, which decodes its records, the arbiter's, so many workers,
-/// each with the books of its own securities, and the caller's, which writes what is owed. There are 1 to 16 workers; how many
-/// changes no byte. The window covers 1 to 65536 packet numbers. With `Start::Join` no packet passes before a first jump. Which merge
-/// of the feeds' events comes about, the threads decide, as far as the readers' pace leaves it to them: none hands over more than a
-/// quarter of the window, in lines, ahead of the slowest, and none passes the line of the first close before all that stands before it
-/// was handed over. Of that pace no clause speaks.
+/// Runs over the records of the feeds in threads: one for each feed, which decodes its records, the arbiter's, the plan's workers, each
+/// with the books of its own securities, and the caller's, which writes what is owed. Which merge of the feeds' events comes about, the
+/// threads decide, as far as the readers' pace leaves it to them: none hands over more than a quarter of the window, in lines, ahead of
+/// the slowest, and none passes the line of the first close before all that stands before it was handed over. Of that pace no clause
+/// speaks.
 ///
 /// The gate is told of each record before its reader reads it, and of each step before a worker works on it. A gate that holds a reader
 /// holds the others too, once they are as far ahead as they may be.
@@ -278,13 +249,8 @@ where
 pub fn run<R, G, W, A>(
     rt: &R,
     alloc: A,
-    instruments: &[Instrument],
-    a: &[Record<A>],
-    b: &[Record<A>],
-    s: &[Record<A>],
-    workers: u16,
-    window: u32,
-    start: Start,
+    plan: RunPlan<'_>,
+    feeds: Feeds<'_, A>,
     gate: &G,
     writer: &mut W,
 ) -> Result<Summary, RunFault>
@@ -294,13 +260,11 @@ where
     W: CountedWrite,
     A: Allocator + Copy + Send + Sync,
     requires sound { W.failed writer.old < 2 ^ 64 - 1 }
-    requires fit { AreFit instruments.now }
-    requires least { 1 ≤ window }
-    requires most { window ≤ 65536 }
-    requires some_workers { 1 ≤ workers }
+    requires lawful { IsLawful plan }
+    requires some_workers { 1 ≤ plan.workers }
     ensures text { IfOk result (λ summary. (text : List ℕ) × (W.taken writer.new ≡ W.taken writer.old ++ text)
-        × PrintsMerge instruments.now window start a.now b.now s.now text summary.next summary.lost) }
-    ensures begins { IfErr result (λ _. BeginsMerge instruments.now window start a.now b.now s.now
+        × PrintsMerge (channel_in plan) (records_in feeds) text (standing_in summary)) }
+    ensures begins { IfErr result (λ _. BeginsMerge (channel_in plan) (records_in feeds)
         (W.taken writer.old) (W.taken writer.new)) }
     ensures written { IfOk result (λ summary. HasCounted (W.taken writer.old) (W.taken writer.new) summary.written) }
     ensures told { IfErr result (λ fault. HasCounted (W.taken writer.old) (W.taken writer.new) (written_before fault)) }
@@ -308,27 +272,13 @@ where
     ensures failed { FailsBy result (W.failed writer.old) (W.failed writer.new) }
 {
     let mut board = None;
-    let outcome = run_where(
-        rt,
-        &Always,
-        alloc,
-        instruments,
-        a,
-        b,
-        s,
-        workers,
-        window,
-        start,
-        gate,
-        &mut board,
-        writer,
-    );
+    let outcome = run_where(rt, &Always, alloc, plan, feeds, gate, &mut board, writer);
     let None = board else { unreachable!() };
     outcome
 }
 
 /// Runs as [`run`] does, and publishes on a board with a slot for each listed security, in listed order: one step for each event end,
-/// with the rows of what is printed there, and one for each jump. A step is published behind the write of its lines. Hands the
+/// with the rows of what is printed there, and one for each jump. A step is published after the write of its lines. Hands the
 /// publisher back, also with an error.
 ///
 /// # Errors
@@ -338,13 +288,8 @@ where
 pub fn run_published<R, G, W, A>(
     rt: &R,
     alloc: A,
-    instruments: &[Instrument],
-    a: &[Record<A>],
-    b: &[Record<A>],
-    s: &[Record<A>],
-    workers: u16,
-    window: u32,
-    start: Start,
+    plan: RunPlan<'_>,
+    feeds: Feeds<'_, A>,
     gate: &G,
     publisher: Publisher<A>,
     writer: &mut W,
@@ -355,37 +300,21 @@ where
     W: CountedWrite,
     A: Allocator + Copy + Send + Sync,
     requires sound { W.failed writer.old < 2 ^ 64 - 1 }
-    requires fit { AreFit instruments.now }
-    requires least { 1 ≤ window }
-    requires most { window ≤ 65536 }
-    requires some_workers { 1 ≤ workers }
+    requires lawful { IsLawful plan }
+    requires some_workers { 1 ≤ plan.workers }
     ensures board { result.0.board ≡ publisher.board }
     ensures text { IfOk result.1 (λ summary. (text : List ℕ) × (steps : List Step)
         × (W.taken writer.new ≡ W.taken writer.old ++ text) × (result.0 ≡ record publisher { steps = publisher.steps ++ steps })
-        × PublishesMerge instruments.now window start a.now b.now s.now text summary.next summary.lost steps) }
+        × PublishesMerge (channel_in plan) (records_in feeds) text (standing_in summary) steps) }
     ensures begins { IfErr result.1 (λ _. (steps : List Step) × (result.0 ≡ record publisher { steps = publisher.steps ++ steps })
-        × BeginsToPublishMerge instruments.now window start a.now b.now s.now (W.taken writer.old) (W.taken writer.new) steps) }
+        × BeginsToPublishMerge (channel_in plan) (records_in feeds) (W.taken writer.old) (W.taken writer.new) steps) }
     ensures written { IfOk result.1 (λ summary. HasCounted (W.taken writer.old) (W.taken writer.new) summary.written) }
     ensures told { IfErr result.1 (λ fault. HasCounted (W.taken writer.old) (W.taken writer.new) (written_before fault)) }
     ensures range { IfOk result.1 (λ summary. IsNextNumber summary.next) }
     ensures failed { FailsBy result.1 (W.failed writer.old) (W.failed writer.new) }
 {
     let mut board = Some(publisher);
-    let outcome = run_where(
-        rt,
-        &Always,
-        alloc,
-        instruments,
-        a,
-        b,
-        s,
-        workers,
-        window,
-        start,
-        gate,
-        &mut board,
-        writer,
-    );
+    let outcome = run_where(rt, &Always, alloc, plan, feeds, gate, &mut board, writer);
     let Some(publisher) = board else {
         unreachable!()
     };

@@ -47,8 +47,8 @@ law_of_more_steps listed moves more =
     ∙ map-append step_of_moment (moments_after listed [] moves) (moments_after listed moves more)
 
 pub law_of_step_fronts : LawOfStepFronts
-law_of_step_fronts listed room from front rest =
-    let channel = channel_of listed room from in
-    let before = trace channel front in
-    let more = go_on channel front (state_at channel front) rest in
-    (map step_of_moment (moments_after listed before more), ap (λ (ms : List Move). map step_of_moment (moments_after listed [] ms)) (law_of_fronts channel front rest) ∙ law_of_more_steps listed before more)
+law_of_step_fronts channel front rest =
+    let machine = channel_of channel in
+    let before = trace machine front in
+    let more = go_on machine front (state_at machine front) rest in
+    (map step_of_moment (moments_after channel.listed before more), ap (λ (ms : List Move). map step_of_moment (moments_after channel.listed [] ms)) (law_of_fronts machine front rest) ∙ law_of_more_steps channel.listed before more)

@@ -3,10 +3,9 @@ use Rattle.std.specs.Prelude.{◌≡◌, ◌≤◌, ℕ, List, ◌++◌, map}
 use Rattle.std.specs.List.{flat_map}
 use Rattle.mdp_templates.specs.declared.instrument.Instrument.{Instrument}
 use Rattle.mdp_lanes.specs.declared.step.Step.{Step}
-use Rattle.mdp_arbiter.specs.declared.start.Start.{Start}
 use Rattle.mdp_arbiter.specs.Accepted.{Event}
-use Rattle.mdp_arbiter.specs.Channel.{channel_of}
-use Rattle.mdp_arbiter.specs.Machine.{Move, trace}
+use Rattle.mdp_arbiter.specs.Channel.{ListedChannel}
+use Rattle.mdp_arbiter.specs.Machine.{Move, moves_of}
 use Rattle.mdp_desks.specs.Moments.{Moment, moments, moments_after}
 use Rattle.mdp_desks.specs.Reports.{Report}
 use Rattle.mdp_engine.specs.Rounds.{all_rounds_in, batch_of}
@@ -28,7 +27,7 @@ LawOfMoreSteps = (listed : List Instrument) (moves more : List Move) → board_s
 
 -- the steps of a front of the events begin the steps of all
 abbrev pub LawOfStepFronts : Type 0
-LawOfStepFronts = (listed : List Instrument) (room : ℕ) (from : Start) (front rest : List Event)
+LawOfStepFronts = (channel : ListedChannel) (front rest : List Event)
     → (later : List Step)
-    × (board_steps listed (trace (channel_of listed room from) (front ++ rest))
-    ≡ board_steps listed (trace (channel_of listed room from) front) ++ later)
+    × (board_steps channel.listed (moves_of channel (front ++ rest))
+    ≡ board_steps channel.listed (moves_of channel front) ++ later)

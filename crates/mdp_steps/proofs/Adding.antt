@@ -4,10 +4,9 @@ use Rattle.std.specs.Prelude.{Result, Ok, Err}
 use Rattle.std.proofs.lemmas.List.{append-nil, map-append}
 use Rattle.std.proofs.lemmas.List.Concat.{flat_map-append}
 use Rattle.mdp_templates.specs.declared.instrument.Instrument.{Instrument}
-use Rattle.mdp_arbiter.specs.declared.start.Start.{Start}
 use Rattle.mdp_arbiter.specs.Accepted.{Event}
-use Rattle.mdp_arbiter.specs.Channel.{Channel, channel_of}
-use Rattle.mdp_arbiter.specs.Machine.{Move, go_on, first_state, state_at, trace}
+use Rattle.mdp_arbiter.specs.Channel.{Channel, ListedChannel, channel_of}
+use Rattle.mdp_arbiter.specs.Machine.{Move, first_state, go_on, moves_of, state_at, trace}
 use Rattle.mdp_arbiter.specs.Arbiter.{View, state}
 use Rattle.mdp_arbiter.specs.Standing.{StandsAt}
 use Rattle.mdp_arbiter.proofs.Runs.{law_of_fronts}
@@ -114,68 +113,68 @@ module _ {A E : Type 0} (listed : List Instrument) (before : List Event) (old : 
 -- ---- batch by batch
 
 -- before any event
-pub sent_none : (listed : List Instrument) (room : ℕ) (from : Start) (v : View) → StandsAt [] v → state v ≡ first_state v.channel → v.channel ≡ channel_of listed room from → HasSentAll listed room from [] [] v
-sent_none listed room from v stands begins channel = record {
-  settled = record { stands = stands; ids = ap (λ (c : Channel). c.ids) channel; state = begins };
-  channel = channel;
+pub sent_none : (channel : ListedChannel) (v : View) → StandsAt [] v → state v ≡ first_state v.channel → v.channel ≡ channel_of channel → HasSentAll channel [] [] v
+sent_none channel v stands begins is = record {
+  settled = record { stands = stands; ids = ap (λ (c : Channel). c.ids) is; state = begins };
+  channel_is = is;
   all = refl;
 }
 
 -- the moves of the events of one batch more
-all_after : (listed : List Instrument) (room : ℕ) (from : Start) (before events : List Event) (batches : List (List Move)) (old new : View) (turns rest : List Move) → HasSentAll listed room from before batches old
-    → trace old.channel (before ++ events) ≡ trace old.channel before ++ (turns ++ rest) → trace (channel_of listed room from) (before ++ events) ≡ moves_sent batches ++ (turns ++ rest)
-all_after listed room from before events batches old new turns rest so_far front =
-    subst (λ (c : Channel). trace c (before ++ events) ≡ trace c before ++ (turns ++ rest)) so_far.channel front ∙ ap (λ (l : List Move). l ++ (turns ++ rest)) so_far.all
+all_after : (channel : ListedChannel) (before events : List Event) (batches : List (List Move)) (old new : View) (turns rest : List Move) → HasSentAll channel before batches old
+    → trace old.channel (before ++ events) ≡ trace old.channel before ++ (turns ++ rest) → moves_of channel (before ++ events) ≡ moves_sent batches ++ (turns ++ rest)
+all_after channel before events batches old new turns rest so_far front =
+    subst (λ (c : Channel). trace c (before ++ events) ≡ trace c before ++ (turns ++ rest)) so_far.channel_is front ∙ ap (λ (l : List Move). l ++ (turns ++ rest)) so_far.all
 
 one_more : (batches : List (List Move)) (turns : List Move) → moves_sent (batches ++ turns ∷ []) ≡ moves_sent batches ++ turns
 one_more batches turns = flat_map-append (λ (ms : List Move). ms) batches (turns ∷ []) ∙ ap (λ (l : List Move). moves_sent batches ++ l) (append-nil turns)
 
 -- the turns of further events were sent as one batch more
-pub sent_more : {E : Type 0} (listed : List Instrument) (room : ℕ) (from : Start) (before events : List Event) (batches : List (List Move)) (old new : View) (turns : List Move)
-    → HasSentAll listed room from before batches old → IsFedAll {E = E} listed before events old new [] turns (Ok tt) → HasSentAll listed room from (before ++ events) (batches ++ turns ∷ []) new
-sent_more listed room from before events batches old new turns so_far fed =
+pub sent_more : {E : Type 0} (channel : ListedChannel) (before events : List Event) (batches : List (List Move)) (old new : View) (turns : List Move)
+    → HasSentAll channel before batches old → IsFedAll {E = E} channel.listed before events old new [] turns (Ok tt) → HasSentAll channel (before ++ events) (batches ++ turns ∷ []) new
+sent_more channel before events batches old new turns so_far fed =
     let made : fed.made ++ fed.rest ≡ turns = ap (λ (l : List Move). fed.made ++ l) fed.whole.0 ∙ append-nil fed.made ∙ sym fed.appended in
     record {
       settled = fed.whole.1;
-      channel = fed.whole.2 ∙ so_far.channel;
-      all = all_after listed room from before events batches old new fed.made fed.rest so_far fed.front ∙ ap (λ (l : List Move). moves_sent batches ++ l) made ∙ sym (one_more batches turns);
+      channel_is = fed.whole.2 ∙ so_far.channel_is;
+      all = all_after channel before events batches old new fed.made fed.rest so_far fed.front ∙ ap (λ (l : List Move). moves_sent batches ++ l) made ∙ sym (one_more batches turns);
     }
 
 -- further events added no move, and no batch was sent
-pub sent_as_before : {E : Type 0} (listed : List Instrument) (room : ℕ) (from : Start) (before events : List Event) (batches : List (List Move)) (old new : View) (turns : List Move)
-    → HasSentAll listed room from before batches old → IsFedAll {E = E} listed before events old new [] turns (Ok tt) → turns ≡ [] → HasSentAll listed room from (before ++ events) batches new
-sent_as_before listed room from before events batches old new turns so_far fed none =
-    let more = sent_more listed room from before events batches old new turns so_far fed in
+pub sent_as_before : {E : Type 0} (channel : ListedChannel) (before events : List Event) (batches : List (List Move)) (old new : View) (turns : List Move)
+    → HasSentAll channel before batches old → IsFedAll {E = E} channel.listed before events old new [] turns (Ok tt) → turns ≡ [] → HasSentAll channel (before ++ events) batches new
+sent_as_before channel before events batches old new turns so_far fed none =
+    let more = sent_more channel before events batches old new turns so_far fed in
     record {
       settled = more.settled;
-      channel = more.channel;
+      channel_is = more.channel_is;
       all = more.all ∙ one_more batches turns ∙ ap (λ (l : List Move). moves_sent batches ++ l) none ∙ append-nil (moves_sent batches);
     }
 
 -- the arbiter's state is the machine's
-pub state_there : (listed : List Instrument) (room : ℕ) (from : Start) (events : List Event) (batches : List (List Move)) (v : View) → HasSentAll listed room from events batches v → state v ≡ state_at (channel_of listed room from) events
-state_there listed room from events batches v sent = sent.settled.state ∙ ap (λ (c : Channel). state_at c events) sent.channel
+pub state_there : (channel : ListedChannel) (events : List Event) (batches : List (List Move)) (v : View) → HasSentAll channel events batches v → state v ≡ state_at (channel_of channel) events
+state_there channel events batches v sent = sent.settled.state ∙ ap (λ (c : Channel). state_at c events) sent.channel_is
 
 -- at the end, where all went well
-pub all_sent : {X E : Type 0} (listed : List Instrument) (room : ℕ) (from : Start) (events : List Event) (batches : List (List Move)) (v : View) (x : X) → HasSentAll listed room from events batches v → AreSent {X = X} {E = E} listed room from events batches (Ok x)
-all_sent listed room from events batches v x sent = record { rest = []; front = sent.all ∙ sym (append-nil (moves_sent batches)); whole = refl }
+pub all_sent : {X E : Type 0} (channel : ListedChannel) (events : List Event) (batches : List (List Move)) (v : View) (x : X) → HasSentAll channel events batches v → AreSent {X = X} {E = E} channel events batches (Ok x)
+all_sent channel events batches v x sent = record { rest = []; front = sent.all ∙ sym (append-nil (moves_sent batches)); whole = refl }
 
 -- Where all were sent before, what was sent begins the moves of all events, whatever came then: want of memory in the midst
 -- of further events, or before their turns were sent.
-pub some_sent : {X E : Type 0} (listed : List Instrument) (room : ℕ) (from : Start) (before more : List Event) (batches : List (List Move)) (v : View) (x : E) → HasSentAll listed room from before batches v → AreSent {X = X} listed room from (before ++ more) batches (Err x)
-some_sent listed room from before more batches v x sent =
-    let channel = channel_of listed room from in
-    let rest = go_on channel before (state_at channel before) more in
-    record { rest = rest; front = law_of_fronts channel before more ∙ ap (λ (l : List Move). l ++ rest) sent.all; whole = tt }
+pub some_sent : {X E : Type 0} (channel : ListedChannel) (before more : List Event) (batches : List (List Move)) (v : View) (x : E) → HasSentAll channel before batches v → AreSent {X = X} channel (before ++ more) batches (Err x)
+some_sent channel before more batches v x sent =
+    let machine = channel_of channel in
+    let rest = go_on machine before (state_at machine before) more in
+    record { rest = rest; front = law_of_fronts machine before more ∙ ap (λ (l : List Move). l ++ rest) sent.all; whole = tt }
 
 -- further events only add to what is missing
-pub sent_no_more : {X E Y F : Type 0} (listed : List Instrument) (room : ℕ) (from : Start) (events more : List Event) (batches : List (List Move)) (x : E) (y : F) → AreSent {X = X} listed room from events batches (Err x)
-    → AreSent {X = Y} listed room from (events ++ more) batches (Err y)
-sent_no_more listed room from events more batches x y sent =
-    let channel = channel_of listed room from in
-    let further = go_on channel events (state_at channel events) more in
+pub sent_no_more : {X E Y F : Type 0} (channel : ListedChannel) (events more : List Event) (batches : List (List Move)) (x : E) (y : F) → AreSent {X = X} channel events batches (Err x)
+    → AreSent {X = Y} channel (events ++ more) batches (Err y)
+sent_no_more channel events more batches x y sent =
+    let machine = channel_of channel in
+    let further = go_on machine events (state_at machine events) more in
     record {
       rest = sent.rest ++ further;
-      front = law_of_fronts channel events more ∙ ap (λ (l : List Move). l ++ further) sent.front ∙ append_assoc (moves_sent batches) sent.rest further;
+      front = law_of_fronts machine events more ∙ ap (λ (l : List Move). l ++ further) sent.front ∙ append_assoc (moves_sent batches) sent.rest further;
       whole = tt;
     }

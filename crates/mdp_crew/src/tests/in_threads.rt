@@ -8,8 +8,8 @@ use crate::starts::Starts;
 use crate::stop::Stop;
 use crate::tests::channel::{Came, handed_over};
 use crate::tests::writer::slow_writer;
-use crate::{CrewOutcome, Standing};
-use mdp_arbiter::Start;
+use crate::{CrewOutcome, RunPlan};
+use mdp_arbiter::{Standing, Start};
 use mdp_templates::{Instrument, Memory, are_fit};
 use std::alloc::{Allocator, Global};
 use std::sync::{OnceLock, Wait};
@@ -63,10 +63,12 @@ where
         starts,
         alloc,
         gate,
-        listed,
-        workers,
-        4,
-        Start::FromOne,
+        RunPlan {
+            instruments: listed,
+            window: 4,
+            start: Start::FromOne,
+            workers,
+        },
         receiver,
         &mut board,
         &mut kept,

@@ -3,7 +3,7 @@
 ghost use Rattle.std.specs.Prelude.{◌≡◌, ◌≤◌, []};
 ghost use Rattle.mdp_templates.specs.Instrument.{AreFit};
 
-use crate::arbiter::{Standing, arbitrate};
+use crate::arbiter::arbitrate;
 use crate::collector::collect;
 use crate::crew::{AnswersOrders, Post};
 use crate::gate::Open;
@@ -12,7 +12,7 @@ use crate::stop::Stop;
 use crate::tests::channel::{Came, handed_over};
 use crate::tests::writer::slow_writer;
 use crate::worker::work;
-use mdp_arbiter::{Arbiter, Start};
+use mdp_arbiter::{Arbiter, Standing, Start};
 use mdp_lanes::{Lane, LaneReceiver, LaneSender};
 use mdp_reports::{BoardSteps, Collector};
 use mdp_templates::{Instrument, Memory, are_fit};

@@ -1,11 +1,11 @@
 //! A crew in threads that publishes on a board, and what a reader sees once it has ended.
 
-use crate::CrewOutcome;
 use crate::gate::Open;
 use crate::running::run_crew;
 use crate::starts::Always;
 use crate::tests::channel::{Came, handed_over};
 use crate::tests::writer::slow_writer;
+use crate::{CrewOutcome, RunPlan};
 use mdp_arbiter::Start;
 use mdp_lanes::{Board, Row};
 use mdp_quotes::Total;
@@ -120,10 +120,12 @@ where
         &Always,
         alloc,
         &Open,
-        listed,
-        workers,
-        4,
-        Start::FromOne,
+        RunPlan {
+            instruments: listed,
+            window: 4,
+            start: Start::FromOne,
+            workers,
+        },
         receiver,
         &mut board,
         &mut kept,

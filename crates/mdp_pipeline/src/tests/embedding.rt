@@ -4,11 +4,12 @@
 ghost use Rattle.std.specs.Prelude.{◌≡◌, ◌≤◌, IfSome};
 ghost use Rattle.mdp_lanes.specs.Boards.{IsFreshReader};
 
+use crate::feeds::Feeds;
 use crate::summary::{RunFault, Summary};
 use crate::threads::{run, run_published};
 use mdp_arbiter::Start;
 use mdp_capture::{CountingReader, read_capture};
-use mdp_crew::Open;
+use mdp_crew::{Open, RunPlan};
 use mdp_lanes::{Board, Publisher, Reader, Row};
 use mdp_print::CountedWrite;
 use mdp_quotes::Total;
@@ -85,13 +86,13 @@ where
     let outcome = run(
         rt,
         heap,
-        capture.instruments(),
-        capture.a(),
-        capture.b(),
-        capture.s(),
-        2,
-        1024,
-        Start::FromOne,
+        RunPlan {
+            instruments: capture.instruments(),
+            window: 1024,
+            start: Start::FromOne,
+            workers: 2,
+        },
+        Feeds::of(&capture),
         &Open,
         &mut kept,
     );
@@ -156,13 +157,13 @@ where
     let (mut publisher, outcome) = run_published(
         rt,
         heap,
-        capture.instruments(),
-        capture.a(),
-        capture.b(),
-        capture.s(),
-        2,
-        1024,
-        Start::FromOne,
+        RunPlan {
+            instruments: capture.instruments(),
+            window: 1024,
+            start: Start::FromOne,
+            workers: 2,
+        },
+        Feeds::of(&capture),
         &Open,
         publisher,
         &mut kept,

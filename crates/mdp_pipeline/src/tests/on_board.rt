@@ -3,12 +3,13 @@
 ghost use Rattle.std.specs.Prelude.{◌≡◌, ◌≤◌, IfSome};
 ghost use Rattle.mdp_lanes.specs.Boards.{IsFreshReader};
 
+use crate::feeds::Feeds;
 use crate::summary::{RunFault, Summary};
 use crate::tests::Kept;
 use crate::threads::run_published;
 use mdp_arbiter::Start;
 use mdp_capture::{CountingReader, read_capture};
-use mdp_crew::Open;
+use mdp_crew::{Open, RunPlan};
 use mdp_lanes::{Board, Publisher, Reader, Row};
 use mdp_quotes::Total;
 use refusing::Refusing;
@@ -110,13 +111,13 @@ where
     let (mut publisher, outcome) = run_published(
         rt,
         heap,
-        capture.instruments(),
-        capture.a(),
-        capture.b(),
-        capture.s(),
-        workers,
-        window,
-        Start::FromOne,
+        RunPlan {
+            instruments: capture.instruments(),
+            window,
+            start: Start::FromOne,
+            workers,
+        },
+        Feeds::of(&capture),
         &Open,
         publisher,
         &mut kept,

@@ -1,10 +1,11 @@
 //! A reader that is held back holds back the others: what came on its feed alone is not given up, and a close comes where it stands.
 
+use crate::feeds::Feeds;
 use crate::summary::Summary;
 use crate::threads::run;
 use mdp_arbiter::Start;
 use mdp_capture::{CountingReader, read_capture};
-use mdp_crew::Gate;
+use mdp_crew::{Gate, RunPlan};
 use mdp_templates::Memory;
 use std::alloc::Global;
 use std::process::Abort;
@@ -77,13 +78,13 @@ fn standing<R: Threads + Wait + Sync>(rt: &R, alloc: Global, close: u16) -> Opti
     let outcome = run(
         rt,
         alloc,
-        capture.instruments(),
-        capture.a(),
-        capture.b(),
-        capture.s(),
-        2,
-        WINDOW,
-        Start::FromOne,
+        RunPlan {
+            instruments: capture.instruments(),
+            window: WINDOW,
+            start: Start::FromOne,
+            workers: 2,
+        },
+        Feeds::of(&capture),
         &SlowA,
         &mut kept,
     );

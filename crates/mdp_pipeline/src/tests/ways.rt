@@ -3,12 +3,13 @@
 ghost use Rattle.std.specs.Prelude.{◌<◌, ◌≤◌, ◌-◌, ◌^◌};
 ghost use Rattle.mdp_templates.specs.Instrument.{AreFit};
 
+use crate::feeds::Feeds;
 use crate::in_order::run_in_order;
 use crate::summary::{RunFault, Summary};
 use crate::threads::{run, run_published};
 use mdp_arbiter::Start;
 use mdp_capture::{Capture, CountingReader, read_capture};
-use mdp_crew::Open;
+use mdp_crew::{Open, RunPlan};
 use mdp_lanes::Board;
 use std::alloc::Allocator;
 use std::sync::Wait;
@@ -110,13 +111,13 @@ where
     let (publisher, outcome) = run_published(
         rt,
         alloc,
-        instruments,
-        capture.a(),
-        capture.b(),
-        capture.s(),
-        workers,
-        window,
-        start,
+        RunPlan {
+            instruments,
+            window,
+            start,
+            workers,
+        },
+        Feeds::of(capture),
         &Open,
         publisher,
         kept,
@@ -145,28 +146,19 @@ where
     let Ok(capture) = read_capture(alloc, &mut input) else {
         return None;
     };
-    let instruments = capture.instruments();
+    let plan = RunPlan {
+        instruments: capture.instruments(),
+        window: row.window,
+        start: row.start,
+        workers: 1,
+    };
     match way {
-        Way::InOrder => Some(run_in_order(
-            alloc,
-            instruments,
-            capture.a(),
-            capture.b(),
-            capture.s(),
-            row.window,
-            row.start,
-            kept,
-        )),
+        Way::InOrder => Some(run_in_order(alloc, plan, Feeds::of(&capture), kept)),
         Way::Threads(workers) if workers >= 1 && workers <= 16 => Some(run(
             rt,
             alloc,
-            instruments,
-            capture.a(),
-            capture.b(),
-            capture.s(),
-            workers,
-            row.window,
-            row.start,
+            RunPlan { workers, ..plan },
+            Feeds::of(&capture),
             &Open,
             kept,
         )),

@@ -7,7 +7,7 @@ loop-preserved g c =
     let one = c.in_ok-take_batch.ensures in
     record {
       takes = takes_more c.args.receiver.now c.loop.receiver c.take_batch.new.receiver so_far.takes one.takes;
-      sends = λ listed room from first start. one.sends listed room from first (so_far.sends listed room from first start);
+      sends = λ channel first start. one.sends channel first (so_far.sends channel first start);
     }
 
 pub returns-in_err-take_batch-clause-takes : goal.returns-in_err-take_batch-clause-takes

@@ -8,5 +8,5 @@ use Rattle.mdp_engine.proofs.engine.replay.Given as goal
 abbrev pub invariant-loop-event : goal.invariant-loop-event
 invariant-loop-event g l = record {
   stands : Stands l.instruments (map event_of (take l.event-index l.events)) [] l.engine;
-  channel : l.engine.arbiter.channel ≡ channel_of l.instruments (g.W.Window.view l.fn.window).room l.fn.start;
+  channel : l.engine.arbiter.channel ≡ channel_of (record { listed = l.instruments; room = (g.W.Window.view l.fn.window).room; start = l.fn.start });
 }

@@ -1,6 +1,7 @@
 use Rattle.std.proofs.Common.{◌∙◌, refl}
 use Rattle.std.proofs.lemmas.Result.{err_from_is_err_and}
-use Rattle.mdp_pipeline.specs.Merge.{in_order}
+use Rattle.mdp_crew.specs.Plan.{channel_in}
+use Rattle.mdp_pipeline.specs.Merge.{in_order, records_in}
 use Rattle.mdp_pipeline.proofs.Written.{taken_none, taken_more, taken_all, run_begins, run_printed, run_counted, fault_counted, counted_none}
 use Rattle.mdp_pipeline.proofs.Beginnings.{begins_none, taken_begins, piece_begins}
 use Rattle.mdp_pipeline.proofs.Ending.{writes_on}
@@ -12,21 +13,20 @@ loop-feed-init g c =
     let run = c.in-Ok.run' in
     let start = g.W.CountedWrite.taken c.args.writer.now in
     record {
-      taken = taken_none c.args.instruments.now c.args.window c.args.start c.args.a.now c.args.b.now c.args.s.now start run.engine run.refusals c.in-Ok.ensures.run;
+      taken = taken_none (channel_in c.args.plan) (records_in c.args.feeds) start run.engine run.refusals c.in-Ok.ensures.run;
       counts = counted_none start;
       failed = refl;
     }
 
 pub loop-feed-preserved : goal.loop-feed-preserved
 loop-feed-preserved g c =
-    let listed = c.args.instruments.now in
     let start = g.W.CountedWrite.taken c.args.writer.now in
-    let here = c.loop-feed.records in
-    let there = c.next.new.self in
+    let here = c.loop-feed.feeds in
+    let there = c.next_by_line.new.self in
     record {
-      taken = taken_more listed c.args.window c.args.start c.args.a.now c.args.b.now c.args.s.now start (g.W.CountedWrite.taken c.loop-feed.writer) (g.W.CountedWrite.taken c.hand_on_pieces.new.writer)
-          c.loop-feed.run c.take.new.self c.hand_on_pieces.new.run here.a.now here.b.now here.s.now there.a.now there.b.now there.s.now c.in-Some.feed c.in-Some.record.now
-          c.in-Some.ensures c.in-Ok-take.ensures (λ arrivals. writes_on listed c.args.window c.args.start arrivals start (g.W.CountedWrite.taken c.loop-feed.writer) (g.W.CountedWrite.taken c.hand_on_pieces.new.writer) c.take.new.self c.hand_on_pieces.new.run c.in_ok-hand_on_pieces.ensures.hands_on) c.loop-feed.invariant.taken;
+      taken = taken_more (channel_in c.args.plan) (records_in c.args.feeds) start (g.W.CountedWrite.taken c.loop-feed.writer) (g.W.CountedWrite.taken c.hand_on_pieces.new.writer)
+          c.loop-feed.run c.take.new.self c.hand_on_pieces.new.run (records_in here) (records_in there) c.in-Some.feed c.in-Some.record.now
+          c.in-Some.ensures c.in-Ok-take.ensures (λ arrivals. writes_on (channel_in c.args.plan) arrivals start (g.W.CountedWrite.taken c.loop-feed.writer) (g.W.CountedWrite.taken c.hand_on_pieces.new.writer) c.take.new.self c.hand_on_pieces.new.run c.in_ok-hand_on_pieces.ensures.hands_on) c.loop-feed.invariant.taken;
       counts = c.in_ok-hand_on_pieces.ensures.counts start c.loop-feed.invariant.counts;
       failed = c.in_ok-hand_on_pieces.ensures.failed ∙ c.loop-feed.invariant.failed;
     }
@@ -43,14 +43,13 @@ returns-in_err-hand_on_pieces-clause-failed g c =
 
 pub returns-clause-text : goal.returns-clause-text
 returns-clause-text g c =
-    let listed = c.args.instruments.now in
     let start = g.W.CountedWrite.taken c.args.writer.now in
     let taken = g.W.CountedWrite.taken c.loop-feed.writer in
     let run = c.loop-feed.run in
-    let here = c.loop-feed.records in
-    let writes = taken_all listed c.args.window c.args.start c.args.a.now c.args.b.now c.args.s.now start taken run.engine run.refusals here.a.now here.b.now here.s.now c.in_default-next.ensures c.loop-feed.invariant.taken in
-    ended_by_line listed c.args.window c.args.start c.args.a.now c.args.b.now c.args.s.now start (g.W.CountedWrite.taken c.finish.new.writer) c.finish.result
-    (run_printed listed c.args.window c.args.start (in_order c.args.a.now c.args.b.now c.args.s.now) start taken (g.W.CountedWrite.taken c.finish.new.writer) run.engine run.refusals c.finish.result c.finish.ensures.text writes)
+    let here = c.loop-feed.feeds in
+    let writes = taken_all (channel_in c.args.plan) (records_in c.args.feeds) start taken run.engine run.refusals (records_in here) c.in_default-next_by_line.ensures c.loop-feed.invariant.taken in
+    ended_by_line (channel_in c.args.plan) (records_in c.args.feeds) start (g.W.CountedWrite.taken c.finish.new.writer) c.finish.result
+    (run_printed (channel_in c.args.plan) (in_order (records_in c.args.feeds)) start taken (g.W.CountedWrite.taken c.finish.new.writer) run.engine run.refusals c.finish.result c.finish.ensures.text writes)
 
 pub returns-clause-written : goal.returns-clause-written
 returns-clause-written g c =
@@ -63,38 +62,37 @@ returns-clause-told g c =
 -- no run was made
 pub returns-in_default-clause-begins : goal.returns-in_default-clause-begins
 returns-in_default-clause-begins g c =
-    begins_by_line c.args.instruments.now c.args.window c.args.start c.args.a.now c.args.b.now c.args.s.now (g.W.CountedWrite.taken c.args.writer.now) (g.W.CountedWrite.taken c.args.writer.now)
-    (begins_none c.args.instruments.now c.args.window c.args.start (in_order c.args.a.now c.args.b.now c.args.s.now) (g.W.CountedWrite.taken c.args.writer.now))
+    begins_by_line (channel_in c.args.plan) (records_in c.args.feeds) (g.W.CountedWrite.taken c.args.writer.now) (g.W.CountedWrite.taken c.args.writer.now)
+    (begins_none (channel_in c.args.plan) (in_order (records_in c.args.feeds)) (g.W.CountedWrite.taken c.args.writer.now))
 
 -- a record was not taken
 pub returns-in_default-take-clause-begins : goal.returns-in_default-take-clause-begins
 returns-in_default-take-clause-begins g c =
     let run = c.loop-feed.run in
-    let here = c.loop-feed.records in
-    begins_by_line c.args.instruments.now c.args.window c.args.start c.args.a.now c.args.b.now c.args.s.now (g.W.CountedWrite.taken c.args.writer.now) (g.W.CountedWrite.taken c.loop-feed.writer)
-    (taken_begins c.args.instruments.now c.args.window c.args.start c.args.a.now c.args.b.now c.args.s.now (g.W.CountedWrite.taken c.args.writer.now) (g.W.CountedWrite.taken c.loop-feed.writer)
-    run.engine run.refusals here.a.now here.b.now here.s.now c.loop-feed.invariant.taken)
+    let here = c.loop-feed.feeds in
+    begins_by_line (channel_in c.args.plan) (records_in c.args.feeds) (g.W.CountedWrite.taken c.args.writer.now) (g.W.CountedWrite.taken c.loop-feed.writer)
+    (taken_begins (channel_in c.args.plan) (records_in c.args.feeds) (g.W.CountedWrite.taken c.args.writer.now) (g.W.CountedWrite.taken c.loop-feed.writer)
+    run.engine run.refusals (records_in here) c.loop-feed.invariant.taken)
 
 -- a write of a piece failed
 pub returns-in_err-hand_on_pieces-clause-begins : goal.returns-in_err-hand_on_pieces-clause-begins
 returns-in_err-hand_on_pieces-clause-begins g c =
     let fault = err_from_is_err_and c.from_residual.result c.from_residual.ensures.1 in
-    let here = c.loop-feed.records in
-    let there = c.next.new.self in
+    let here = c.loop-feed.feeds in
+    let there = c.next_by_line.new.self in
     let front = c.in_err-hand_on_pieces.ensures.begins in
     rw fault.1
-    (begins_by_line c.args.instruments.now c.args.window c.args.start c.args.a.now c.args.b.now c.args.s.now (g.W.CountedWrite.taken c.args.writer.now) (g.W.CountedWrite.taken c.hand_on_pieces.new.writer)
-    (piece_begins c.args.instruments.now c.args.window c.args.start c.args.a.now c.args.b.now c.args.s.now (g.W.CountedWrite.taken c.args.writer.now) (g.W.CountedWrite.taken c.loop-feed.writer) (g.W.CountedWrite.taken c.hand_on_pieces.new.writer)
-    c.loop-feed.run c.take.new.self here.a.now here.b.now here.s.now there.a.now there.b.now there.s.now c.in-Some.feed c.in-Some.record.now front.0
+    (begins_by_line (channel_in c.args.plan) (records_in c.args.feeds) (g.W.CountedWrite.taken c.args.writer.now) (g.W.CountedWrite.taken c.hand_on_pieces.new.writer)
+    (piece_begins (channel_in c.args.plan) (records_in c.args.feeds) (g.W.CountedWrite.taken c.args.writer.now) (g.W.CountedWrite.taken c.loop-feed.writer) (g.W.CountedWrite.taken c.hand_on_pieces.new.writer)
+    c.loop-feed.run c.take.new.self (records_in here) (records_in there) c.in-Some.feed c.in-Some.record.now front.0
     c.in-Some.ensures c.in-Ok-take.ensures front.1 c.loop-feed.invariant.taken))
 
 pub returns-clause-begins : goal.returns-clause-begins
 returns-clause-begins g c =
-    let listed = c.args.instruments.now in
     let start = g.W.CountedWrite.taken c.args.writer.now in
     let taken = g.W.CountedWrite.taken c.loop-feed.writer in
     let run = c.loop-feed.run in
-    let here = c.loop-feed.records in
-    let writes = taken_all listed c.args.window c.args.start c.args.a.now c.args.b.now c.args.s.now start taken run.engine run.refusals here.a.now here.b.now here.s.now c.in_default-next.ensures c.loop-feed.invariant.taken in
-    failed_by_line listed c.args.window c.args.start c.args.a.now c.args.b.now c.args.s.now start (g.W.CountedWrite.taken c.finish.new.writer) c.finish.result
-    (run_begins listed c.args.window c.args.start (in_order c.args.a.now c.args.b.now c.args.s.now) start taken (g.W.CountedWrite.taken c.finish.new.writer) run.engine run.refusals c.finish.result c.finish.ensures.begins writes)
+    let here = c.loop-feed.feeds in
+    let writes = taken_all (channel_in c.args.plan) (records_in c.args.feeds) start taken run.engine run.refusals (records_in here) c.in_default-next_by_line.ensures c.loop-feed.invariant.taken in
+    failed_by_line (channel_in c.args.plan) (records_in c.args.feeds) start (g.W.CountedWrite.taken c.finish.new.writer) c.finish.result
+    (run_begins (channel_in c.args.plan) (in_order (records_in c.args.feeds)) start taken (g.W.CountedWrite.taken c.finish.new.writer) run.engine run.refusals c.finish.result c.finish.ensures.begins writes)

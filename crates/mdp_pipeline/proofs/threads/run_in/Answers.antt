@@ -1,5 +1,8 @@
 use Rattle.mdp_templates.specs.declared.feed.Feed.TheVariants as Feed
+use Rattle.mdp_crew.specs.Plan.{channel_in}
+use Rattle.mdp_pipeline.specs.Merge.{records_in}
 use Rattle.mdp_pipeline.proofs.Joining.{begins_nothing, map_err, map_ok, none_failed, read_for}
+use Rattle.mdp_pipeline.proofs.Written.{counted_none}
 use Rattle.mdp_pipeline.proofs.threads.run_in.Goals as goal
 
 pub settle_and_finish-requires-clause-sound : goal.settle_and_finish-requires-clause-sound
@@ -8,37 +11,44 @@ settle_and_finish-requires-clause-sound g c =
 
 pub settle_and_finish-requires-clause-a : goal.settle_and_finish-requires-clause-a
 settle_and_finish-requires-clause-a g c =
-    read_for c.in-Ok.receiver c.run_crew-crew.result.receiver Feed.A c.args.a.now c.in-Ok.to_a c.join_reader.result
-    c.run_crew-crew.ensures.takes c.in-Ok.ensures.a (c.join_reader.ensures Feed.A c.args.a.now c.in-Ok.to_a c.begin_reader-reads_a.ensures)
+    read_for c.in-Ok.receiver c.run_crew-crew.result.receiver Feed.A c.args.feeds.a.now c.in-Ok.to_a c.join_reader.result
+    c.run_crew-crew.ensures.takes c.in-Ok.ensures.a (c.join_reader.ensures Feed.A c.args.feeds.a.now c.in-Ok.to_a c.begin_reader-reads_a.ensures)
 
 pub settle_and_finish-requires-clause-b : goal.settle_and_finish-requires-clause-b
 settle_and_finish-requires-clause-b g c =
-    read_for c.in-Ok.receiver c.run_crew-crew.result.receiver Feed.B c.args.b.now c.in-Ok.to_b c.join_reader-2.result
-    c.run_crew-crew.ensures.takes c.in-Ok.ensures.b (c.join_reader-2.ensures Feed.B c.args.b.now c.in-Ok.to_b c.begin_reader-reads_b.ensures)
+    read_for c.in-Ok.receiver c.run_crew-crew.result.receiver Feed.B c.args.feeds.b.now c.in-Ok.to_b c.join_reader-2.result
+    c.run_crew-crew.ensures.takes c.in-Ok.ensures.b (c.join_reader-2.ensures Feed.B c.args.feeds.b.now c.in-Ok.to_b c.begin_reader-reads_b.ensures)
 
 pub settle_and_finish-requires-clause-s : goal.settle_and_finish-requires-clause-s
 settle_and_finish-requires-clause-s g c =
-    read_for c.in-Ok.receiver c.run_crew-crew.result.receiver Feed.S c.args.s.now c.in-Ok.to_s c.join_reader-3.result
-    c.run_crew-crew.ensures.takes c.in-Ok.ensures.s (c.join_reader-3.ensures Feed.S c.args.s.now c.in-Ok.to_s c.begin_reader-reads_s.ensures)
+    read_for c.in-Ok.receiver c.run_crew-crew.result.receiver Feed.S c.args.feeds.s.now c.in-Ok.to_s c.join_reader-3.result
+    c.run_crew-crew.ensures.takes c.in-Ok.ensures.s (c.join_reader-3.ensures Feed.S c.args.feeds.s.now c.in-Ok.to_s c.begin_reader-reads_s.ensures)
 
-pub returns-in_default-clause-begins : goal.returns-in_default-clause-begins
-returns-in_default-clause-begins g c = begins_nothing c.args.instruments.now c.args.window c.args.start c.args.a.now c.args.b.now c.args.s.now (g.W.CountedWrite.taken c.args.writer.now) c.args.board.now
+-- nothing was begun
+pub returns-in_default-clause-ends : goal.returns-in_default-clause-ends
+returns-in_default-clause-ends g c =
+    let start = g.W.CountedWrite.taken c.args.writer.now in
+    record {
+      text = tt;
+      begins = begins_nothing (channel_in c.args.plan) (records_in c.args.feeds) start c.args.board.now;
+      written = tt;
+      told = counted_none start;
+      range = tt;
+    }
 
-pub returns-clause-text : goal.returns-clause-text
-returns-clause-text g c =
-    map_ok c.settle_and_finish.result _ _ (λ summary ends. ends c.args.instruments.now c.args.window c.args.start (g.W.CountedWrite.taken c.args.writer.now) c.args.board.now c.run_crew-crew.new.board c.run_crew-crew.ensures.shows) c.settle_and_finish.ensures.text
-
-pub returns-clause-begins : goal.returns-clause-begins
-returns-clause-begins g c =
-    map_err c.settle_and_finish.result _ _ (λ fault ends. ends c.args.instruments.now c.args.window c.args.start (g.W.CountedWrite.taken c.args.writer.now) c.args.board.now c.run_crew-crew.new.board c.run_crew-crew.ensures.shows) c.settle_and_finish.ensures.begins
-
-pub returns-clause-written : goal.returns-clause-written
-returns-clause-written g c =
-    map_ok c.settle_and_finish.result _ _ (λ summary counts. counts (g.W.CountedWrite.taken c.args.writer.now) c.run_crew-crew.ensures.counts) c.settle_and_finish.ensures.counts
-
-pub returns-clause-told : goal.returns-clause-told
-returns-clause-told g c =
-    map_err c.settle_and_finish.result _ _ (λ fault counts. counts (g.W.CountedWrite.taken c.args.writer.now) c.run_crew-crew.ensures.counts) c.settle_and_finish.ensures.told
+pub returns-clause-ends : goal.returns-clause-ends
+returns-clause-ends g c =
+    let channel = channel_in c.args.plan in
+    let start = g.W.CountedWrite.taken c.args.writer.now in
+    let shows = c.run_crew-crew.ensures.shows in
+    let result = c.settle_and_finish.result in
+    record {
+      text = map_ok result _ _ (λ summary ends. ends channel start c.args.board.now c.run_crew-crew.new.board shows) c.settle_and_finish.ensures.text;
+      begins = map_err result _ _ (λ fault ends. ends channel start c.args.board.now c.run_crew-crew.new.board shows) c.settle_and_finish.ensures.begins;
+      written = map_ok result _ _ (λ summary counts. counts start c.run_crew-crew.ensures.counts) c.settle_and_finish.ensures.counts;
+      told = map_err result _ _ (λ fault counts. counts start c.run_crew-crew.ensures.counts) c.settle_and_finish.ensures.told;
+      range = c.settle_and_finish.ensures.range;
+    }
 
 pub returns-clause-failed : goal.returns-clause-failed
 returns-clause-failed g c = c.settle_and_finish.ensures.failed (g.W.CountedWrite.failed c.args.writer.now) c.run_crew-crew.ensures.failed

@@ -1,17 +1,20 @@
-//! The records of the three feeds in the order of the capture's lines.
+//! The records of a channel's feeds, and which of them comes next in the order of the capture's lines.
 
 ghost use Rattle.std.specs.Prelude.{◌≡◌, [], ◌∷◌, MatchOption};
-ghost use Rattle.mdp_pipeline.specs.Merge.{first_feed, head_line, in_order, is_first};
+ghost use Rattle.mdp_pipeline.specs.Merge.{first_feed, head_line, in_order, is_first, records_in, records_of};
 
-use mdp_capture::Record;
+use mdp_capture::{Capture, Record};
 use mdp_templates::Feed;
 use std::alloc::Allocator;
 
-/// The records that are left of each feed.
+/// The records of a channel's feeds, each list in the order of the capture's lines.
 #[derive(Drop)]
-pub struct InOrder<'a, A: Allocator> {
+pub struct Feeds<'a, A: Allocator> {
+    /// Incremental feed A.
     pub a: &'a [Record<A>],
+    /// Incremental feed B.
     pub b: &'a [Record<A>],
+    /// The snapshot feed.
     pub s: &'a [Record<A>],
 }
 
@@ -36,10 +39,21 @@ fn goes_first(line: Option<u32>, other: Option<u32>) -> bool
     }
 }
 
-impl<'a, A: Allocator> InOrder<'a, A> {
+impl<'a, A: Allocator> Feeds<'a, A> {
+    /// Lends the records of a capture.
+    pub fn of(capture: &'a Capture<A>) -> Feeds<'a, A>
+        ensures { records_in result ≡ records_of capture.now }
+    {
+        Feeds {
+            a: capture.a(),
+            b: capture.b(),
+            s: capture.s(),
+        }
+    }
+
     // Gives the feed whose first record comes next, S where no feed has one.
     fn next_feed(&self) -> Feed
-        ensures { result ≡ first_feed (head_line self.now.a.now) (head_line self.now.b.now) (head_line self.now.s.now) }
+        ensures { result ≡ first_feed (records_in self.now) }
     {
         let a = first_line(self.a);
         let b = first_line(self.b);
@@ -53,10 +67,11 @@ impl<'a, A: Allocator> InOrder<'a, A> {
     }
 
     /// Takes the record of the least line; of equal lines feed A's, then feed B's.
-    pub fn next(&mut self) -> Option<(Feed, &'a Record<A>)>
+    pub fn next_by_line(&mut self) -> Option<(Feed, &'a Record<A>)>
         ensures { MatchOption result
-            (in_order self.old.a.now self.old.b.now self.old.s.now ≡ [])
-            (λ next. in_order self.old.a.now self.old.b.now self.old.s.now ≡ record { feed = next.0; entry = next.1.now } ∷ in_order self.new.a.now self.new.b.now self.new.s.now) }
+            (in_order (records_in self.old) ≡ [])
+            (λ next. in_order (records_in self.old)
+            ≡ record { feed = next.0; entry = next.1.now } ∷ in_order (records_in self.new)) }
     {
         match self.next_feed() {
             Feed::A => {
