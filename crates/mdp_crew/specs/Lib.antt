@@ -1,3 +1,5 @@
+pub mod Fed
+pub mod Sent
 pub mod Counted
 pub mod Stops
 pub mod Orders

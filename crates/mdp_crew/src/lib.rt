@@ -6,12 +6,14 @@ mod arbiter;
 mod batch;
 mod collector;
 mod crew;
+mod feeding;
 mod gate;
 mod last_orders;
 mod order;
 mod publishing;
 mod running;
 mod starts;
+mod steps;
 mod stop;
 #[cfg(test)]
 mod tests;

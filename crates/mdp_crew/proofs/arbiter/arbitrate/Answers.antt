@@ -1,7 +1,7 @@
 use Rattle.std.proofs.Common.{◌≡◌, [], ◌∷◌, ap, ◌∙◌, length, map, arith}
 use Rattle.std.proofs.lemmas.List.{take_at}
 use Rattle.mdp_arbiter.specs.Machine.{State}
-use Rattle.mdp_steps.proofs.Adding.{all_sent, state_there}
+use Rattle.mdp_crew.proofs.Adding.{all_sent, state_there}
 use Rattle.mdp_crew.specs.declared.order.Order.TheVariants.{Done}
 use Rattle.mdp_crew.specs.Batches.{events_taken}
 use Rattle.mdp_crew.specs.Orders.{and_sent}
