@@ -8,3 +8,4 @@ pub mod Snapshots
 pub mod Moves
 pub mod Standing
 pub mod Bases
+pub mod Turns

@@ -10,6 +10,7 @@ mod start;
 mod step;
 #[cfg(test)]
 mod tests;
+mod turn;
 
 pub use arbiter::{Arbiter, Standing};
 pub use laws::{
@@ -19,3 +20,4 @@ pub use laws::{
 pub use slots::Slots;
 pub use start::Start;
 pub use step::Step;
+pub use turn::Turn;

@@ -13,7 +13,7 @@ use Rattle.mdp_desks.specs.Reports.{Report}
 use Rattle.mdp_desks.proofs.Moments.{moments-append}
 use Rattle.mdp_engine.specs.RoundLaws.{Ascend}
 use Rattle.mdp_engine.specs.Rounds.{batch_of, kept_at_start}
-use Rattle.mdp_steps.specs.Sent.{moves_sent}
+use Rattle.mdp_crew.specs.Sent.{moves_sent}
 use Rattle.mdp_reports.specs.Behind.{IsBehind}
 use Rattle.mdp_reports.specs.BoardSteps.{step_of_moment}
 use Rattle.mdp_reports.specs.Taking.{View}

@@ -1,3 +1,5 @@
+pub mod Making
+pub mod Adding
 pub mod Boards
 pub mod Taking
 pub mod Settling

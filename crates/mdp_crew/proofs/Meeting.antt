@@ -14,7 +14,7 @@ use Rattle.mdp_engine.specs.RoundLaws.{Ascend}
 use Rattle.mdp_engine.specs.Rounds.{all_rounds_in, collected_text, kept_after_round, kept_at_start, round_of, round_text, rounds_in, text_from}
 use Rattle.mdp_engine.proofs.Batching.{law_of_batches, law_of_cuts}
 use Rattle.mdp_engine.proofs.Collecting.{law_of_workers}
-use Rattle.mdp_steps.specs.Sent.{moves_sent}
+use Rattle.mdp_crew.specs.Sent.{moves_sent}
 use Rattle.mdp_reports.specs.BoardSteps.{board_steps}
 use Rattle.mdp_reports.proofs.Boarding.{law_of_boards}
 use Rattle.mdp_reports.specs.Taking.{View, kept_after_rounds}

@@ -13,9 +13,9 @@ use Rattle.mdp_arbiter.specs.declared.arbiter.Standing.{Standing}
 use Rattle.mdp_arbiter.specs.Machine.{is_lost, Move, standing_after, State}
 use Rattle.mdp_lanes.specs.Queues.{IntakeReceiverView, LaneSenderView}
 use Rattle.mdp_engine.specs.Engine.{IsSettled}
-use Rattle.mdp_steps.specs.Fed.{IsFedAll}
-use Rattle.mdp_steps.specs.Sent.{HasSentAll}
-use Rattle.mdp_steps.proofs.Adding.{sent_as_before, sent_more, sent_no_more, sent_none, some_sent, state_there}
+use Rattle.mdp_crew.specs.Fed.{IsFedAll}
+use Rattle.mdp_crew.specs.Sent.{HasSentAll}
+use Rattle.mdp_crew.proofs.Adding.{sent_as_before, sent_more, sent_no_more, sent_none, some_sent, state_there}
 use Rattle.mdp_crew.specs.declared.batch.Batch.{Batch}
 use Rattle.mdp_crew.specs.declared.order.Order.{Order}
 use Rattle.mdp_crew.specs.declared.order.Order.TheVariants.{Take, Done}

@@ -11,7 +11,7 @@ use Rattle.mdp_desks.specs.Moments.{moments_after, moments_by}
 use Rattle.mdp_desks.specs.Reports.{Report, report_of}
 use Rattle.mdp_desks.specs.Shares.{is_kept_by}
 use Rattle.mdp_engine.specs.Rounds.{batch_of, numbers_from}
-use Rattle.mdp_steps.specs.Sent.{moves_sent}
+use Rattle.mdp_crew.specs.Sent.{moves_sent}
 use Rattle.mdp_reports.specs.ReportLaw.{AreFull}
 use Rattle.mdp_reports.specs.Taking.{View}
 use Rattle.mdp_reports.specs.declared.answer.Answer.{Answer}

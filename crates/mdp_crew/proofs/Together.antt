@@ -13,7 +13,7 @@ use Rattle.mdp_desks.specs.Moments.{Moment, moments, moments_after, shown_lines}
 use Rattle.mdp_desks.proofs.Moments.{moments-append}
 use Rattle.mdp_engine.specs.RoundLaws.{Ascend}
 use Rattle.mdp_engine.proofs.Ascending.{law_of_ascent}
-use Rattle.mdp_steps.specs.Sent.{moves_sent}
+use Rattle.mdp_crew.specs.Sent.{moves_sent}
 use Rattle.mdp_reports.specs.BoardSteps.{board_steps}
 use Rattle.mdp_reports.specs.Taking.{View}
 use Rattle.mdp_reports.proofs.Behind.{behind_nothing}

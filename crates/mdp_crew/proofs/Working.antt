@@ -11,7 +11,7 @@ use Rattle.mdp_desks.specs.Moments.{moments_after}
 use Rattle.mdp_desks.specs.Reports.{Report, report_of}
 use Rattle.mdp_desks.specs.Shares.{is_kept_by, own_moves, own_part, own_slots}
 use Rattle.mdp_desks.proofs.Showing.{shows_nothing}
-use Rattle.mdp_steps.specs.Sent.{moves_sent}
+use Rattle.mdp_crew.specs.Sent.{moves_sent}
 use Rattle.mdp_reports.specs.ReportLaw.{AreFull, StandBehind}
 use Rattle.mdp_reports.specs.Reporting.{desks_after_moves, reports_of_moves}
 use Rattle.mdp_reports.specs.Worker.{View}

@@ -4,7 +4,7 @@ use Rattle.mdp_templates.specs.declared.instrument.Instrument.{Instrument}
 use Rattle.mdp_lanes.specs.Queues.{LaneReceiverView, LaneSenderView}
 use Rattle.mdp_arbiter.specs.Machine.{Move}
 use Rattle.mdp_desks.specs.Shares.{is_kept_by, own_moves, own_part, own_slots}
-use Rattle.mdp_steps.specs.Sent.{moves_sent}
+use Rattle.mdp_crew.specs.Sent.{moves_sent}
 use Rattle.mdp_reports.specs.ReportLaw.{AreFull, StandBehind}
 use Rattle.mdp_reports.specs.Reporting.{desks_after_moves, reports_of_moves}
 use Rattle.mdp_reports.specs.Worker.{View}

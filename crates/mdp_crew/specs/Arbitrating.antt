@@ -7,7 +7,7 @@ use Rattle.mdp_arbiter.specs.Machine.{Move, first_state, standing_after}
 use Rattle.mdp_arbiter.specs.Standing.{StandsAt}
 use Rattle.mdp_lanes.specs.Items.{ends_taken}
 use Rattle.mdp_lanes.specs.Queues.{IntakeReceiverView, LaneSenderView}
-use Rattle.mdp_steps.specs.Sent.{AreSent, HasSentAll}
+use Rattle.mdp_crew.specs.Sent.{AreSent, HasSentAll}
 use Rattle.mdp_crew.specs.declared.arbiter.ArbiterOutcome.{ArbiterOutcome}
 use Rattle.mdp_crew.specs.declared.batch.Batch.{Batch}
 use Rattle.mdp_crew.specs.declared.order.Order.{Order}

@@ -4,7 +4,7 @@ use Rattle.std.specs.List.{AllByRecursion, AllZip}
 use Rattle.mdp_templates.specs.declared.instrument.Instrument.{Instrument}
 use Rattle.mdp_lanes.specs.Queues.{LaneSenderView}
 use Rattle.mdp_arbiter.specs.Machine.{Move}
-use Rattle.mdp_steps.specs.Sent.{moves_sent}
+use Rattle.mdp_crew.specs.Sent.{moves_sent}
 use Rattle.mdp_reports.specs.ReportLaw.{AreFull}
 use Rattle.mdp_reports.specs.declared.answer.Answer.{Answer}
 use Rattle.mdp_crew.specs.declared.crew.AnswersOrders.{AnswersOrders}

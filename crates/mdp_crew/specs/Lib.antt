@@ -1,4 +1,6 @@
 pub mod Plan
+pub mod Fed
+pub mod Sent
 pub mod Counted
 pub mod Stops
 pub mod Orders

@@ -6,7 +6,7 @@ use Rattle.mdp_arbiter.specs.Machine.{Move}
 use Rattle.mdp_desks.specs.Moments.{moments_by}
 use Rattle.mdp_desks.specs.Reports.{Report, report_of}
 use Rattle.mdp_desks.specs.Shares.{is_kept_by}
-use Rattle.mdp_steps.specs.Sent.{moves_sent}
+use Rattle.mdp_crew.specs.Sent.{moves_sent}
 use Rattle.mdp_reports.specs.ReportLaw.{AreFull}
 use Rattle.mdp_reports.specs.declared.answer.Answer.{Answer}
 use Rattle.mdp_reports.specs.declared.answer.Answer.TheVariants.{Tells, Failed, Finished}

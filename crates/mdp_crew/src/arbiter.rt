@@ -9,12 +9,12 @@ ghost use Rattle.mdp_crew.specs.Arbitrating.{HasBegun, HasSent, SendsMore, Stops
 ghost use Rattle.mdp_crew.specs.Batches.{HasTakenMore, events_taken};
 
 use crate::batch::Batch;
+use crate::feeding::feed_all;
 use crate::last_orders::LastOrders;
 use crate::order::{Order, send_done, send_steps};
 use mdp_arbiter::{Arbiter, Standing};
 use mdp_engine::Event;
 use mdp_lanes::{IntakeReceiver, LaneSender};
-use mdp_steps::feed_all;
 use mdp_templates::{Memory, Packet};
 use mdp_window::RingWindow;
 use std::alloc::Allocator;

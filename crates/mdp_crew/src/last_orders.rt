@@ -1,7 +1,7 @@
 //! The last orders of the arbiter, of which it holds a share.
 
+use crate::steps::Steps;
 use arrayvec::ArrayVec;
-use mdp_steps::Steps;
 use std::alloc::Allocator;
 
 /// How many orders are held: more than a worker can be behind, which is a lane full of them and one at work.

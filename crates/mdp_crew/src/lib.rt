@@ -6,6 +6,7 @@ mod arbiter;
 mod batch;
 mod collector;
 mod crew;
+mod feeding;
 mod gate;
 mod last_orders;
 mod order;
@@ -13,6 +14,7 @@ mod plan;
 mod publishing;
 mod running;
 mod starts;
+mod steps;
 mod stop;
 #[cfg(test)]
 mod tests;

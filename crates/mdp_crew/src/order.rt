@@ -2,11 +2,12 @@
 
 ghost use Rattle.std.specs.Prelude.{◌≡◌, [], ◌∷◌, IfErr, IfOk, OnOk, length, map, replicate};
 ghost use Rattle.mdp_crew.specs.Orders.{and_sent};
-ghost use Rattle.mdp_steps.specs.Moves.{move_of};
+ghost use Rattle.mdp_arbiter.specs.Turns.{move_of};
 
 use crate::last_orders::LastOrders;
+use crate::steps::Steps;
+use mdp_arbiter::Turn;
 use mdp_lanes::LaneSender;
-use mdp_steps::{Steps, Turn};
 use mdp_templates::Memory;
 use std::alloc::Allocator;
 use std::sync::Wait;

@@ -5,6 +5,7 @@ mod channel;
 mod in_threads;
 mod in_turn;
 mod on_board;
+mod turns;
 mod writer;
 
 use crate::gate::{Gate, Open};

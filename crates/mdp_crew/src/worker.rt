@@ -2,16 +2,16 @@
 
 ghost use Rattle.std.specs.Prelude.{◌≡◌, ◌≤◌, [], IfOk, OnOk, map};
 ghost use Rattle.mdp_reports.specs.Reporting.{desks_after_moves, reports_of_moves};
-ghost use Rattle.mdp_steps.specs.Moves.{move_of};
+ghost use Rattle.mdp_arbiter.specs.Turns.{move_of};
 ghost use Rattle.mdp_templates.specs.Instrument.{AreFit};
 ghost use Rattle.mdp_crew.specs.Answering.{AnswersOne, HasDrained};
 ghost use Rattle.mdp_crew.specs.Work.{HasAnswered};
 
 use crate::gate::Gate;
 use crate::order::Order;
+use mdp_arbiter::Turn;
 use mdp_lanes::{LaneReceiver, LaneSender};
 use mdp_reports::{Answer, Reports, Room, Worker};
-use mdp_steps::Turn;
 use mdp_templates::{Instrument, Memory};
 use std::alloc::Allocator;
 use std::sync::Wait;

@@ -4,12 +4,12 @@ ghost use Rattle.std.specs.Prelude.{◌≡◌, ◌++◌, length, slice_get, IfOk
 ghost use Rattle.mdp_books.specs.Feed.{sent_as, sent_in};
 ghost use Rattle.mdp_desks.specs.Desks.{desks_after, passed_desks};
 ghost use Rattle.mdp_reports.specs.Reporting.{desks_after_move, reports_at, reports_of_move, reports_passed, snapshots_at};
-ghost use Rattle.mdp_steps.specs.Moves.{move_of};
+ghost use Rattle.mdp_arbiter.specs.Turns.{move_of};
 
 use crate::event_end::report_event_end;
 use crate::reports::Reports;
+use mdp_arbiter::Turn;
 use mdp_desks::Desks;
-use mdp_steps::Turn;
 use mdp_templates::{Memory, Message, Packet, Snapshot};
 use std::alloc::Allocator;
 

@@ -12,10 +12,9 @@ use crate::tests::channel::{
 };
 use crate::tests::expected::{FAULTY_STEPS, PLAIN_STEPS, RECOVERED_STEPS};
 use crate::{Answer, BoardSteps, Collector, Posting, Reports, Room, Worker};
-use mdp_arbiter::{Arbiter, Start};
-use mdp_engine::replay;
-use mdp_steps::{Turn, feed_all};
-use mdp_templates::{Instrument, Memory};
+use mdp_arbiter::{Arbiter, Start, Step, Turn};
+use mdp_engine::{replay, take_in};
+use mdp_templates::{Instrument, Memory, Snapshot};
 use mdp_window::MapWindow;
 use refusing::Refusing;
 use std::alloc::{Allocator, Global};
@@ -66,7 +65,31 @@ fn answers_of<A: Allocator + Copy>(
     Ok(answers)
 }
 
-/// The turns of what came.
+/// The turn of a step, where a jump took these snapshots.
+fn turn_of<A: Allocator + Copy>(
+    alloc: A,
+    step: Step<A>,
+    newest: &[Option<Snapshot>],
+) -> Result<Turn<A>, Memory> {
+    let (old, new) = match step {
+        Step::Pass(packet) => return Ok(Turn::Passed(packet)),
+        Step::Jump { old, new } => (old, new),
+    };
+    let mut snapshots = Vec::new(alloc);
+    for snapshot in newest {
+        match snapshot {
+            Some(snapshot) => snapshots.push(snapshot.copy())?,
+            None => {}
+        }
+    }
+    Ok(Turn::Jumped {
+        old,
+        new,
+        snapshots,
+    })
+}
+
+/// The turns of what came. No event makes more than eight.
 fn turns_of<A: Allocator + Copy>(
     alloc: A,
     listed: &[Instrument],
@@ -76,7 +99,15 @@ fn turns_of<A: Allocator + Copy>(
 {
     let mut arbiter = Arbiter::new(alloc, listed, MapWindow::new(alloc, 4), Start::FromOne)?;
     let mut turns = Vec::new(alloc);
-    feed_all(alloc, &mut arbiter, events_of(alloc, came)?, &mut turns)?;
+    for event in events_of(alloc, came)? {
+        take_in(&mut arbiter, event)?;
+        for _ in 0..8u8 {
+            let Some(step) = arbiter.step() else {
+                break;
+            };
+            turns.push(turn_of(alloc, step, arbiter.newest())?)?;
+        }
+    }
     Ok(turns)
 }
 

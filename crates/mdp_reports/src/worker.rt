@@ -5,12 +5,12 @@ ghost use Rattle.mdp_templates.specs.Instrument.{HasDepth};
 ghost use Rattle.mdp_desks.specs.Desks.{desk_at_start};
 ghost use Rattle.mdp_desks.specs.Shares.{is_kept_by, own_part, own_slots};
 ghost use Rattle.mdp_reports.specs.Reporting.{desks_after_move, reports_of_move};
-ghost use Rattle.mdp_steps.specs.Moves.{move_of};
+ghost use Rattle.mdp_arbiter.specs.Turns.{move_of};
 
 use crate::reporting::report_turn;
 use crate::reports::Reports;
+use mdp_arbiter::Turn;
 use mdp_desks::Desks;
-use mdp_steps::Turn;
 use mdp_templates::{Instrument, Memory};
 use std::alloc::Allocator;
 use std::marker::Model;

@@ -21,7 +21,7 @@ const FAR: i32 = 2;
 const SPREAD: i32 = 3;
 
 /// A packet's number, and its entry, which is new at position 1: the security, the kind, the price and the size.
-type Quote = (u32, i32, Kind, i64, i32);
+pub type Quote = (u32, i32, Kind, i64, i32);
 
 /// What the reader of A hands over first.
 const FIRST: [Quote; 2] = [(1, NEAR, Kind::Bid, 100, 5), (2, FAR, Kind::Offer, 90, 3)];
@@ -73,7 +73,7 @@ pub fn listed() -> Result<[Instrument; 3], Fail>
 }
 
 /// A packet with one message, which ends its event.
-fn packet<A: Allocator + Copy>(alloc: A, quote: Quote) -> Result<Event<A>, Memory> {
+pub fn packet<A: Allocator + Copy>(alloc: A, quote: Quote) -> Result<Event<A>, Memory> {
     let (number, security, kind, price, size) = quote;
     let entry = Entry {
         security,
@@ -132,7 +132,7 @@ fn snapshot<A: Allocator>(
 }
 
 /// A reader's only batch: the snapshots of all three securities.
-fn snapshots<A: Allocator + Copy>(alloc: A) -> Result<Batch<A>, Memory> {
+pub fn snapshots<A: Allocator + Copy>(alloc: A) -> Result<Batch<A>, Memory> {
     let bid = Level {
         price: 100,
         size: 5,

@@ -1,6 +1,6 @@
 use Rattle.std.proofs.Common.{◌≡◌, [], ◌∷◌, ◌∙◌, length, map, arith}
 use Rattle.std.proofs.lemmas.List.{take_at}
-use Rattle.mdp_steps.proofs.Adding.{all_sent}
+use Rattle.mdp_crew.proofs.Adding.{all_sent}
 use Rattle.mdp_crew.specs.declared.order.Order.TheVariants.{Done}
 use Rattle.mdp_crew.specs.Batches.{events_taken}
 use Rattle.mdp_crew.specs.Orders.{and_sent}

@@ -1,6 +1,6 @@
 use Rattle.std.proofs.Common.{◌==◌, ◌∙◌, ℕ, map, ap}
 use Rattle.mdp_engine.specs.Steps.{event_of}
-use Rattle.mdp_steps.specs.Moves.{move_of}
+use Rattle.mdp_arbiter.specs.Turns.{move_of}
 use Rattle.mdp_crew.proofs.Sending.{none_sends, none_there, some_sends, some_stops}
 use Rattle.mdp_crew.proofs.arbiter.send_on.Goals as goal
 

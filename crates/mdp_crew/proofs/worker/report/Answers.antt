@@ -1,5 +1,5 @@
 use Rattle.std.proofs.Common.{◌≡◌, ◌++◌, ℕ, List, ap, ◌∙◌}
-use Rattle.mdp_steps.specs.Moves.{move_of}
+use Rattle.mdp_arbiter.specs.Turns.{move_of}
 use Rattle.mdp_reports.specs.Reporting.{desks_after_move, reports_of_move}
 use Rattle.mdp_reports.specs.Worker.{View}
 use Rattle.mdp_reports.proofs.Moves.{goes_on}

@@ -1,5 +1,5 @@
 use Rattle.std.proofs.Common.{◌≡◌, ◌++◌, drop, map}
-use Rattle.mdp_steps.specs.Moves.{move_of}
+use Rattle.mdp_arbiter.specs.Turns.{move_of}
 use Rattle.mdp_reports.specs.Reporting.{desks_after_moves, reports_of_moves}
 use Rattle.mdp_crew.proofs.worker.report.Given as goal
 

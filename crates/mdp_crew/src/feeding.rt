@@ -7,11 +7,10 @@ ghost use Rattle.mdp_arbiter.specs.Machine.{snapshots_of};
 ghost use Rattle.mdp_arbiter.specs.Standing.{StandsAt};
 ghost use Rattle.mdp_engine.specs.Engine.{IsSettled};
 ghost use Rattle.mdp_engine.specs.Steps.{event_of};
-ghost use Rattle.mdp_steps.specs.Fed.{IsFed, IsFedAll, MakesMoves};
-ghost use Rattle.mdp_steps.specs.Moves.{move_of, stepped_move};
+ghost use Rattle.mdp_crew.specs.Fed.{IsFed, IsFedAll, MakesMoves};
+ghost use Rattle.mdp_arbiter.specs.Turns.{move_of, stepped_move};
 
-use crate::turn::Turn;
-use mdp_arbiter::{Arbiter, Step};
+use mdp_arbiter::{Arbiter, Step, Turn};
 use mdp_engine::{Event, take_in};
 use mdp_templates::{Memory, Packet, Snapshot};
 use mdp_window::Window;

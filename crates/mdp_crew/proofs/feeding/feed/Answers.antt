@@ -1,9 +1,9 @@
 use Rattle.std.proofs.Common.{◌∷◌, [], ◌++◌, map}
 use Rattle.std.proofs.lemmas.Result.{err_from_is_err_and}
-use Rattle.mdp_steps.specs.Moves.{move_of}
+use Rattle.mdp_arbiter.specs.Turns.{move_of}
 use Rattle.mdp_engine.specs.Steps.{event_of}
-use Rattle.mdp_steps.proofs.Making.{fed, not_fed}
-use Rattle.mdp_steps.proofs.feeding.feed.Goals as goal
+use Rattle.mdp_crew.proofs.Making.{fed, not_fed}
+use Rattle.mdp_crew.proofs.feeding.feed.Goals as goal
 
 pub returns-in_err-take_in : goal.returns-in_err-take_in
 returns-in_err-take_in g c = λ listed before settled.

@@ -1,6 +1,6 @@
 use Rattle.std.proofs.Common.{◌≡◌, ◌++◌, drop}
 use Rattle.mdp_arbiter.specs.Machine.{snapshots_of}
-use Rattle.mdp_steps.proofs.feeding.snapshots_in.Given as goal
+use Rattle.mdp_crew.proofs.feeding.snapshots_in.Given as goal
 
 -- the snapshots so far, and those that are left, are all
 abbrev pub invariant-loop-snapshot : goal.invariant-loop-snapshot

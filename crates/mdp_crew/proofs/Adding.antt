@@ -13,9 +13,9 @@ use Rattle.mdp_arbiter.proofs.Runs.{law_of_fronts}
 use Rattle.mdp_engine.specs.Engine.{IsSettled}
 use Rattle.mdp_engine.specs.Steps.{event_of}
 use Rattle.mdp_engine.specs.declared.event.Event.{Event as Came}
-use Rattle.mdp_steps.specs.Fed.{IsFed, IsFedAll}
-use Rattle.mdp_steps.specs.Sent.{AreSent, HasSentAll, moves_sent}
-use Rattle.mdp_steps.proofs.Making.{if_ok}
+use Rattle.mdp_crew.specs.Fed.{IsFed, IsFedAll}
+use Rattle.mdp_crew.specs.Sent.{AreSent, HasSentAll, moves_sent}
+use Rattle.mdp_crew.proofs.Making.{if_ok}
 
 -- all went well
 abbrev pub well : Result (Unit {0}) (Unit {0})

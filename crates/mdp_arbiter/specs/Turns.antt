@@ -10,8 +10,8 @@ use Rattle.mdp_arbiter.specs.Machine.{Move, snapshots_of}
 use Rattle.mdp_arbiter.specs.Machine.Move.{passed, jumped}
 use Rattle.mdp_arbiter.specs.declared.step.Step.{Step}
 use Rattle.mdp_arbiter.specs.declared.step.Step.TheVariants.{Pass, Jump}
-use Rattle.mdp_steps.specs.declared.turn.Turn.{Turn}
-use Rattle.mdp_steps.specs.declared.turn.Turn.TheVariants.{Passed, Jumped}
+use Rattle.mdp_arbiter.specs.declared.turn.Turn.{Turn}
+use Rattle.mdp_arbiter.specs.declared.turn.Turn.TheVariants.{Passed, Jumped}
 
 -- the move that a turn is
 abbrev pub move_of : {A : Type 0} → Turn A → Move

@@ -1,76 +1,48 @@
-//! Turns of a channel with one listed security, which threads share, and each allocation refused in turn.
+//! Turns of a channel, which threads share, and each allocation refused in turn.
 
-ghost use Rattle.std.specs.Prelude.{◌≡◌, IfOk};
 ghost use Rattle.mdp_templates.specs.Instrument.{AreFit};
 
-use crate::{Steps, Turn, feed_all};
-use arrayvec::{ArrayString, ArrayVec};
-use mdp_arbiter::{Arbiter, Start};
+use crate::batch::Batch;
+use crate::feeding::feed_all;
+use crate::steps::Steps;
+use crate::tests::channel::{listed, packet, snapshots};
+use mdp_arbiter::{Arbiter, Start, Turn};
 use mdp_engine::Event;
-use mdp_templates::{Instrument, InstrumentKind, Memory, Name, Packet, Snapshot, are_fit};
+use mdp_templates::{Instrument, Kind, Memory, Snapshot};
 use mdp_window::MapWindow;
 use refusing::Refusing;
 use std::alloc::{Allocator, Global};
 use std::process::Abort;
 use std::test::Fail;
 
-/// The one listed security.
-fn near() -> Result<[Instrument; 1], Fail>
-    ensures { IfOk result AreFit }
-{
-    let mut text = ArrayString::new();
-    if text.try_push_str("NEAR").is_err() {
-        return Err("a long name".into());
-    }
-    let listed = [Instrument {
-        id: 1,
-        name: Name::new(text),
-        kind: InstrumentKind::Outright,
-        depth: 10,
-    }];
-    if !are_fit(&listed) {
-        return Err("unfit".into());
-    }
-    Ok(listed)
+/// A packet with a bid of the first security.
+fn bid<A: Allocator + Copy>(alloc: A, number: u32) -> Result<Event<A>, Memory> {
+    packet(alloc, (number, 1, Kind::Bid, 100, 5))
 }
 
-/// A packet of one message without entries.
-fn packet<A: Allocator + Copy>(alloc: A, number: u32) -> Result<Event<A>, Memory> {
-    let mut packet = Packet::new(alloc, number);
-    packet.push(&[], true)?;
-    Ok(Event::Packet(packet))
-}
-
-/// One packet of one message without entries.
+/// One packet.
 fn one_packet<A: Allocator + Copy>(alloc: A, number: u32) -> Result<Vec<Event<A>, A>, Memory> {
     let mut events = Vec::new(alloc);
-    events.push(packet(alloc, number)?)?;
+    events.push(bid(alloc, number)?)?;
     Ok(events)
 }
 
-/// A snapshot of the one security, with an empty book.
-fn snapshot<A: Allocator>(alloc: A, last: u32) -> Result<Event<A>, Memory> {
-    let snapshot = Snapshot::new(
-        1,
-        last,
-        ArrayVec::new(),
-        ArrayVec::new(),
-        ArrayVec::new(),
-        ArrayVec::new(),
-    );
-    Event::snapshot(alloc, snapshot)
-}
-
-/// Packets 2 and 1; then 4 and 7, which gives 3 up; a snapshot that includes 3; packet 5, a close, and packet 6 too late.
+/// Packets 2 and 1; then 4 and 7, which gives 3 up; the snapshots, which include 3; packet 5, a close, and packet 6 too late.
 fn all_events<A: Allocator + Copy>(alloc: A) -> Result<Vec<Event<A>, A>, Memory> {
     let mut events = Vec::new(alloc);
     for number in [2, 1, 4, 7] {
-        events.push(packet(alloc, number)?)?;
+        events.push(bid(alloc, number)?)?;
     }
-    events.push(snapshot(alloc, 3)?)?;
-    events.push(packet(alloc, 5)?)?;
+    let Batch {
+        events: recovered,
+        is_last: _,
+    } = snapshots(alloc)?;
+    for event in recovered {
+        events.push(event)?;
+    }
+    events.push(bid(alloc, 5)?)?;
     events.push(Event::Close)?;
-    events.push(packet(alloc, 6)?)?;
+    events.push(bid(alloc, 6)?)?;
     Ok(events)
 }
 
@@ -85,7 +57,7 @@ enum Mark {
 const ALL: [Mark; 5] = [
     Mark::Passed(1),
     Mark::Passed(2),
-    Mark::Jumped(3, 4, 1, Some(3)),
+    Mark::Jumped(3, 4, 3, Some(3)),
     Mark::Passed(4),
     Mark::Passed(5),
 ];
@@ -117,7 +89,7 @@ fn are_first<A: Allocator>(rt: &impl Abort, turns: &[Turn<A>]) {
 #[test]
 fn an_event_makes_the_turns_that_are_then_possible(rt: HostRuntime) -> Result<(), Fail> {
     let alloc = rt.alloc();
-    let mut arbiter = Arbiter::new(alloc, &near()?, MapWindow::new(alloc, 4), Start::FromOne)?;
+    let mut arbiter = Arbiter::new(alloc, &listed()?, MapWindow::new(alloc, 4), Start::FromOne)?;
     let mut turns = Vec::new(alloc);
     feed_all(alloc, &mut arbiter, one_packet(alloc, 2)?, &mut turns)?;
     assert_eq!(rt; turns.len(), 0);
@@ -130,7 +102,7 @@ fn an_event_makes_the_turns_that_are_then_possible(rt: HostRuntime) -> Result<()
 #[test]
 fn a_share_has_the_turns_of_the_first(rt: HostRuntime) -> Result<(), Fail> {
     let alloc = rt.alloc();
-    let mut arbiter = Arbiter::new(alloc, &near()?, MapWindow::new(alloc, 4), Start::FromOne)?;
+    let mut arbiter = Arbiter::new(alloc, &listed()?, MapWindow::new(alloc, 4), Start::FromOne)?;
     let mut turns = Vec::new(alloc);
     feed_all(alloc, &mut arbiter, all_events(alloc)?, &mut turns)?;
     let steps = Steps::new(alloc, turns)?;
@@ -162,8 +134,8 @@ fn share_all(
 }
 
 #[test]
-fn each_want_of_memory_is_answered_and_leaves_a_beginning(rt: HostRuntime) -> Result<(), Fail> {
-    let listed = near()?;
+fn each_want_of_memory_leaves_a_beginning_of_the_turns(rt: HostRuntime) -> Result<(), Fail> {
+    let listed = listed()?;
     let mut refused = 0u64;
     for number in 1..1000u64 {
         let heap = Refusing::new(rt.alloc(), number);

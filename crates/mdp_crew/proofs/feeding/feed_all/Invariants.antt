@@ -4,10 +4,10 @@ use Rattle.mdp_templates.specs.declared.instrument.Instrument.{Instrument}
 use Rattle.mdp_arbiter.specs.Accepted.{Event}
 use Rattle.mdp_engine.specs.Engine.{IsSettled}
 use Rattle.mdp_engine.specs.Steps.{event_of}
-use Rattle.mdp_steps.specs.Fed.{IsFedAll}
-use Rattle.mdp_steps.specs.Moves.{move_of}
-use Rattle.mdp_steps.proofs.Adding.{well}
-use Rattle.mdp_steps.proofs.feeding.feed_all.Given as goal
+use Rattle.mdp_crew.specs.Fed.{IsFedAll}
+use Rattle.mdp_arbiter.specs.Turns.{move_of}
+use Rattle.mdp_crew.proofs.Adding.{well}
+use Rattle.mdp_crew.proofs.feeding.feed_all.Given as goal
 
 -- the events so far were taken in, and with those that are left they are all
 abbrev pub invariant-loop-event : goal.invariant-loop-event

@@ -1,9 +1,9 @@
 //! Turns that threads share.
 
 ghost use Rattle.std.specs.Prelude.{◌≡◌, IfOk, map};
-ghost use Rattle.mdp_steps.specs.Moves.{move_of};
+ghost use Rattle.mdp_arbiter.specs.Turns.{move_of};
 
-use crate::turn::Turn;
+use mdp_arbiter::Turn;
 use mdp_templates::Memory;
 use std::alloc::Allocator;
 use std::marker::Model;
@@ -19,7 +19,7 @@ impl<A: Allocator> Model for Steps<A> {
     ghost use Rattle.std.specs.Prelude.{List, map};
     ghost use Rattle.std.specs.Arc.{arc_value};
     ghost use Rattle.mdp_arbiter.specs.Machine.{Move};
-    ghost use Rattle.mdp_steps.specs.Moves.{move_of, moves_code};
+    ghost use Rattle.mdp_arbiter.specs.Turns.{move_of, moves_code};
 
     ghost Value = { List Move };
 

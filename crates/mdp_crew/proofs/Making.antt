@@ -17,8 +17,8 @@ use Rattle.mdp_arbiter.proofs.Jumps.{law_of_jumps}
 use Rattle.mdp_arbiter.proofs.Runs.{law_of_events, law_of_fronts, law_of_moves}
 use Rattle.mdp_engine.specs.Engine.{IsSettled}
 use Rattle.mdp_engine.proofs.Moving.{Leads, leads-push, no_move}
-use Rattle.mdp_steps.specs.Moves.{stepped_move}
-use Rattle.mdp_steps.specs.Fed.{HasComeTo, IsFed, MakesMoves}
+use Rattle.mdp_arbiter.specs.Turns.{stepped_move}
+use Rattle.mdp_crew.specs.Fed.{HasComeTo, IsFed, MakesMoves}
 
 -- with what settles from there, they settle
 leads_on : (channel : Channel) (es : List Event) (s : State) (ms : List Move) (to : State) (rest : List Move)

@@ -1,8 +1,8 @@
 use Rattle.std.proofs.Common.{map}
 use Rattle.mdp_arbiter.specs.Arbiter.{steps_left}
-use Rattle.mdp_steps.specs.Moves.{move_of}
-use Rattle.mdp_steps.proofs.Making.{MovesTo}
-use Rattle.mdp_steps.proofs.feeding.make_moves.Given as goal
+use Rattle.mdp_arbiter.specs.Turns.{move_of}
+use Rattle.mdp_crew.proofs.Making.{MovesTo}
+use Rattle.mdp_crew.proofs.feeding.make_moves.Given as goal
 
 -- the steps so far were the possible moves, and are appended
 abbrev pub invariant-loop-step : goal.invariant-loop-step

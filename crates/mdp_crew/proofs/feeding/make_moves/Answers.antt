@@ -1,9 +1,9 @@
 use Rattle.std.proofs.Common.{◌∷◌, [], map, ap, ◌∙◌}
 use Rattle.std.proofs.lemmas.List.{map-append}
 use Rattle.std.proofs.lemmas.Result.{err_from_is_err_and}
-use Rattle.mdp_steps.specs.Moves.{move_of, stepped_move}
-use Rattle.mdp_steps.proofs.Making.{moves_further, moves_settled, moves_begun}
-use Rattle.mdp_steps.proofs.feeding.make_moves.Goals as goal
+use Rattle.mdp_arbiter.specs.Turns.{move_of, stepped_move}
+use Rattle.mdp_crew.proofs.Making.{moves_further, moves_settled, moves_begun}
+use Rattle.mdp_crew.proofs.feeding.make_moves.Goals as goal
 
 pub returns-in_err-turn : goal.returns-in_err-turn
 returns-in_err-turn g c =

@@ -3,9 +3,9 @@ use Rattle.std.specs.Vec.Iter.{into_iter_items}
 use Rattle.std.proofs.lemmas.List.{append-nil}
 use Rattle.std.proofs.lemmas.Result.{err_from_is_err_and}
 use Rattle.mdp_engine.specs.Steps.{event_of}
-use Rattle.mdp_steps.specs.Moves.{move_of}
-use Rattle.mdp_steps.proofs.Adding.{fed_all, fed_further, fed_none, fed_short}
-use Rattle.mdp_steps.proofs.feeding.feed_all.Goals as goal
+use Rattle.mdp_arbiter.specs.Turns.{move_of}
+use Rattle.mdp_crew.proofs.Adding.{fed_all, fed_further, fed_none, fed_short}
+use Rattle.mdp_crew.proofs.feeding.feed_all.Goals as goal
 
 nothing_left : {X : Type 0} (l : List X) → length l ≡ 0 → l ≡ []
 nothing_left [] is = refl
