@@ -111,8 +111,8 @@ abbrev pub state_at : Channel → List Event → State
 state_at channel es = after_all (first_state channel) (trace channel es)
 
 -- where the channel stands then: the number of the packet that comes next, and whether the receiver is lost
-abbrev pub standing_at : Channel → List Event → Standing
-standing_at channel es = record { next = (state_at channel es).next; lost = is_lost channel es (state_at channel es) }
+abbrev pub stands_at : Channel → List Event → Standing
+stands_at channel es = record { next = (state_at channel es).next; lost = is_lost channel es (state_at channel es) }
 
 -- ---- a channel by its listed securities
 
@@ -120,8 +120,8 @@ standing_at channel es = record { next = (state_at channel es).next; lost = is_l
 abbrev pub moves_of : ListedChannel → List Event → List Move
 moves_of channel es = trace (channel_of channel) es
 
-abbrev pub standing_after : ListedChannel → List Event → Standing
-standing_after channel es = standing_at (channel_of channel) es
+abbrev pub stands_after : ListedChannel → List Event → Standing
+stands_after channel es = stands_at (channel_of channel) es
 
 -- ---- laws
 

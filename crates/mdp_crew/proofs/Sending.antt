@@ -10,7 +10,7 @@ use Rattle.mdp_arbiter.specs.Accepted.{Event}
 use Rattle.mdp_arbiter.specs.Arbiter.{View, state}
 use Rattle.mdp_arbiter.specs.Channel.{Channel, ListedChannel, channel_of}
 use Rattle.mdp_arbiter.specs.declared.arbiter.Standing.{Standing}
-use Rattle.mdp_arbiter.specs.Machine.{is_lost, Move, standing_after, State}
+use Rattle.mdp_arbiter.specs.Machine.{is_lost, Move, stands_after, State}
 use Rattle.mdp_lanes.specs.Queues.{IntakeReceiverView, LaneSenderView}
 use Rattle.mdp_engine.specs.Engine.{IsSettled}
 use Rattle.mdp_crew.specs.Fed.{IsFedAll}
@@ -25,7 +25,7 @@ use Rattle.mdp_crew.specs.Orders.{and_sent, orders_of}
 
 -- where the arbiter stands is where the machine does
 pub stands_there : (channel : ListedChannel) (events : List Event) (batches : List (List Move)) (v : View) (standing : Standing) → HasSentAll channel events batches v
-    → standing.next ≡ (state v).next → standing.lost ≡ is_lost v.channel events (state v) → standing ≡ standing_after channel events
+    → standing.next ≡ (state v).next → standing.lost ≡ is_lost v.channel events (state v) → standing ≡ stands_after channel events
 stands_there channel events batches v standing sent next lost =
     let there = state_there channel events batches v sent in
     let lost_there = lost ∙ ap (λ (c : Channel). is_lost c events (state v)) sent.channel_is ∙ ap (is_lost (channel_of channel) events) there in

@@ -8,7 +8,7 @@ use Rattle.mdp_lanes.specs.Boards.{Published}
 use Rattle.mdp_lanes.specs.Queues.{IntakeReceiverView, LaneSenderView}
 use Rattle.mdp_arbiter.specs.Accepted.{Event}
 use Rattle.mdp_arbiter.specs.Channel.{ListedChannel, ids_of}
-use Rattle.mdp_arbiter.specs.Machine.{Move, moves_of, standing_after}
+use Rattle.mdp_arbiter.specs.Machine.{Move, moves_of, stands_after}
 use Rattle.mdp_desks.specs.Moments.{Moment, moments, moments_after, shown_lines}
 use Rattle.mdp_desks.proofs.Moments.{moments-append}
 use Rattle.mdp_engine.specs.RoundLaws.{Ascend}
@@ -106,7 +106,7 @@ module _ {A : Type 0} where
           (out_more (moments channel.listed first) (moments_after channel.listed first (moves_sent at.1)) [] start taken board board' out)
 
       by_both : {E : Type 0} (collected : Result (Unit {0}) Stop) (standing : Result Standing E) → EndsCollecting ps new (begun channel.listed) start taken board board' collected → OnOk standing (sent.sent.rest ≡ [])
-          → IfOk standing (λ (s : Standing). s ≡ standing_after channel (events_taken outcome.receiver.taken))
+          → IfOk standing (λ (s : Standing). s ≡ stands_after channel (events_taken outcome.receiver.taken))
           → HasShown channel (events_taken outcome.receiver.taken) start taken board board' (outcome_of collected standing)
       by_both (Ok done) (Ok standing) e whole stands =
           let same : moves ≡ moves_of channel (events_taken outcome.receiver.taken) = sym (append-nil moves) ∙ ap (λ (l : List Move). moves ++ l) (sym whole) ∙ sym sent.sent.front in

@@ -3,7 +3,7 @@ use Rattle.std.specs.Prelude.{◌≡◌, ◌≤◌, ℕ, List, [], map, IfOk, Er
 use Rattle.mdp_arbiter.specs.Accepted.{Event}
 use Rattle.mdp_arbiter.specs.Arbiter.{View, state}
 use Rattle.mdp_arbiter.specs.Channel.{ListedChannel, channel_of}
-use Rattle.mdp_arbiter.specs.Machine.{Move, first_state, standing_after}
+use Rattle.mdp_arbiter.specs.Machine.{Move, first_state, stands_after}
 use Rattle.mdp_arbiter.specs.Standing.{StandsAt}
 use Rattle.mdp_lanes.specs.Items.{ends_taken}
 use Rattle.mdp_lanes.specs.Queues.{IntakeReceiverView, LaneSenderView}
@@ -34,7 +34,7 @@ pub record HasSent {A : Type 0} (channel : ListedChannel) (receiver : IntakeRece
   pub takes : HasTakenMore receiver outcome.receiver
   pub ends : ends_taken (λ b. b.is_last) outcome.receiver.taken ≡ 3
   pub sent : AreSent channel (events_taken outcome.receiver.taken) batches outcome.standing
-  pub stands : IfOk outcome.standing (λ standing. standing ≡ standing_after channel (events_taken outcome.receiver.taken))
+  pub stands : IfOk outcome.standing (λ standing. standing ≡ stands_after channel (events_taken outcome.receiver.taken))
   pub range : IfOk outcome.standing (λ standing. IsNextNumber standing.next)
 
 -- ---- batch by batch

@@ -2,7 +2,7 @@
 use Rattle.std.specs.Prelude.{◌≡◌, ℕ, List, [], ◌++◌, Option, Result, Ok, Err, IfOk, IfErr}
 use Rattle.mdp_arbiter.specs.Accepted.{Event}
 use Rattle.mdp_arbiter.specs.Channel.{ListedChannel}
-use Rattle.mdp_arbiter.specs.Machine.{moves_of, standing_after}
+use Rattle.mdp_arbiter.specs.Machine.{moves_of, stands_after}
 use Rattle.mdp_desks.specs.Moments.{Moment, moments, shown_lines}
 use Rattle.mdp_lanes.specs.Boards.{Published}
 use Rattle.mdp_lanes.specs.declared.step.Step.{Step}
@@ -18,7 +18,7 @@ pub record HasShownAll (channel : ListedChannel) (events : List Event) (start ta
     (board board' : Option Published) (standing : Standing) : Type 0 where
   pub shown : taken ≡ start ++ shown_lines channel.listed (moves_of channel events)
   pub published : board' ≡ published_on board (board_steps channel.listed (moves_of channel events))
-  pub standing_is : standing ≡ standing_after channel events
+  pub standing_is : standing ≡ stands_after channel events
 
 -- Of these moments, after whose text stands this end, a beginning was written, and of that a beginning at most was published.
 pub record WentOut (shown : List Moment) (end start taken : List ℕ) (board board' : Option Published) : Type 0 where

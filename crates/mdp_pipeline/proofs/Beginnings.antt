@@ -13,7 +13,7 @@ use Rattle.mdp_templates.proofs.OneAnswer.{one_packet, one_datagram}
 use Rattle.mdp_templates.specs.declared.feed.Feed.{Feed}
 use Rattle.mdp_capture.specs.Record.{RecordContent, Received, Datagram, Close}
 use Rattle.mdp_arbiter.specs.Accepted.{Event, came, recovered, closed}
-use Rattle.mdp_arbiter.specs.Machine.{go_on, moves_of, standing_after, state_at, trace}
+use Rattle.mdp_arbiter.specs.Machine.{go_on, moves_of, stands_after, state_at, trace}
 use Rattle.mdp_arbiter.specs.Channel.{Channel, ListedChannel, channel_of}
 use Rattle.mdp_arbiter.proofs.Runs.{law_of_fronts}
 use Rattle.mdp_engine.specs.Engine.{View}
@@ -74,7 +74,7 @@ abbrev text_of : ListedChannel → List Reading → List ℕ
 text_of channel readings = shown_output channel (refusals_text (by_feed readings)) (events_of readings)
 
 text_prints : (channel : ListedChannel) (arrivals : List Arrival) (readings : List Reading) → AreReadings arrivals readings
-    → PrintsAll channel arrivals (text_of channel readings) (standing_after channel (events_of readings))
+    → PrintsAll channel arrivals (text_of channel readings) (stands_after channel (events_of readings))
 text_prints channel arrivals readings are = record { readings = readings; are = are; standing_is = refl; shown = refl }
 
 -- what is shown of the readings behind these ones
@@ -99,7 +99,7 @@ begins_none channel arrivals taken =
     let readings = readings_exist arrivals in
     record {
       text = text_of channel readings.0;
-      standing = standing_after channel (events_of readings.0);
+      standing = stands_after channel (events_of readings.0);
       prints = text_prints channel arrivals readings.0 readings.1;
       sent = [];
       rest = text_of channel readings.0;
@@ -134,7 +134,7 @@ begins_so_far channel arrivals done left start taken taken' engine refusals n pa
     ∙ ap (λ (c : Channel). shown_lines channel.listed (trace c (events_of readings))) run.channel_is in
     record {
       text = text_of channel all;
-      standing = standing_after channel (events_of all);
+      standing = stands_after channel (events_of all);
       prints = text_prints channel arrivals all (subst (λ (t : List Arrival). AreReadings t all) (sym parts) (readings-append done left readings more.0 so_far.over.are more.1));
       sent = so_far.sent ++ take n held;
       rest = drop n held ++ (shown_later channel readings more.0 ++ end_of channel all);

@@ -5,7 +5,7 @@ use Rattle.std.proofs.lemmas.List.{append-nil, take-append-drop}
 use Rattle.mdp_templates.specs.declared.instrument.Instrument.{Instrument}
 use Rattle.mdp_arbiter.specs.Accepted.{Event}
 use Rattle.mdp_arbiter.specs.Channel.{Channel, ListedChannel, channel_of}
-use Rattle.mdp_arbiter.specs.Machine.{go_on, is_lost, moves_of, standing_after, standing_at, state_at, trace}
+use Rattle.mdp_arbiter.specs.Machine.{go_on, is_lost, moves_of, stands_after, stands_at, state_at, trace}
 use Rattle.mdp_arbiter.proofs.Runs.{law_of_fronts}
 use Rattle.mdp_desks.specs.Moments.{Moment, moments, moments_after, shown_lines, text_of_moments}
 use Rattle.mdp_engine.specs.Engine.{View, Stands}
@@ -78,7 +78,7 @@ early_none channel events refusals start = record { sent = []; rest = shown_outp
 -- ---- the end
 
 abbrev pub Tells : View → Standing → Type 0
-Tells engine standing = (listed : List Instrument) (es : List Event) (drained : List ℕ) → Stands listed es drained engine → standing ≡ standing_at engine.arbiter.channel es
+Tells engine standing = (listed : List Instrument) (es : List Event) (drained : List ℕ) → Stands listed es drained engine → standing ≡ stands_at engine.arbiter.channel es
 
 pub tells_both : (engine : View) (next : ℕ) (lost : Bool)
     → ((listed : List Instrument) (es : List Event) (drained : List ℕ) → Stands listed es drained engine → next ≡ (state_at engine.arbiter.channel es).next)
@@ -92,7 +92,7 @@ pub ends_as : (channel : ListedChannel) (events : List Event) (start taken taken
 ends_as channel events start taken taken' engine end refusals standing went end_is tells so_far =
     let held = engine.held in
     let front = so_far.sent ++ held in
-    let there : standing ≡ standing_after channel events = tells channel.listed events so_far.sent so_far.stands ∙ ap (λ (c : Channel). standing_at c events) so_far.channel_is in
+    let there : standing ≡ stands_after channel events = tells channel.listed events so_far.sent so_far.stands ∙ ap (λ (c : Channel). stands_at c events) so_far.channel_is in
     let ending : end ≡ end_lines channel (joined_texts refusals) events = end_is ∙ ap (end_text (joined_texts refusals)) there in
     record {
       text = front ++ end;
@@ -229,7 +229,7 @@ begins_all channel arrivals start taken taken' engine refusals so_far ends =
     let events = events_of so_far.over.readings in
     record {
       text = shown_output channel (refusals_text (by_feed so_far.over.readings)) events;
-      standing = standing_after channel events;
+      standing = stands_after channel events;
       prints = record { readings = so_far.over.readings; are = so_far.over.are; standing_is = refl; shown = refl };
       sent = ends.sent;
       rest = ends.rest;

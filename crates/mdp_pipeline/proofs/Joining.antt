@@ -41,7 +41,7 @@ use Rattle.mdp_pipeline.specs.Running.{EndsAs, joined_texts}
 use Rattle.mdp_pipeline.proofs.Beginnings.{readings_exist}
 use Rattle.mdp_pipeline.proofs.OnBoards.{publishes}
 use Rattle.mdp_pipeline.proofs.Ending.{ends_behind, out_early, out_in_end, told_as}
-use Rattle.mdp_arbiter.specs.Machine.{moves_of, standing_after}
+use Rattle.mdp_arbiter.specs.Machine.{moves_of, stands_after}
 
 -- ---- one feed's events among those with feeds
 
@@ -147,7 +147,7 @@ begins_nothing channel records start board =
         merge,
         record {
           text = text;
-          standing = standing_after channel (events_in merge);
+          standing = stands_after channel (events_in merge);
           prints = record {
             readings = readings;
             are = record { a_are = read_a.1; b_are = read_b.1; s_are = read_s.1 };
@@ -265,7 +265,7 @@ module _ {A : Type 0} where
 
   -- the text of the merge
   prints : (receiver : IntakeReceiverView (Batch A)) (records : FeedRecords) (left_a left_b left_s : ReaderOutcome A) (joined : Joined receiver records left_a left_b left_s) (channel : ListedChannel)
-      → Prints channel records (merge_in joined) (shown_output channel (refusals_text (readings_in joined)) (events_in (merge_in joined))) (standing_after channel (events_in (merge_in joined)))
+      → Prints channel records (merge_in joined) (shown_output channel (refusals_text (readings_in joined)) (events_in (merge_in joined))) (stands_after channel (events_in (merge_in joined)))
   prints receiver records left_a left_b left_s joined channel =
       let es = events_in (merge_in joined) in
       record {
@@ -294,7 +294,7 @@ module _ {A : Type 0} where
           merge_in joined,
           record {
             text = shown_output channel (refusals_text (readings_in joined)) es;
-            standing = standing_after channel es;
+            standing = stands_after channel es;
             prints = prints receiver records left_a left_b left_s joined channel;
             sent = gone.sent;
             rest = left.0;
@@ -325,7 +325,7 @@ module _ {A : Type 0} where
             readings = is.readings;
             are = is.are;
             merges = is.merges;
-            standing_is = ends.standing_is ∙ ap (standing_after channel) all;
+            standing_is = ends.standing_is ∙ ap (stands_after channel) all;
             shown = text_is;
             owed = λ feed honest. text_is ∙ is.owed feed honest;
           },

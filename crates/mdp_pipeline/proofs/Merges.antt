@@ -19,7 +19,7 @@ use Rattle.mdp_pipeline.specs.Reading.{Reading, AreReadings, AreReadingsOf, IsRe
 use Rattle.mdp_pipeline.specs.Merging.{Tagged, IsMerge, events_from, events_in, is_from, tagged_by}
 use Rattle.mdp_pipeline.specs.Output.{BeginsByLine, Prints, PrintsByLine, end_lines, shown_output, standing_in}
 use Rattle.mdp_pipeline.specs.Running.{BeginsAll, PrintsAll}
-use Rattle.mdp_arbiter.specs.Machine.{standing_after}
+use Rattle.mdp_arbiter.specs.Machine.{stands_after}
 use Rattle.mdp_arbiter.specs.declared.arbiter.Standing.{Standing}
 
 -- ---- the records of one feed
@@ -185,7 +185,7 @@ prints_merge channel records text standing all =
       readings = by_feed readings;
       are = are_by_feed records readings all.are;
       merges = merges_by_feed readings;
-      standing_is = all.standing_is ∙ ap (standing_after channel) same;
+      standing_is = all.standing_is ∙ ap (stands_after channel) same;
       shown = all.shown ∙ ap (λ (es : List Event). shown_output channel (refusals_text (by_feed readings)) es) same;
       owed = λ feed honest.
           let es : List Event = events_in (flat_map tagged_by readings) in

@@ -3,7 +3,7 @@ use Rattle.std.specs.Prelude.{◌≡◌, ℕ, List, ◌++◌, Option, Result, If
 use Rattle.mdp_templates.specs.Packet.{PacketContent}
 use Rattle.mdp_print.specs.Texts.{last_line}
 use Rattle.mdp_arbiter.specs.Accepted.{Event}
-use Rattle.mdp_arbiter.specs.Machine.{moves_of, standing_after}
+use Rattle.mdp_arbiter.specs.Machine.{moves_of, stands_after}
 use Rattle.mdp_arbiter.specs.declared.arbiter.Standing.{Standing}
 use Rattle.mdp_arbiter.specs.Channel.{ListedChannel}
 use Rattle.mdp_desks.specs.Moments.{Moment, moments, shown_lines}
@@ -34,7 +34,7 @@ abbrev pub end_text : List ℕ → Standing → List ℕ
 end_text refusals standing = refusals ++ last_line standing.next standing.lost
 
 abbrev pub end_lines : ListedChannel → List ℕ → List Event → List ℕ
-end_lines channel refusals events = end_text refusals (standing_after channel events)
+end_lines channel refusals events = end_text refusals (stands_after channel events)
 
 -- the text that the moves themselves show, whatever came
 abbrev pub shown_output : ListedChannel → List ℕ → List Event → List ℕ
@@ -55,7 +55,7 @@ pub record Prints (channel : ListedChannel) (records : FeedRecords) (merge : Lis
   pub readings : Readings
   pub are : AreReadingsOf records readings
   pub merges : IsMerge readings merge
-  pub standing_is : standing ≡ standing_after channel (events_in merge)
+  pub standing_is : standing ≡ stands_after channel (events_in merge)
   pub shown : text ≡ shown_output channel (refusals_text readings) (events_in merge)
   pub owed : (feed : List PacketContent) → IsHonest channel.listed feed (events_in merge)
       → text ≡ output channel feed (refusals_text readings) (events_in merge)

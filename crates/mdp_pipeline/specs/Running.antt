@@ -13,7 +13,7 @@ use Rattle.mdp_pipeline.specs.declared.progress.Run.{Run}
 use Rattle.mdp_pipeline.specs.Output.{shown_output}
 use Rattle.mdp_pipeline.specs.RefusalTexts.{RefusalTexts, with_refusal}
 use Rattle.mdp_pipeline.specs.Reading.{Reading, AreReadings, Said, Says, brings, refused, brought_by, by_feed, events_of, kind_of, readings_on, refusal_lines, refusals_text}
-use Rattle.mdp_arbiter.specs.Machine.{standing_after}
+use Rattle.mdp_arbiter.specs.Machine.{stands_after}
 use Rattle.mdp_arbiter.specs.declared.arbiter.Standing.{Standing}
 
 -- the lines of those that these readings refuse
@@ -89,7 +89,7 @@ pub record EndsAs (channel : ListedChannel) (events : List Event) (refusals star
     (standing : Standing) : Type 0 where
   pub text : List ℕ
   pub taken_is : taken ≡ start ++ text
-  pub standing_is : standing ≡ standing_after channel events
+  pub standing_is : standing ≡ stands_after channel events
   pub shown : text ≡ shown_output channel refusals events
 
 -- a beginning of the text went out
@@ -106,7 +106,7 @@ pub record EndsEarly (channel : ListedChannel) (events : List Event)
 pub record PrintsAll (channel : ListedChannel) (arrivals : List Arrival) (text : List ℕ) (standing : Standing) : Type 0 where
   pub readings : List Reading
   pub are : AreReadings arrivals readings
-  pub standing_is : standing ≡ standing_after channel (events_of readings)
+  pub standing_is : standing ≡ stands_after channel (events_of readings)
   pub shown : text ≡ shown_output channel (refusals_text (by_feed readings)) (events_of readings)
 
 -- what went out is a beginning of it
