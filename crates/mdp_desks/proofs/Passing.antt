@@ -10,7 +10,6 @@ use Rattle.mdp_desks.specs.declared.desk.Desk.{Desk}
 use Rattle.mdp_desks.specs.Lines.{text_of}
 use Rattle.mdp_desks.specs.Desks.{desk_at_start, desk_settled, desk_standing, desk_jumped, rebased_desks}
 use Rattle.mdp_print.specs.Pieces.{BeginsWith}
-use Rattle.mdp_print.proofs.Fronts.{begins_less}
 use Rattle.mdp_desks.specs.Beside.{AreClear, listed_in, marks_of}
 use Rattle.mdp_templates.specs.Instrument.{HasDepth}
 
@@ -158,9 +157,3 @@ jumped_instrument (Some s) d = refl
 pub listed_more : (n : ℕ) (ds : List Desk) (base : Option SnapshotContent) (here d : Desk) → here ≡ desk_jumped base (get_or ds n d) → listed_in (set ds n here) ≡ listed_in ds
 listed_more n ds base here d is =
     map-set_same (λ (d : Desk). d.instrument) ds n here d (ap (λ (d : Desk). d.instrument) is ∙ jumped_instrument base (get_or ds n d))
-
--- ---- what stands in front stays there
-
-pub begins_first : (before now after : List ℕ) → BeginsWith now before → BeginsWith after now → BeginsWith after before
-begins_first before now after first front =
-    begins_less before (drop (length before) now) now after (sym (take-append-drop (length before) now) ∙ ap (λ (t : List ℕ). t ++ drop (length before) now) first) front

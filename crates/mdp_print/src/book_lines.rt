@@ -1,11 +1,11 @@
 //! The lines of good books.
 
-ghost use Rattle.std.specs.Prelude.{◌≡◌, ◌+◌, ◌<◌, ◌≤◌, ◌++◌, ◌∷◌, [], length, codes, vec_len, vec_capacity, OnOk, OnErr};
+ghost use Rattle.std.specs.Prelude.{◌≡◌, ◌+◌, ◌<◌, ◌++◌, ◌∷◌, [], length, vec_len, vec_capacity, OnOk, OnErr};
 ghost use Rattle.mdp_quotes.specs.Consolidation.{quotes_of};
 ghost use Rattle.mdp_quotes.specs.Merged.{merged, merged_quotes};
 ghost use Rattle.mdp_print.specs.Texts.{direct_line, implied_line, consolidated_line};
 ghost use Rattle.mdp_print.specs.Texts.{quotes_line, sides_line, totals_text};
-ghost use Rattle.mdp_print.specs.Pieces.{BeginsWith};
+ghost use Rattle.mdp_print.specs.Pieces.{Appends, Extends, BeginsWith};
 
 use crate::head::Head;
 use crate::merged::put_merged_levels;
@@ -18,11 +18,7 @@ use std::alloc::Allocator;
 
 // Appends the letter of a line and the head of a book's lines.
 fn put_head<A: Allocator>(out: &mut Vec<u8, A>, letter: u8, head: &Head) -> Result<(), Memory>
-    ensures ok { OnOk result (out.new.items ≡ out.old.items ++ (letter ∷ head.now)) }
-    ensures err { OnErr result (BeginsWith out.new.items out.old.items) }
-    ensures len { OnOk result (vec_len out.new ≡ vec_len out.old + length (letter ∷ head.now)) }
-    ensures room { vec_capacity out.old ≤ vec_capacity out.new }
-    ensures full { OnErr result (vec_capacity out.old < vec_len out.old + length (letter ∷ head.now)) }
+    ensures { Extends (letter ∷ head.now) out.old out.new result }
 {
     let start = out.len();
     put(out, head.as_slice())?;
@@ -99,9 +95,7 @@ pub fn put_direct<A: Allocator>(
     head: &Head,
     sides: &Sides,
 ) -> Result<(), Memory>
-    ensures ok { OnOk result (out.new.items ≡ out.old.items ++ direct_line head.now sides.now.bids.levels sides.now.offers.levels) }
-    ensures err { OnErr result (out.new.items ≡ out.old.items) }
-    ensures full { OnErr result (vec_capacity out.old < vec_len out.old + length (direct_line head.now sides.now.bids.levels sides.now.offers.levels)) }
+    ensures { Appends (direct_line head.now sides.now.bids.levels sides.now.offers.levels) out.old out.new result }
 {
     let start = out.len();
     let bids = sides.bids.printed().text();
@@ -117,9 +111,7 @@ pub fn put_implied<A: Allocator>(
     head: &Head,
     sides: &Sides,
 ) -> Result<(), Memory>
-    ensures ok { OnOk result (out.new.items ≡ out.old.items ++ implied_line head.now sides.now.implied_bids.levels sides.now.implied_offers.levels) }
-    ensures err { OnErr result (out.new.items ≡ out.old.items) }
-    ensures full { OnErr result (vec_capacity out.old < vec_len out.old + length (implied_line head.now sides.now.implied_bids.levels sides.now.implied_offers.levels)) }
+    ensures { Appends (implied_line head.now sides.now.implied_bids.levels sides.now.implied_offers.levels) out.old out.new result }
 {
     let start = out.len();
     let bids = sides.implied_bids.printed().text();
@@ -136,9 +128,7 @@ pub fn put_consolidated<A: Allocator>(
     bids: &[Total],
     offers: &[Total],
 ) -> Result<(), Memory>
-    ensures ok { OnOk result (out.new.items ≡ out.old.items ++ consolidated_line head.now bids.now offers.now) }
-    ensures err { OnErr result (out.new.items ≡ out.old.items) }
-    ensures full { OnErr result (vec_capacity out.old < vec_len out.old + length (consolidated_line head.now bids.now offers.now)) }
+    ensures { Appends (consolidated_line head.now bids.now offers.now) out.old out.new result }
 {
     let start = out.len();
     let outcome = put_total_sides(out, head, bids, offers);
@@ -154,11 +144,7 @@ pub fn put_merged<A: Allocator>(
     sides: &Sides,
 ) -> Result<(), Memory>
     requires order { quotes_of sides.now ≡ merged_quotes sides.now }
-    ensures ok { OnOk result
-        (out.new.items ≡ out.old.items ++ quotes_line head.now (quotes_of sides.now)) }
-    ensures err { OnErr result (out.new.items ≡ out.old.items) }
-    ensures full { OnErr result (vec_capacity out.old
-        < vec_len out.old + length (quotes_line head.now (quotes_of sides.now))) }
+    ensures { Appends (quotes_line head.now (quotes_of sides.now)) out.old out.new result }
 {
     let start = out.len();
     let outcome = put_merged_sides(out, head, sides);

@@ -1,11 +1,11 @@
 //! The totals of a side whose prices are in order, appended from the text of its levels.
 
-ghost use Rattle.std.specs.Prelude.{◌≡◌, ◌+◌, ◌-◌, ◌<◌, ◌≤◌, ◌++◌, take, drop, length, vec_len, vec_capacity, IfOk, OnOk, OnErr};
+ghost use Rattle.std.specs.Prelude.{◌≡◌, ◌+◌, ◌-◌, ◌≤◌, take, drop, length, IfOk};
 ghost use Rattle.mdp_text.specs.Levels.{quote_text, levels_text};
 ghost use Rattle.mdp_quotes.specs.Entering.{total_of};
 ghost use Rattle.mdp_quotes.specs.Merged.{merged, passed_by, totals_to};
 ghost use Rattle.mdp_print.specs.Texts.{totals_text};
-ghost use Rattle.mdp_print.specs.Pieces.{BeginsWith};
+ghost use Rattle.mdp_print.specs.Pieces.{Appends, Extends};
 
 use crate::pieces::put;
 use crate::totals::put_total;
@@ -23,11 +23,7 @@ fn put_levels<A: Allocator>(
 ) -> Result<(), Memory>
     requires order { from ≤ to }
     requires inside { to ≤ length printed.now }
-    ensures ok { OnOk result (out.new.items ≡ out.old.items ++ levels_text (take (to - from) (drop from printed.now))) }
-    ensures err { OnErr result (out.new.items ≡ out.old.items) }
-    ensures len { OnOk result (vec_len out.new ≡ vec_len out.old + length (levels_text (take (to - from) (drop from printed.now)))) }
-    ensures room { vec_capacity out.old ≤ vec_capacity out.new }
-    ensures full { OnErr result (vec_capacity out.old < vec_len out.old + length (levels_text (take (to - from) (drop from printed.now)))) }
+    ensures { Extends (levels_text (take (to - from) (drop from printed.now))) out.old out.new result }
 {
     if from < to {
         return put(out, printed.text_of(from, to));
@@ -42,11 +38,7 @@ fn put_standing<A: Allocator>(
     text: &[u8],
 ) -> Result<(), Memory>
     requires alone { standing.now.passed ≡ standing.now.ahead → text.now ≡ quote_text standing.now.total.price standing.now.total.size }
-    ensures ok { OnOk result (out.new.items ≡ out.old.items ++ quote_text standing.now.total.price standing.now.total.size) }
-    ensures err { OnErr result (out.new.items ≡ out.old.items) }
-    ensures len { OnOk result (vec_len out.new ≡ vec_len out.old + length (quote_text standing.now.total.price standing.now.total.size)) }
-    ensures room { vec_capacity out.old ≤ vec_capacity out.new }
-    ensures full { OnErr result (vec_capacity out.old < vec_len out.old + length (quote_text standing.now.total.price standing.now.total.size)) }
+    ensures { Extends (quote_text standing.now.total.price standing.now.total.size) out.old out.new result }
 {
     if standing.passed == standing.ahead {
         return put(out, text);
@@ -68,11 +60,7 @@ fn put_up_to<A: Allocator>(
     requires text { text.now ≡ quote_text level.now.price level.now.size }
     ensures passed { IfOk result (λ n. n ≡ passed + passed_by way level.now (drop passed direct.now)) }
     ensures inside { IfOk result (λ n. n ≤ length direct.now) }
-    ensures ok { OnOk result (out.new.items ≡ out.old.items ++ totals_text (totals_to way level.now (drop passed direct.now))) }
-    ensures err { OnErr result (BeginsWith out.new.items out.old.items) }
-    ensures len { OnOk result (vec_len out.new ≡ vec_len out.old + length (totals_text (totals_to way level.now (drop passed direct.now)))) }
-    ensures room { vec_capacity out.old ≤ vec_capacity out.new }
-    ensures full { OnErr result (vec_capacity out.old < vec_len out.old + length (totals_text (totals_to way level.now (drop passed direct.now)))) }
+    ensures extends { Extends (totals_text (totals_to way level.now (drop passed direct.now))) out.old out.new result }
 {
     let standing = standing_of(way, &direct.levels()[passed..], level);
     put_levels(out, direct, passed, passed + standing.ahead)?;
@@ -87,11 +75,7 @@ pub(crate) fn put_merged_levels<A: Allocator>(
     direct: &PrintedLevels<DIRECT_DEPTH>,
     implied: &PrintedLevels<IMPLIED_DEPTH>,
 ) -> Result<(), Memory>
-    ensures ok { OnOk result (out.new.items ≡ out.old.items ++ totals_text (merged way direct.now implied.now)) }
-    ensures err { OnErr result (BeginsWith out.new.items out.old.items) }
-    ensures len { OnOk result (vec_len out.new ≡ vec_len out.old + length (totals_text (merged way direct.now implied.now))) }
-    ensures room { vec_capacity out.old ≤ vec_capacity out.new }
-    ensures full { OnErr result (vec_capacity out.old < vec_len out.old + length (totals_text (merged way direct.now implied.now))) }
+    ensures { Extends (totals_text (merged way direct.now implied.now)) out.old out.new result }
 {
     let levels = implied.levels();
     let mut passed = 0;

@@ -1,7 +1,8 @@
 //! The lines of faulty books, jumps and refused datagrams, and the last line.
 
-ghost use Rattle.std.specs.Prelude.{◌≡◌, ◌+◌, ◌<◌, ◌≤◌, ◌++◌, length, codes, vec_len, vec_capacity, OnOk, OnErr};
+ghost use Rattle.std.specs.Prelude.{◌≡◌, ◌≤◌, ◌++◌, length, codes};
 ghost use Rattle.mdp_print.specs.Texts.{place_text, fault_line, jump_line, refusal_line, last_line};
+ghost use Rattle.mdp_print.specs.Pieces.{Appends};
 
 use crate::pieces::{put, put_event};
 use mdp_books::Place;
@@ -39,9 +40,7 @@ pub fn put_fault<A: Allocator>(
     name: &Name,
     place: &Place,
 ) -> Result<(), Memory>
-    ensures ok { OnOk result (out.new.items ≡ out.old.items ++ fault_line packet message name.now place.now) }
-    ensures err { OnErr result (out.new.items ≡ out.old.items) }
-    ensures full { OnErr result (vec_capacity out.old < vec_len out.old + length (fault_line packet message name.now place.now)) }
+    ensures { Appends (fault_line packet message name.now place.now) out.old out.new result }
 {
     let mut text = end_at(place);
     put_event(&mut text, packet, message, name);
@@ -53,9 +52,7 @@ pub fn put_fault<A: Allocator>(
 /// memory runs out the vector is as before.
 #[tactic(auto, unfolding(crate::specs::Texts::jump_line))]
 pub fn put_jump<A: Allocator>(out: &mut Vec<u8, A>, old: u64, new: u64) -> Result<(), Memory>
-    ensures ok { OnOk result (out.new.items ≡ out.old.items ++ jump_line old new) }
-    ensures err { OnErr result (out.new.items ≡ out.old.items) }
-    ensures full { OnErr result (vec_capacity out.old < vec_len out.old + length (jump_line old new)) }
+    ensures { Appends (jump_line old new) out.old out.new result }
 {
     let mut text = ShortText::new();
     text.put_byte(b'\n');
@@ -76,9 +73,7 @@ pub fn put_refusal<A: Allocator>(
     line: u32,
     refusal: Refusal,
 ) -> Result<(), Memory>
-    ensures ok { OnOk result (out.new.items ≡ out.old.items ++ refusal_line feed line refusal) }
-    ensures err { OnErr result (out.new.items ≡ out.old.items) }
-    ensures full { OnErr result (vec_capacity out.old < vec_len out.old + length (refusal_line feed line refusal)) }
+    ensures { Appends (refusal_line feed line refusal) out.old out.new result }
 {
     let mut text = ShortText::new();
     text.put_byte(b'\n');
@@ -98,9 +93,7 @@ pub fn put_refusal<A: Allocator>(
 /// memory runs out the vector is as before.
 #[tactic(auto, unfolding(crate::specs::Texts::last_line))]
 pub fn put_last<A: Allocator>(out: &mut Vec<u8, A>, next: u64, lost: bool) -> Result<(), Memory>
-    ensures ok { OnOk result (out.new.items ≡ out.old.items ++ last_line next lost) }
-    ensures err { OnErr result (out.new.items ≡ out.old.items) }
-    ensures full { OnErr result (vec_capacity out.old < vec_len out.old + length (last_line next lost)) }
+    ensures { Appends (last_line next lost) out.old out.new result }
 {
     let mut text = ShortText::new();
     text.put_byte(b'\n');

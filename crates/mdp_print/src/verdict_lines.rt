@@ -1,7 +1,8 @@
 //! The lines of calendar spreads.
 
-ghost use Rattle.std.specs.Prelude.{◌≡◌, ◌+◌, ◌<◌, ◌≤◌, ◌++◌, length, codes, vec_len, vec_capacity, OnOk, OnErr};
+ghost use Rattle.std.specs.Prelude.{◌≡◌, ◌≤◌, ◌++◌, length, codes};
 ghost use Rattle.mdp_print.specs.Texts.{verdict_text, audit_line};
+ghost use Rattle.mdp_print.specs.Pieces.{Appends};
 
 use crate::pieces::{put, put_event};
 use mdp_quotes::Verdict;
@@ -55,9 +56,7 @@ pub fn put_audit<A: Allocator>(
     bid: Verdict,
     offer: Verdict,
 ) -> Result<(), Memory>
-    ensures ok { OnOk result (out.new.items ≡ out.old.items ++ audit_line packet message name.now bid offer) }
-    ensures err { OnErr result (out.new.items ≡ out.old.items) }
-    ensures full { OnErr result (vec_capacity out.old < vec_len out.old + length (audit_line packet message name.now bid offer)) }
+    ensures { Appends (audit_line packet message name.now bid offer) out.old out.new result }
 {
     let mut text = end_with(bid, offer);
     put_event(&mut text, packet, message, name);

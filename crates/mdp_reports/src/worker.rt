@@ -43,44 +43,34 @@ fn is_own(count: u16, number: u16, slot: u16) -> bool
     slot % count == number
 }
 
-// Gives the slots of this worker's own securities.
-fn own_slots<A: Allocator + Copy>(
+// A worker's own securities, and their slots.
+#[derive(Drop)]
+struct Own<A: Allocator> {
+    slots: Vec<u16, A>,
+    securities: Vec<Instrument, A>,
+}
+
+// Gives this worker's own securities.
+fn own_part<A: Allocator + Copy>(
     alloc: A,
     listed: &[Instrument],
     count: u16,
     number: u16,
-) -> Result<Vec<u16, A>, Memory>
+) -> Result<Own<A>, Memory>
     requires some { 0 < count }
     requires few { length listed.now ≤ 65536 }
-    ensures { IfOk result (λ slots. slots.items ≡ own_slots (is_kept_by count number) 0 listed.now) }
+    ensures slots { IfOk result (λ own. own.slots.items ≡ own_slots (is_kept_by count number) 0 listed.now) }
+    ensures securities { IfOk result (λ own. own.securities.items ≡ own_part (is_kept_by count number) 0 listed.now) }
 {
     let mut slots = Vec::new(alloc);
+    let mut securities = Vec::new(alloc);
     for slot in 0..listed.len() {
         if is_own(count, number, slot as u16) {
             slots.push(slot as u16)?;
+            securities.push(listed[slot].copy())?;
         }
     }
-    Ok(slots)
-}
-
-// This worker's own securities.
-fn own_securities<A: Allocator + Copy>(
-    alloc: A,
-    listed: &[Instrument],
-    count: u16,
-    number: u16,
-) -> Result<Vec<Instrument, A>, Memory>
-    requires some { 0 < count }
-    requires few { length listed.now ≤ 65536 }
-    ensures { IfOk result (λ own. own.items ≡ own_part (is_kept_by count number) 0 listed.now) }
-{
-    let mut own = Vec::new(alloc);
-    for slot in 0..listed.len() {
-        if is_own(count, number, slot as u16) {
-            own.push(listed[slot].copy())?;
-        }
-    }
-    Ok(own)
+    Ok(Own { slots, securities })
 }
 
 impl<A: Allocator + Copy> Worker<A> {
@@ -105,10 +95,12 @@ impl<A: Allocator + Copy> Worker<A> {
           desks = map desk_at_start (own_part (is_kept_by count number) 0 listed.now);
         }) }
     {
-        let slots = own_slots(alloc, listed, count, number)?;
-        let own = own_securities(alloc, listed, count, number)?;
-        let desks = Desks::new(alloc, &own)?;
-        Ok(Worker { slots, desks })
+        let own = own_part(alloc, listed, count, number)?;
+        let desks = Desks::new(alloc, &own.securities)?;
+        Ok(Worker {
+            slots: own.slots,
+            desks,
+        })
     }
 
     /// Appends its reports of a turn, one for each event end and each jump, and makes its move.

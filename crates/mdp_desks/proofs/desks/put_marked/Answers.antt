@@ -3,8 +3,8 @@ use Rattle.std.specs.Prelude.{List, Bool}
 use Rattle.std.proofs.lemmas.List.{length-map}
 use Rattle.mdp_desks.specs.Beside.{AreClear}
 use Rattle.mdp_print.specs.Pieces.{BeginsWith}
-use Rattle.mdp_print.proofs.Fronts.{begins_more}
-use Rattle.mdp_desks.proofs.Passing.{begins_first, lines_more, lines_end}
+use Rattle.mdp_print.proofs.Fronts.{begins_first, begins_more}
+use Rattle.mdp_desks.proofs.Passing.{lines_more, lines_end}
 use Rattle.mdp_desks.proofs.desks.put_marked.Goals as goal
 
 pub loop-n-preserved : goal.loop-n-preserved

@@ -2,8 +2,7 @@ use Rattle.std.proofs.Common.{rules, ◌≢◌, ◌<◌, ◌++◌, ℕ, List, fa
 use Rattle.std.specs.List.{flat_map}
 use Rattle.std.proofs.lemmas.List.{length-set, get_or-set_other}
 use Rattle.mdp_print.specs.Pieces.{BeginsWith}
-use Rattle.mdp_print.proofs.Fronts.{begins_more}
-use Rattle.mdp_desks.proofs.Passing.{begins_first}
+use Rattle.mdp_print.proofs.Fronts.{begins_first, begins_more}
 use Rattle.mdp_engine.specs.Spreads.{spread_line}
 use Rattle.mdp_engine.proofs.Auditing.{audits_are, under_there}
 use Rattle.mdp_engine.proofs.Noting.{desks_silent, line_more, line_end}

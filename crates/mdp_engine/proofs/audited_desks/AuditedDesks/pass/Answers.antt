@@ -2,8 +2,7 @@ use Rattle.std.proofs.Common.{◌≡◌, ◌+◌, ◌++◌, ◌∷◌, ℕ, List
 use Rattle.mdp_templates.specs.Packet.{MessageContent}
 use Rattle.mdp_templates.proofs.Spanning.{left_from}
 use Rattle.mdp_print.specs.Pieces.{BeginsWith}
-use Rattle.mdp_print.proofs.Fronts.{begins_more}
-use Rattle.mdp_desks.proofs.Passing.{begins_first}
+use Rattle.mdp_print.proofs.Fronts.{begins_first, begins_more}
 use Rattle.mdp_books.specs.Feed.{sent_as, sent_from}
 use Rattle.mdp_desks.specs.declared.desk.Desk.{Desk}
 use Rattle.mdp_desks.specs.Desks.{desks_after, desks_moment, passed_desks, passed_moments}

@@ -1,7 +1,6 @@
 use Rattle.std.proofs.Common.{ℕ, List, refl, sym, ap, subst, rules, ◌∙◌}
 use Rattle.mdp_print.specs.Pieces.{BeginsWith}
-use Rattle.mdp_print.proofs.Fronts.{begins_more}
-use Rattle.mdp_desks.proofs.Passing.{begins_first}
+use Rattle.mdp_print.proofs.Fronts.{begins_first, begins_more}
 use Rattle.mdp_arbiter.specs.Arbiter.{View as ArbiterView}
 use Rattle.mdp_engine.specs.Engine.{View}
 use Rattle.mdp_engine.proofs.Moving.{MovesTo, moves_further, moves_settled}
