@@ -19,7 +19,7 @@ use Rattle.mdp_crew.specs.Orders.{and_sent, orders_of}
 pub record HasBegun (channel : ListedChannel) (arbiter : View) : Type 0 where
   pub stands : StandsAt [] arbiter
   pub begins : state arbiter ≡ first_state arbiter.channel
-  pub channel : arbiter.channel ≡ channel_of channel
+  pub channel_is : arbiter.channel ≡ channel_of channel
 
 -- a number that the packet can have which comes next
 abbrev pub IsNextNumber : ℕ → Type 0

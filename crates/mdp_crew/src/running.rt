@@ -135,9 +135,9 @@ where
     requires begun { HasBegun (channel_in plan) arbiter }
     requires fresh { receiver.taken ≡ [] }
     ensures { MatchResult result
-        (λ h. (h.promise.plan.value ≡ plan) × (h.promise.receiver.value ≡ receiver)
+        (λ h. (h.promise.plan.value ≡ plan.entry) × (h.promise.receiver.value ≡ receiver)
         × (h.promise.senders.value.items ≡ senders.items))
-        (λ outcome. HasSent (channel_in plan) receiver senders.items outcome) }
+        (λ outcome. HasSent (channel_in plan.entry) receiver senders.items outcome) }
 {
     if !starts.may_start(ARBITER) {
         let _ = go.set(rt, false);
@@ -219,7 +219,7 @@ where
     requires fresh { receiver.taken ≡ [] }
     ensures takes { HasTakenMore receiver result.receiver }
     ensures ends { ends_taken (λ b. b.is_last) result.receiver.taken ≡ 3 }
-    ensures shows { HasShown (channel_in plan) (events_taken result.receiver.taken)
+    ensures shows { HasShown (channel_in plan.entry) (events_taken result.receiver.taken)
         (W.taken writer.old) (W.taken writer.new) board.old board.new result.standing }
     ensures counts { HasCounted (W.taken writer.old) (W.taken writer.new) result.written }
     ensures range { IfOk result.standing (λ standing. IsNextNumber standing.next) }
@@ -298,7 +298,7 @@ where
     requires fresh { receiver.taken ≡ [] }
     ensures takes { HasTakenMore receiver result.receiver }
     ensures ends { ends_taken (λ b. b.is_last) result.receiver.taken ≡ 3 }
-    ensures shows { HasShown (channel_in plan) (events_taken result.receiver.taken)
+    ensures shows { HasShown (channel_in plan.entry) (events_taken result.receiver.taken)
         (W.taken writer.old) (W.taken writer.new) board.old board.new result.standing }
     ensures counts { HasCounted (W.taken writer.old) (W.taken writer.new) result.written }
     ensures range { IfOk result.standing (λ standing. IsNextNumber standing.next) }
