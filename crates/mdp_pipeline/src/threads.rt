@@ -132,7 +132,7 @@ where
     requires sound { W.failed writer.old < 2 ^ 64 - 1 }
     requires lawful { IsLawful plan }
     requires some { 1 ≤ plan.workers }
-    ensures ends { Ends (channel_in plan) (records_in feeds)
+    ensures ends { Ends (channel_in plan.entry) (records_in feeds.entry)
         (out (W.taken writer.old) board.old) (out (W.taken writer.new) board.new) result }
     ensures failed { FailsBy result (W.failed writer.old) (W.failed writer.new) }
 {
@@ -218,7 +218,7 @@ where
         move |scope| -> (&mut W, &mut Option<Publisher<A>>, Result<Summary, RunFault>)
             requires { (W.failed writer.now < 2 ^ 64 - 1) × IsLawful plan × (1 ≤ plan.workers) }
             ensures same { (result.0.ghost_name ≡ writer.entry.ghost_name) × (result.1.ghost_name ≡ board.entry.ghost_name) }
-            ensures ends { Ends (channel_in plan) (records_in feeds)
+            ensures ends { Ends (channel_in plan.entry) (records_in feeds.entry)
                 (out (W.taken writer.entry.now) board.entry.now) (out (W.taken result.0.now) result.1.now) result.2 }
             ensures failed { FailsBy result.2 (W.failed writer.entry.now) (W.failed result.0.now) }
         {
