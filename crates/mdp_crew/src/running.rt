@@ -93,7 +93,7 @@ where
     A: 's,
     requires lawful { IsLawful plan }
     requires some { 1 ≤ plan.workers }
-    ensures { IfOk result (λ ready. IsReady plan ready) }
+    ensures { IfOk result (λ ready. IsReady plan.entry ready) }
 {
     let RunPlan {
         instruments,
