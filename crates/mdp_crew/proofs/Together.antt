@@ -23,19 +23,18 @@ use Rattle.mdp_reports.proofs.Full.{law_of_full_jumps}
 use Rattle.mdp_crew.specs.declared.arbiter.ArbiterOutcome.{ArbiterOutcome}
 use Rattle.mdp_crew.specs.declared.arbiter.Standing.{Standing}
 use Rattle.mdp_crew.specs.declared.batch.Batch.{Batch}
-use Rattle.mdp_crew.specs.declared.crew.Post.{Post}
 use Rattle.mdp_crew.specs.declared.order.Order.{Order}
 use Rattle.mdp_crew.specs.declared.stop.Stop.{Stop}
 use Rattle.mdp_crew.specs.Arbitrating.{HasSent}
 use Rattle.mdp_crew.specs.Batches.{events_taken}
-use Rattle.mdp_crew.specs.Collecting.{EndsCollecting, HasAll, HasSome}
+use Rattle.mdp_crew.specs.Collecting.{EndsCollecting, HasAll, HasSome, Showing, text_of_batches}
 use Rattle.mdp_crew.specs.Crew.{IsCrew, IsSettled}
 use Rattle.mdp_crew.specs.Running.{HasShown, WentOut, outcome_of}
 use Rattle.mdp_crew.specs.Publishing.{published_on}
 use Rattle.mdp_crew.proofs.Boards.{published_nothing}
 use Rattle.mdp_crew.proofs.Leaving.{all_out, begun, out_more, out_of_rounds}
 use Rattle.mdp_crew.proofs.Meeting.{ascend_front, steps_are_shown, text_is_shown}
-use Rattle.mdp_crew.proofs.Settling.{AllSettled, all_published, all_written, some_rounds}
+use Rattle.mdp_crew.proofs.Settling.{AllSettled, all_published, all_written, rounds_of, some_rounds}
 
 -- nothing went out
 pub shown_nothing : (listed : List Instrument) (room : ℕ) (from : Start) (events : List Event) (start : List ℕ) (board : Option Published) (stop : Stop) → HasShown listed room from events start start board board (Err stop)
@@ -55,22 +54,22 @@ module _ {A : Type 0} where
   sent_ascend listed room from ss receiver outcome sent =
       ascend_front listed 1 (moves_sent sent.batches) sent.sent.rest (subst (Ascend listed 1) sent.sent.front (law_of_ascent listed room from (events_taken outcome.receiver.taken)))
 
-  all_settled : (listed : List Instrument) (n room : ℕ) (from : Start) (ss : List (LaneSenderView (Order A))) (ps new : List (Post A)) (receiver : IntakeReceiverView (Batch A)) (outcome : ArbiterOutcome A)
-      → 1 ≤ n → IsCrew listed n n ss ps → (sent : HasSent listed room from receiver ss outcome) → AllZip IsSettled outcome.senders.items new → AllSettled listed n sent.batches ss ps new
-  all_settled listed n room from ss ps new receiver outcome some crew sent settled_are = record {
+  all_settled : (listed : List Instrument) (n room : ℕ) (from : Start) (ss : List (LaneSenderView (Order A))) (old new : Showing A) (receiver : IntakeReceiverView (Batch A)) (outcome : ArbiterOutcome A)
+      → 1 ≤ n → IsCrew listed n n ss old.posts → (sent : HasSent listed room from receiver ss outcome) → AllZip IsSettled outcome.senders.items new.posts → AllSettled listed n sent.batches ss old new
+  all_settled listed n room from ss old new receiver outcome some crew sent settled_are = record {
     many = crew.long;
     some = some;
     fresh = crew.fresh;
     numbered = crew.numbered;
     full = law_of_full_jumps listed 1 (moves_sent sent.batches) (sent_ascend listed room from ss receiver outcome sent);
-    settled_are = subst (λ (l : List (LaneSenderView (Order A))). AllZip IsSettled l new) sent.lanes settled_are;
+    settled_are = subst (λ (l : List (LaneSenderView (Order A))). AllZip IsSettled l new.posts) sent.lanes settled_are;
   }
 
-  pub met : (listed : List Instrument) (n room : ℕ) (from : Start) (ss : List (LaneSenderView (Order A))) (ps new : List (Post A)) (collector : View) (start taken : List ℕ) (board board' : Option Published) (receiver : IntakeReceiverView (Batch A)) (outcome : ArbiterOutcome A) (collected : Result (Unit {0}) Stop)
-      → 1 ≤ n → AllPairs (λ a b. a ≢ b) (ids_of listed) → IsCrew listed n n ss ps → collector ≡ begun listed → HasSent listed room from receiver ss outcome → EndsCollecting ps new collector start taken board board' collected
-      → AllZip IsSettled outcome.senders.items new → HasShown listed room from (events_taken outcome.receiver.taken) start taken board board' (outcome_of collected outcome.standing)
-  met listed n room from ss ps new collector start taken board board' receiver outcome collected some differ crew collector_is sent ends settled_are =
-      by_both collected outcome.standing (subst (λ (v : View). EndsCollecting ps new v start taken board board' collected) collector_is ends) sent.sent.whole sent.next_is sent.lost_is
+  pub met : (listed : List Instrument) (n room : ℕ) (from : Start) (ss : List (LaneSenderView (Order A))) (old new : Showing A) (receiver : IntakeReceiverView (Batch A)) (outcome : ArbiterOutcome A) (collected : Result (Unit {0}) Stop)
+      → 1 ≤ n → AllPairs (λ a b. a ≢ b) (ids_of listed) → IsCrew listed n n ss old.posts → old.collector ≡ begun listed → HasSent listed room from receiver ss outcome → EndsCollecting old new collected
+      → AllZip IsSettled outcome.senders.items new.posts → HasShown listed room from (events_taken outcome.receiver.taken) old.taken new.taken old.board new.board (outcome_of collected outcome.standing)
+  met listed n room from ss old new receiver outcome collected some differ crew collector_is sent ends settled_are =
+      by_both collected outcome.standing ends sent.sent.whole sent.next_is sent.lost_is
     where
       moves : List Move
       moves = moves_sent sent.batches
@@ -78,49 +77,50 @@ module _ {A : Type 0} where
       ascend : Ascend listed 1 moves
       ascend = sent_ascend listed room from ss receiver outcome sent
 
-      is : AllSettled listed n sent.batches ss ps new
-      is = all_settled listed n room from ss ps new receiver outcome some crew sent settled_are
+      is : AllSettled listed n sent.batches ss old new
+      is = all_settled listed n room from ss old new receiver outcome some crew sent settled_are
 
-      all_text : HasAll ps new (begun listed) start taken board board' → taken ≡ start ++ shown_lines listed moves
+      all_text : HasAll old new → new.taken ≡ old.taken ++ shown_lines listed moves
       all_text all =
-          all_written listed n sent.batches ss ps new (begun listed) start taken board board' is all
-          ∙ ap (λ (t : List ℕ). start ++ t) (text_is_shown listed n sent.batches some differ ascend)
+          all_written listed n sent.batches ss old new is all
+          ∙ ap (λ (v : View). old.taken ++ text_of_batches v (rounds_of listed n [] sent.batches)) collector_is
+          ∙ ap (λ (t : List ℕ). old.taken ++ t) (text_is_shown listed n sent.batches some differ ascend)
 
-      all_steps : HasAll ps new (begun listed) start taken board board' → board' ≡ published_on board (board_steps listed moves)
+      all_steps : HasAll old new → new.board ≡ published_on old.board (board_steps listed moves)
       all_steps all =
-          all_published listed n sent.batches ss ps new (begun listed) start taken board board' is all
-          ∙ ap (published_on board) (steps_are_shown listed n sent.batches some)
+          all_published listed n sent.batches ss old new is all
+          ∙ ap (published_on old.board) (steps_are_shown listed n sent.batches some)
 
       -- what went out of the moves that were sent, of all moves of the events
-      of_all : WentOut (moments listed moves) [] start taken board board' → WentOut (moments listed (trace (channel_of listed room from) (events_taken outcome.receiver.taken))) [] start taken board board'
+      of_all : WentOut (moments listed moves) [] old.taken new.taken old.board new.board → WentOut (moments listed (trace (channel_of listed room from) (events_taken outcome.receiver.taken))) [] old.taken new.taken old.board new.board
       of_all out =
-          subst (λ (ms : List Moment). WentOut ms [] start taken board board') (sym (ap (moments listed) sent.sent.front ∙ moments-append listed [] moves sent.sent.rest))
-          (out_more (moments listed moves) (moments_after listed moves sent.sent.rest) [] start taken board board' out)
+          subst (λ (ms : List Moment). WentOut ms [] old.taken new.taken old.board new.board) (sym (ap (moments listed) sent.sent.front ∙ moments-append listed [] moves sent.sent.rest))
+          (out_more (moments listed moves) (moments_after listed moves sent.sent.rest) [] old.taken new.taken old.board new.board out)
 
       -- the collector ended early
-      of_first : HasSome ps new (begun listed) start taken board board' → WentOut (moments listed moves) [] start taken board board'
+      of_first : HasSome old new → WentOut (moments listed moves) [] old.taken new.taken old.board new.board
       of_first has =
-          let at = some_rounds listed n sent.batches ss ps new (begun listed) start taken board board' is has in
+          let at = some_rounds listed n sent.batches ss old new is has in
           let first = moves_sent at.0 in
           let all : moves ≡ first ++ moves_sent at.1 = ap moves_sent at.2 ∙ flat_map-append (λ (l : List Move). l) at.0 at.1 in
-          let out = out_of_rounds listed n at.0 has.rounds start taken board board' some differ (ascend_front listed 1 first (moves_sent at.1) (subst (Ascend listed 1) all ascend)) at.3 has.out in
-          subst (λ (ms : List Moment). WentOut ms [] start taken board board') (sym (ap (moments listed) all ∙ moments-append listed [] first (moves_sent at.1)))
-          (out_more (moments listed first) (moments_after listed first (moves_sent at.1)) [] start taken board board' out)
+          let out = out_of_rounds listed n at.0 has.rounds old new some differ (ascend_front listed 1 first (moves_sent at.1) (subst (Ascend listed 1) all ascend)) collector_is at.3 has.out in
+          subst (λ (ms : List Moment). WentOut ms [] old.taken new.taken old.board new.board) (sym (ap (moments listed) all ∙ moments-append listed [] first (moves_sent at.1)))
+          (out_more (moments listed first) (moments_after listed first (moves_sent at.1)) [] old.taken new.taken old.board new.board out)
 
-      by_both : {E : Type 0} (collected : Result (Unit {0}) Stop) (standing : Result Standing E) → EndsCollecting ps new (begun listed) start taken board board' collected → OnOk standing (sent.sent.rest ≡ [])
+      by_both : {E : Type 0} (collected : Result (Unit {0}) Stop) (standing : Result Standing E) → EndsCollecting old new collected → OnOk standing (sent.sent.rest ≡ [])
           → IfOk standing (λ (s : Standing). s.next ≡ (state_at (channel_of listed room from) (events_taken outcome.receiver.taken)).next)
           → IfOk standing (λ (s : Standing). s.lost ≡ is_lost (channel_of listed room from) (events_taken outcome.receiver.taken) (state_at (channel_of listed room from) (events_taken outcome.receiver.taken)))
-          → HasShown listed room from (events_taken outcome.receiver.taken) start taken board board' (outcome_of collected standing)
+          → HasShown listed room from (events_taken outcome.receiver.taken) old.taken new.taken old.board new.board (outcome_of collected standing)
       by_both (Ok done) (Ok standing) e whole next lost =
           let same : moves ≡ trace (channel_of listed room from) (events_taken outcome.receiver.taken) = sym (append-nil moves) ∙ ap (λ (l : List Move). moves ++ l) (sym whole) ∙ sym sent.sent.front in
           record {
             all = record {
-              shown = all_text e ∙ ap (λ (l : List Move). start ++ shown_lines listed l) same;
-              published = all_steps e ∙ ap (λ (l : List Move). published_on board (board_steps listed l)) same;
+              shown = all_text e ∙ ap (λ (l : List Move). old.taken ++ shown_lines listed l) same;
+              published = all_steps e ∙ ap (λ (l : List Move). published_on old.board (board_steps listed l)) same;
               next_is = next;
               lost_is = lost;
             };
             some = tt;
           }
-      by_both (Ok done) (Err memory) e whole next lost = record { all = tt; some = of_all (all_out (moments listed moves) start taken board board' (all_text e) (all_steps e)) }
+      by_both (Ok done) (Err memory) e whole next lost = record { all = tt; some = of_all (all_out (moments listed moves) old.taken new.taken old.board new.board (all_text e) (all_steps e)) }
       by_both (Err stop) standing e whole next lost = record { all = tt; some = of_all (of_first e) }

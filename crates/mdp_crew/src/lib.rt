@@ -11,6 +11,7 @@ mod gate;
 mod last_orders;
 mod order;
 mod publishing;
+mod rounds;
 mod running;
 mod starts;
 mod steps;
