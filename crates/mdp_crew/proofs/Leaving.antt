@@ -18,7 +18,7 @@ use Rattle.mdp_reports.specs.Behind.{IsBehind}
 use Rattle.mdp_reports.specs.BoardSteps.{step_of_moment}
 use Rattle.mdp_reports.specs.Taking.{View}
 use Rattle.mdp_reports.proofs.Behind.{behind_in_steps, behind_in_text, behind_more}
-use Rattle.mdp_crew.specs.Collecting.{IsCut, steps_of_batches, text_of_batches}
+use Rattle.mdp_crew.specs.Collecting.{IsCut, Showing, steps_of_batches, text_of_batches}
 use Rattle.mdp_crew.specs.Collecting.IsCut.{among_steps, in_last}
 use Rattle.mdp_crew.specs.Publishing.{published_on}
 use Rattle.mdp_crew.specs.Running.{WentOut}
@@ -103,25 +103,27 @@ out_in_last listed n first last sent rest start taken board board' some differ a
     }
 
 -- of the rounds of these batches so much went out
-pub out_of_rounds : (listed : List Instrument) (n : ℕ) (xs : List (List Move)) (rounds : List (List (List Report))) (start taken : List ℕ) (board board' : Option Published)
-    → 1 ≤ n → AllPairs (λ a b. a ≢ b) (ids_of listed) → Ascend listed 1 (moves_sent xs) → rounds ≡ rounds_of listed n [] xs → IsCut (begun listed) rounds start taken board board'
-    → WentOut (moments listed (moves_sent xs)) [] start taken board board'
-out_of_rounds listed n xs rounds start taken board board' some differ ascend are (among_steps shown hidden all text steps) =
+pub out_of_rounds : {A : Type 0} (listed : List Instrument) (n : ℕ) (xs : List (List Move)) (rounds : List (List (List Report))) (old new : Showing A)
+    → 1 ≤ n → AllPairs (λ a b. a ≢ b) (ids_of listed) → Ascend listed 1 (moves_sent xs) → old.collector ≡ begun listed → rounds ≡ rounds_of listed n [] xs → IsCut old new rounds
+    → WentOut (moments listed (moves_sent xs)) [] old.taken new.taken old.board new.board
+out_of_rounds listed n xs rounds old new some differ ascend begins are (among_steps shown hidden all text steps) =
     let ms = moments listed (moves_sent xs) in
     record {
       sent = text_of_moments ms;
       steps = shown;
-      taken_is = text ∙ ap (λ (l : List (List (List Report))). start ++ text_of_batches (begun listed) l) are ∙ ap (λ (t : List ℕ). start ++ t) (text_is_shown listed n xs some differ ascend);
+      taken_is = text ∙ (λ i. old.taken ++ text_of_batches (begins i) (are i)) ∙ ap (λ (t : List ℕ). old.taken ++ t) (text_is_shown listed n xs some differ ascend);
       board_is = steps;
       behind = behind_in_steps ms shown hidden (sym (steps_are_shown listed n xs some) ∙ ap steps_of_batches (sym are) ∙ all);
     }
-out_of_rounds listed n xs rounds start taken board board' some differ ascend are (in_last done round sent rest parts whole text steps) =
+out_of_rounds listed n xs rounds old new some differ ascend begins are (in_last done round sent rest parts whole text steps) =
     let at = last_round listed n [] xs done round (sym are ∙ parts) in
     let first = at.0 in
     let last = at.1 in
-    let of_done : text_of_batches (begun listed) done ≡ text_of_batches (begun listed) (rounds_of listed n [] first) = ap (text_of_batches (begun listed)) at.3 in
-    subst (λ (l : List (List Move)). WentOut (moments listed (moves_sent l)) [] start taken board board') (sym at.2)
-    (out_in_last listed n first last sent rest start taken board board' some differ (subst (λ (l : List (List Move)). Ascend listed 1 (moves_sent l)) at.2 ascend)
-    (ap (λ (l : List (List Move)). text_of_batches (begun listed) (rounds_of listed n [] l)) (sym at.2) ∙ ap (text_of_batches (begun listed)) (sym are) ∙ whole ∙ ap (λ (t : List ℕ). t ++ (sent ++ rest)) of_done)
-    (text ∙ ap (λ (t : List ℕ). start ++ (t ++ sent)) of_done)
-    (steps ∙ ap (λ (l : List (List (List Report))). published_on board (steps_of_batches l)) at.3 ∙ ap (published_on board) (steps_are_shown listed n first some)))
+    let of_done : text_of_batches old.collector done ≡ text_of_batches (begun listed) (rounds_of listed n [] first) = λ i. text_of_batches (begins i) (at.3 i) in
+    let of_all : text_of_batches old.collector rounds ≡ text_of_batches (begun listed) (rounds_of listed n [] (first ++ last ∷ [])) =
+    (λ i. text_of_batches (begins i) (are i)) ∙ ap (λ (l : List (List Move)). text_of_batches (begun listed) (rounds_of listed n [] l)) at.2 in
+    subst (λ (l : List (List Move)). WentOut (moments listed (moves_sent l)) [] old.taken new.taken old.board new.board) (sym at.2)
+    (out_in_last listed n first last sent rest old.taken new.taken old.board new.board some differ (subst (λ (l : List (List Move)). Ascend listed 1 (moves_sent l)) at.2 ascend)
+    (sym of_all ∙ whole ∙ ap (λ (t : List ℕ). t ++ (sent ++ rest)) of_done)
+    (text ∙ ap (λ (t : List ℕ). old.taken ++ (t ++ sent)) of_done)
+    (steps ∙ ap (λ (l : List (List (List Report))). published_on old.board (steps_of_batches l)) at.3 ∙ ap (published_on old.board) (steps_are_shown listed n first some)))

@@ -1,10 +1,9 @@
 -- Where all threads are joined and all lanes settled, the rounds that were taken are those of a beginning of the batches.
 use Rattle.std.proofs.Common.{◌≡◌, ◌≤◌, ℕ, ◌+◌, zero, suc, Bool, true, false, List, [], ◌∷◌, ◌++◌, length, map, take, drop, replicate, refl, sym, ap, ◌∙◌, subst, append_assoc, arith}
-use Rattle.std.specs.Prelude.{Option, Result, Ok, Err}
+use Rattle.std.specs.Prelude.{Result, Ok, Err}
 use Rattle.std.specs.List.{AllByRecursion, AllZip}
 use Rattle.std.proofs.lemmas.List.{append-nil}
 use Rattle.mdp_templates.specs.declared.instrument.Instrument.{Instrument}
-use Rattle.mdp_lanes.specs.Boards.{Published}
 use Rattle.mdp_lanes.specs.Queues.{LaneReceiverView, LaneSenderView}
 use Rattle.mdp_arbiter.specs.Machine.{Move}
 use Rattle.mdp_desks.specs.Moments.{moments_after, moments_by}
@@ -13,20 +12,19 @@ use Rattle.mdp_desks.specs.Shares.{is_kept_by}
 use Rattle.mdp_engine.specs.Rounds.{batch_of, numbers_from}
 use Rattle.mdp_crew.specs.Sent.{moves_sent}
 use Rattle.mdp_reports.specs.ReportLaw.{AreFull}
-use Rattle.mdp_reports.specs.Taking.{View}
 use Rattle.mdp_reports.specs.declared.answer.Answer.{Answer}
 use Rattle.mdp_reports.specs.declared.answer.Answer.TheVariants.{Tells, Finished}
 use Rattle.mdp_crew.specs.declared.crew.Post.{Post}
 use Rattle.mdp_crew.specs.declared.order.Order.{Order}
 use Rattle.mdp_crew.specs.declared.stop.Stop.{Stop}
 use Rattle.mdp_crew.specs.declared.worker.WorkerOutcome.{WorkerOutcome}
-use Rattle.mdp_crew.specs.Collecting.{EndsCollecting, HasAll, HasSome, steps_of_batches, text_of_batches}
+use Rattle.mdp_crew.specs.Collecting.{EndsCollecting, HasAll, HasSome, Showing, steps_of_batches, text_of_batches}
 use Rattle.mdp_crew.specs.Publishing.{published_on}
 use Rattle.mdp_crew.specs.Crew.{AreFresh, AreNumbered, IsFront, IsHired, IsSettled}
 use Rattle.mdp_crew.specs.Orders.{and_sent, orders_of}
 use Rattle.mdp_crew.specs.Rounds.{Wide, all_took, laid, put}
 use Rattle.mdp_crew.specs.Work.{HasAnswered, answers_by}
-use Rattle.mdp_crew.proofs.Taking.{length-laid, length-took, length-nothing}
+use Rattle.mdp_crew.proofs.Taking.{length-laid, length-nothing}
 
 -- what worker `number` of so many reports of a batch behind these moves
 abbrev report_batch : List Instrument → ℕ → ℕ → List Move → List Move → List Report
@@ -217,60 +215,44 @@ module _ {A : Type 0} where
 
   -- ---- what is written once all is settled
 
-  pub record AllSettled (listed : List Instrument) (n : ℕ) (xs : List (List Move)) (ss : List (LaneSenderView (Order A))) (ps new : List (Post A)) : Type 0 where
-    pub many : length ps ≡ n
+  pub record AllSettled (listed : List Instrument) (n : ℕ) (xs : List (List Move)) (ss : List (LaneSenderView (Order A))) (old new : Showing A) : Type 0 where
+    pub many : length old.posts ≡ n
     pub some : 1 ≤ n
-    pub fresh : AreFresh ss ps
-    pub numbered : AreNumbered listed n 0 ps
+    pub fresh : AreFresh ss old.posts
+    pub numbered : AreNumbered listed n 0 old.posts
     pub full : AreFull listed (moves_sent xs)
-    pub settled_are : AllZip IsSettled (map (and_sent (orders_of xs)) ss) new
+    pub settled_are : AllZip IsSettled (map (and_sent (orders_of xs)) ss) new.posts
 
-  fronts_all : (listed : List Instrument) (n : ℕ) (xs : List (List Move)) (ss : List (LaneSenderView (Order A))) (ps new : List (Post A)) (rows : List (List (Answer A))) → AllSettled listed n xs ss ps new → new ≡ all_took ps rows → length rows ≡ n
+  fronts_all : (listed : List Instrument) (n : ℕ) (xs : List (List Move)) (ss : List (LaneSenderView (Order A))) (old new : Showing A) (rows : List (List (Answer A))) → AllSettled listed n xs ss old new → new.posts ≡ all_took old.posts rows → length rows ≡ n
       → AreFronts listed n [] xs (numbers_from 0 n) rows
-  fronts_all listed n xs ss ps new rows is took_is long =
+  fronts_all listed n xs ss old new rows is took_is long =
       subst (λ (k : ℕ). AreFronts listed n [] xs (numbers_from 0 k) rows) is.many
-      (fronts_of listed n 0 xs ss ps rows (long ∙ sym is.many) is.numbered is.fresh.0 is.fresh.1 is.full (subst (λ (l : List (Post A)). AllZip IsSettled (map (and_sent (orders_of xs)) ss) l) took_is is.settled_are))
+      (fronts_of listed n 0 xs ss old.posts rows (long ∙ sym is.many) is.numbered is.fresh.0 is.fresh.1 is.full (subst (λ (l : List (Post A)). AllZip IsSettled (map (and_sent (orders_of xs)) ss) l) took_is is.settled_are))
 
-  all_rounds : (listed : List Instrument) (n : ℕ) (xs : List (List Move)) (ss : List (LaneSenderView (Order A))) (ps new : List (Post A)) (collector : View) (taken taken' : List ℕ) (board board' : Option Published)
-      → AllSettled listed n xs ss ps new → (has : HasAll ps new collector taken taken' board board') → has.rounds ≡ rounds_of listed n [] xs
-  all_rounds listed n xs ss ps new collector taken taken' board board' is has =
+  all_rounds : (listed : List Instrument) (n : ℕ) (xs : List (List Move)) (ss : List (LaneSenderView (Order A))) (old new : Showing A) → AllSettled listed n xs ss old new → (has : HasAll old new) → has.rounds ≡ rounds_of listed n [] xs
+  all_rounds listed n xs ss old new is has =
       let last : List (Answer A) = Finished ∷ [] in
       let wide : Wide n has.rounds = subst (λ (k : ℕ). Wide k has.rounds) is.many has.wide in
-      let took_is : new ≡ all_took ps (laid has.rounds (replicate n last)) = has.took_is ∙ ap (λ (k : ℕ). all_took ps (laid has.rounds (replicate k last))) is.many in
+      let took_is : new.posts ≡ all_took old.posts (laid has.rounds (replicate n last)) = has.took_is ∙ ap (λ (k : ℕ). all_took old.posts (laid has.rounds (replicate k last))) is.many in
       let long : length (laid has.rounds (replicate n last)) ≡ n = length-laid n has.rounds (replicate n last) (length-nothing n last) wide in
-      rounds_all listed n xs has.rounds last refl is.some wide (fronts_all listed n xs ss ps new (laid has.rounds (replicate n last)) is took_is long)
+      rounds_all listed n xs has.rounds last refl is.some wide (fronts_all listed n xs ss old new (laid has.rounds (replicate n last)) is took_is long)
 
-  pub some_rounds : (listed : List Instrument) (n : ℕ) (xs : List (List Move)) (ss : List (LaneSenderView (Order A))) (ps new : List (Post A)) (collector : View) (taken taken' : List ℕ) (board board' : Option Published)
-      → AllSettled listed n xs ss ps new → (has : HasSome ps new collector taken taken' board board')
+  pub some_rounds : (listed : List Instrument) (n : ℕ) (xs : List (List Move)) (ss : List (LaneSenderView (Order A))) (old new : Showing A) → AllSettled listed n xs ss old new → (has : HasSome old new)
       → (first : List (List Move)) × (later : List (List Move)) × (xs ≡ first ++ later) × (has.rounds ≡ rounds_of listed n [] first)
-  some_rounds listed n xs ss ps new collector taken taken' board board' is has =
+  some_rounds listed n xs ss old new is has =
       let wide : Wide n has.rounds = subst (λ (k : ℕ). Wide k has.rounds) is.many has.wide in
       let long : length (laid has.rounds has.more) ≡ n = length-laid n has.rounds has.more (has.long ∙ is.many) wide in
-      rounds_some listed n xs has.rounds has.more is.some wide (has.long ∙ is.many) (fronts_all listed n xs ss ps new (laid has.rounds has.more) is has.took_is long)
+      rounds_some listed n xs has.rounds has.more is.some wide (has.long ∙ is.many) (fronts_all listed n xs ss old new (laid has.rounds has.more) is has.took_is long)
 
-  pub all_written : (listed : List Instrument) (n : ℕ) (xs : List (List Move)) (ss : List (LaneSenderView (Order A))) (ps new : List (Post A)) (collector : View) (taken taken' : List ℕ) (board board' : Option Published)
-      → AllSettled listed n xs ss ps new → HasAll ps new collector taken taken' board board' → taken' ≡ taken ++ text_of_batches collector (rounds_of listed n [] xs)
-  all_written listed n xs ss ps new collector taken taken' board board' is has =
-      has.text ∙ ap (λ (l : List (List (List Report))). taken ++ text_of_batches collector l) (all_rounds listed n xs ss ps new collector taken taken' board board' is has)
+  pub all_written : (listed : List Instrument) (n : ℕ) (xs : List (List Move)) (ss : List (LaneSenderView (Order A))) (old new : Showing A) → AllSettled listed n xs ss old new → HasAll old new
+      → new.taken ≡ old.taken ++ text_of_batches old.collector (rounds_of listed n [] xs)
+  all_written listed n xs ss old new is has = has.text ∙ ap (λ (l : List (List (List Report))). old.taken ++ text_of_batches old.collector l) (all_rounds listed n xs ss old new is has)
 
-  pub all_published : (listed : List Instrument) (n : ℕ) (xs : List (List Move)) (ss : List (LaneSenderView (Order A))) (ps new : List (Post A)) (collector : View) (taken taken' : List ℕ) (board board' : Option Published)
-      → AllSettled listed n xs ss ps new → HasAll ps new collector taken taken' board board' → board' ≡ published_on board (steps_of_batches (rounds_of listed n [] xs))
-  all_published listed n xs ss ps new collector taken taken' board board' is has =
-      has.steps ∙ ap (λ (l : List (List (List Report))). published_on board (steps_of_batches l)) (all_rounds listed n xs ss ps new collector taken taken' board board' is has)
+  pub all_published : (listed : List Instrument) (n : ℕ) (xs : List (List Move)) (ss : List (LaneSenderView (Order A))) (old new : Showing A) → AllSettled listed n xs ss old new → HasAll old new
+      → new.board ≡ published_on old.board (steps_of_batches (rounds_of listed n [] xs))
+  all_published listed n xs ss old new is has = has.steps ∙ ap (λ (l : List (List (List Report))). published_on old.board (steps_of_batches l)) (all_rounds listed n xs ss old new is has)
 
-  -- ---- a slice that is written back
-
-  pub ended_took : (old new : List (Post A)) (collector : View) (taken taken' : List ℕ) (board board' : Option Published) (result : Result (Unit {0}) Stop) → EndsCollecting old new collector taken taken' board board' result → (rows : List (List (Answer A))) × (new ≡ all_took old rows)
-  ended_took old new collector taken taken' board board' (Ok done) is = (laid is.rounds (replicate (length old) (Finished ∷ [])), is.took_is)
-  ended_took old new collector taken taken' board board' (Err stop) is = (laid is.rounds is.more, is.took_is)
-
-  pub ended_long : (old new : List (Post A)) (collector : View) (taken taken' : List ℕ) (board board' : Option Published) (result : Result (Unit {0}) Stop) → EndsCollecting old new collector taken taken' board board' result → length new ≡ length old
-  ended_long old new collector taken taken' board board' result is = let rows = ended_took old new collector taken taken' board board' result is in ap length rows.1 ∙ length-took old rows.0
-
-pub written_back : {X : Type 0} (new items : List X) (n : ℕ) → length new ≡ length items → length items ≡ n → take n (new ++ drop (length new) items) ≡ new
-written_back [] [] zero long is = refl
-written_back [] [] (suc n) long is = refl
-written_back [] (y ∷ items) n long is = absurd (omega (arith, long))
-written_back (x ∷ new) [] n long is = absurd (omega (arith, long))
-written_back (x ∷ new) (y ∷ items) zero long is = absurd (omega (arith, is))
-written_back {X = X} (x ∷ new) (y ∷ items) (suc n) long is = ap (λ (l : List X). x ∷ l) (written_back new items n (omega (arith, long)) (omega (arith, is)))
+  -- whatever it came to, it took some answers of each worker
+  pub ended_took : (old new : Showing A) (result : Result (Unit {0}) Stop) → EndsCollecting old new result → (rows : List (List (Answer A))) × (new.posts ≡ all_took old.posts rows)
+  ended_took old new (Ok done) is = (laid is.rounds (replicate (length old.posts) (Finished ∷ [])), is.took_is)
+  ended_took old new (Err stop) is = (laid is.rounds is.more, is.took_is)

@@ -3,11 +3,10 @@ use Rattle.std.proofs.Common.{◌≡◌, ◌<◌, ℕ, zero, suc, Bool, true, fa
 use Rattle.std.specs.Prelude.{Option, Result, Ok, Err, ◌&&◌, ◌||◌}
 use Rattle.std.specs.List.{AllByRecursion, list_any}
 use Rattle.std.proofs.lemmas.List.{append-nil, take-append-drop}
-use Rattle.mdp_lanes.specs.Boards.{Published}
 use Rattle.mdp_lanes.specs.Queues.{LaneReceiverView}
 use Rattle.mdp_lanes.specs.declared.step.Step.{Step}
 use Rattle.mdp_crew.specs.Rounds.{IsToLast, took, all_took, put, laid, one_each, Wide, all_tell, all_finish, is_told, last_of, lasts}
-use Rattle.mdp_crew.specs.Collecting.{text_of_batch, kept_after_batch, text_of_batches, steps_of_batch, steps_of_batches, CutShort, IsCut, TakesOne, HasAll, HasSome, EndsCollecting, IsCollecting}
+use Rattle.mdp_crew.specs.Collecting.{Showing, kept_after_batch, text_of_batch, text_of_batches, steps_of_batch, steps_of_batches, CutShort, IsCut, ShowsRound, TakesOne, TakesRounds, HasAll, HasSome, EndsCollecting, IsCollecting}
 use Rattle.mdp_crew.specs.Collecting.CutShort.{in_text, in_steps}
 use Rattle.mdp_crew.specs.Collecting.IsCut.{among_steps, in_last}
 use Rattle.mdp_crew.specs.Publishing.{published_on}
@@ -37,27 +36,6 @@ none_later false b none = none
 wide-append : (n : ℕ) (xs ys : List (List (List Report))) → Wide n xs → Wide n ys → Wide n (xs ++ ys)
 wide-append n [] ys first later = later
 wide-append n (x ∷ xs) ys first later = (first.0, wide-append n xs ys first.1 later)
-
--- what went out of these rounds, all of which went out, and of more
-cut_on : (state state' : View) (rounds more : List (List (List Report))) (taken taken' taken'' : List ℕ) (board board' board'' : Option Published)
-    → ((later : List (List (List Report))) → text_of_batches state (rounds ++ later) ≡ text_of_batches state rounds ++ text_of_batches state' later)
-    → taken' ≡ taken ++ text_of_batches state rounds → board' ≡ published_on board (steps_of_batches rounds)
-    → IsCut state' more taken' taken'' board' board'' → IsCut state (rounds ++ more) taken taken'' board board''
-cut_on state state' rounds more taken taken' taken'' board board' board'' rest text steps (among_steps shown hidden all went published) =
-    let first = text_of_batches state rounds in
-    among_steps (steps_of_batches rounds ++ shown) hidden
-    (steps-append rounds more ∙ ap (λ (l : List Step). steps_of_batches rounds ++ l) all ∙ sym (append_assoc (steps_of_batches rounds) shown hidden))
-    (went ∙ ap (λ (t : List ℕ). t ++ text_of_batches state' more) text ∙ append_assoc taken first (text_of_batches state' more) ∙ ap (λ (t : List ℕ). taken ++ t) (sym (rest more)))
-    (published_more board board' board'' (steps_of_batches rounds) shown steps published)
-cut_on state state' rounds more taken taken' taken'' board board' board'' rest text steps (in_last done round sent left parts whole went published) =
-    let first = text_of_batches state rounds in
-    let next = text_of_batches state' done in
-    in_last (rounds ++ done) round sent left
-    (ap (λ (l : List (List (List Report))). rounds ++ l) parts ∙ sym (append_assoc rounds done (round ∷ [])))
-    (rest more ∙ ap (λ (t : List ℕ). first ++ t) whole ∙ sym (append_assoc first next (sent ++ left)) ∙ ap (λ (t : List ℕ). t ++ (sent ++ left)) (sym (rest done)))
-    (went ∙ ap (λ (t : List ℕ). t ++ (next ++ sent)) text ∙ append_assoc taken first (next ++ sent)
-    ∙ ap (λ (t : List ℕ). taken ++ t) (sym (append_assoc first next sent) ∙ ap (λ (t : List ℕ). t ++ sent) (sym (rest done))))
-    (published_more board board' board'' (steps_of_batches rounds) (steps_of_batches done) steps published ∙ ap (published_on board) (sym (steps-append rounds done)))
 
 module _ {A : Type 0} where
   -- ---- one post after another
@@ -253,56 +231,77 @@ module _ {A : Type 0} where
   length-each [] = refl
   length-each (a ∷ answers) = ap suc (length-each answers)
 
-  pub turned_all : (old new : List (Post A)) (answers : List (Answer A)) (state : View) (taken : List ℕ) (board : Option Published) → length answers ≡ length old → all_finish answers ≡ true → new ≡ all_took old (one_each answers) → HasAll old new state taken taken board board
-  turned_all old new answers state taken board long is took_is =
-      record { rounds = []; wide = tt; took_is = took_is ∙ ap (all_took old) (finished_laid answers (length old) long is); text = sym (append-nil taken); steps = published_nothing board }
+  -- a round has as many answers as there are posts, after it was taken too
+  pub many_taken : (old new : List (Post A)) (answers : List (Answer A)) → length answers ≡ length old → new ≡ all_took old (one_each answers) → length answers ≡ length new
+  many_taken old new answers long is = long ∙ sym (ap length is ∙ length-took old (one_each answers))
 
-  pub turned_on : (old new : List (Post A)) (answers : List (Answer A)) (state state' : View) (taken taken' : List ℕ) (board board' : Option Published) → length answers ≡ length old → all_tell answers ≡ true → new ≡ all_took old (one_each answers)
-      → taken' ≡ taken ++ text_of_batch state (map told_in_answer answers) → board' ≡ published_on board (steps_of_batch (map told_in_answer answers)) → state' ≡ kept_after_batch state (map told_in_answer answers) → TakesOne old new state state' taken taken' board board'
-  turned_on old new answers state state' taken taken' board board' long is took_is text steps kept_is =
-      record { round = map told_in_answer answers; wide = told_wide answers is ∙ long; took_is = took_is ∙ ap (all_took old) (told_laid answers (length old) long is); text = text; steps = steps; kept_is = kept_is }
+  pub turned_all : (old new : Showing A) (answers : List (Answer A)) → length answers ≡ length old.posts → all_finish answers ≡ true
+      → new.posts ≡ all_took old.posts (one_each answers) → new.taken ≡ old.taken → new.board ≡ old.board → HasAll old new
+  turned_all old new answers long is took_is text steps = record {
+    rounds = [];
+    wide = tt;
+    took_is = took_is ∙ ap (all_took old.posts) (finished_laid answers (length old.posts) long is);
+    text = text ∙ sym (append-nil old.taken);
+    steps = steps ∙ published_nothing old.board;
+  }
 
-  pub turned_broken : (old now new : List (Post A)) (answers : List (Answer A)) (more : List (List (Answer A))) (state : View) (taken : List ℕ) (board : Option Published) → length answers ≡ length old → now ≡ all_took old (one_each answers) → new ≡ all_took now more → list_any is_told (lasts answers more) ≡ false → HasSome old new state taken taken board board
-  turned_broken old now new answers more state taken board long took_is drained none =
-      let first : length (one_each answers) ≡ length old = length-each answers ∙ long in
+  pub turned_on : (old new : Showing A) (posts : List (Post A)) (collector : View) (answers : List (Answer A)) → length answers ≡ length old.posts → all_tell answers ≡ true
+      → posts ≡ all_took old.posts (one_each answers) → collector ≡ old.collector → new.posts ≡ posts
+      → ShowsRound (record old { posts = posts; collector = collector }) new (map told_in_answer answers) → TakesOne old new
+  turned_on old new posts collector answers long is took_is kept stays shows =
+      let round = map told_in_answer answers in
+      record {
+        round = round;
+        wide = told_wide answers is ∙ long;
+        took_is = stays ∙ took_is ∙ ap (all_took old.posts) (told_laid answers (length old.posts) long is);
+        shows = record {
+          text = shows.text ∙ ap (λ (v : View). old.taken ++ text_of_batch v round) kept;
+          steps = shows.steps;
+          kept_is = shows.kept_is ∙ ap (λ (v : View). kept_after_batch v round) kept;
+        };
+      }
+
+  pub turned_broken : (old new : Showing A) (posts : List (Post A)) (answers : List (Answer A)) (more : List (List (Answer A))) → length answers ≡ length old.posts → posts ≡ all_took old.posts (one_each answers)
+      → new.posts ≡ all_took posts more → list_any is_told (lasts answers more) ≡ false → new.taken ≡ old.taken → new.board ≡ old.board → HasSome old new
+  turned_broken old new posts answers more long took_is drained none text steps =
+      let first : length (one_each answers) ≡ length old.posts = length-each answers ∙ long in
       record {
         rounds = [];
         wide = tt;
         more = joined (one_each answers) more;
         long = length-joined (one_each answers) more ∙ first;
-        took_is = drained ∙ ap (λ (l : List (Post A)). all_took l more) took_is ∙ took_took old (one_each answers) more first;
+        took_is = drained ∙ ap (λ (l : List (Post A)). all_took l more) took_is ∙ took_took old.posts (one_each answers) more first;
         to_last = ended_each answers more none;
-        out = among_steps [] [] refl (sym (append-nil taken)) (published_nothing board);
+        out = among_steps [] [] refl (text ∙ sym (append-nil old.taken)) (steps ∙ published_nothing old.board);
       }
 
-  turned_short : (old now new : List (Post A)) (answers : List (Answer A)) (more : List (List (Answer A))) (state : View) (taken taken' : List ℕ) (board board' : Option Published)
-      → length answers ≡ length old → all_tell answers ≡ true → now ≡ all_took old (one_each answers) → length more ≡ length now → new ≡ all_took now more → list_any is_told (lasts answers more) ≡ false
-      → IsCut state (map told_in_answer answers ∷ []) taken taken' board board' → HasSome old new state taken taken' board board'
-  turned_short old now new answers more state taken taken' board board' long is took_is many drained none out =
-      let same : length more ≡ length old = many ∙ ap length took_is ∙ length-took old (one_each answers) in
-      let wide : Wide (length old) (map told_in_answer answers ∷ []) = (told_wide answers is ∙ long, tt) in
+  -- what went out of the one round
+  out_of_round : (old new : Showing A) (posts posts' : List (Post A)) (collector collector' : View) (round : List (List Report)) → collector ≡ old.collector
+      → CutShort (record old { posts = posts; collector = collector }) (record new { posts = posts'; collector = collector' }) round → IsCut old new (round ∷ [])
+  out_of_round old new posts posts' collector collector' round kept (in_text n text same) =
+      let whole = text_of_batch old.collector round in
+      in_last [] round (take n whole) (drop n whole) refl (append-nil whole ∙ sym (take-append-drop n whole))
+      (text ∙ ap (λ (v : View). old.taken ++ take n (text_of_batch v round)) kept) (same ∙ published_nothing old.board)
+  out_of_round old new posts posts' collector collector' round kept (in_steps n text steps) =
+      let all = steps_of_batch round in
+      among_steps (take n all) (drop n all) (sym (steps-push [] round) ∙ sym (take-append-drop n all))
+      (text ∙ ap (λ (v : View). old.taken ++ text_of_batch v round) kept ∙ ap (λ (t : List ℕ). old.taken ++ t) (sym (append-nil (text_of_batch old.collector round)))) steps
+
+  pub turned_short : (old new : Showing A) (posts posts' : List (Post A)) (collector collector' : View) (answers : List (Answer A)) (more : List (List (Answer A))) → length answers ≡ length old.posts → all_tell answers ≡ true
+      → posts ≡ all_took old.posts (one_each answers) → collector ≡ old.collector → length more ≡ length posts → new.posts ≡ all_took posts more → list_any is_told (lasts answers more) ≡ false
+      → CutShort (record old { posts = posts; collector = collector }) (record new { posts = posts'; collector = collector' }) (map told_in_answer answers) → HasSome old new
+  turned_short old new posts posts' collector collector' answers more long is took_is kept many drained none out =
+      let same : length more ≡ length old.posts = many ∙ ap length took_is ∙ length-took old.posts (one_each answers) in
+      let wide : Wide (length old.posts) (map told_in_answer answers ∷ []) = (told_wide answers is ∙ long, tt) in
       record {
         rounds = map told_in_answer answers ∷ [];
         wide = wide;
         more = more;
         long = same;
-        took_is = then_took old now new (map told_in_answer answers ∷ []) [] more wide tt same (took_is ∙ ap (all_took old) (told_laid answers (length old) long is)) drained;
+        took_is = then_took old.posts posts new.posts (map told_in_answer answers ∷ []) [] more wide tt same (took_is ∙ ap (all_took old.posts) (told_laid answers (length old.posts) long is)) drained;
         to_last = told_ended answers more (same ∙ sym long) is none;
-        out = out;
+        out = out_of_round old new posts posts' collector collector' (map told_in_answer answers) kept out;
       }
-
-  pub turned_unwritten : (old now new : List (Post A)) (answers : List (Answer A)) (more : List (List (Answer A))) (state : View) (taken taken' : List ℕ) (board board' : Option Published) → length answers ≡ length old → all_tell answers ≡ true → now ≡ all_took old (one_each answers)
-      → length more ≡ length now → new ≡ all_took now more → list_any is_told (lasts answers more) ≡ false → CutShort state (map told_in_answer answers) taken taken' board board' → HasSome old new state taken taken' board board'
-  turned_unwritten old now new answers more state taken taken' board board' long is took_is many drained none (in_text n text same) =
-      let round = map told_in_answer answers in
-      let whole = text_of_batch state round in
-      turned_short old now new answers more state taken taken' board board' long is took_is many drained none
-      (in_last [] round (take n whole) (drop n whole) refl (append-nil whole ∙ sym (take-append-drop n whole)) text (same ∙ published_nothing board))
-  turned_unwritten old now new answers more state taken taken' board board' long is took_is many drained none (in_steps n text steps) =
-      let round = map told_in_answer answers in
-      let all = steps_of_batch round in
-      turned_short old now new answers more state taken taken' board board' long is took_is many drained none
-      (among_steps (take n all) (drop n all) (sym (steps-push [] round) ∙ sym (take-append-drop n all)) (text ∙ ap (λ (t : List ℕ). taken ++ t) (sym (append-nil (text_of_batch state round)))) steps)
 
   -- ---- all turns
 
@@ -312,75 +311,102 @@ module _ {A : Type 0} where
       let here : p ≡ took p [] = λ k. record p { answers = record p.answers { taken = sym (append-nil p.answers.taken) k } } in
       ap (λ (q : Post A). q ∷ ps) here ∙ ap (λ (l : List (Post A)). took p [] ∷ l) (took_nothing ps)
 
-  pub under_way_first : (ps : List (Post A)) (state : View) (taken : List ℕ) (board : Option Published) → IsCollecting ps ps state state taken taken board board
-  under_way_first ps state taken board = record { rounds = []; wide = tt; took_is = took_nothing ps; text = sym (append-nil taken); steps = published_nothing board; rest = λ more. refl }
+  pub under_way_first : (old : Showing A) → IsCollecting old old
+  under_way_first old = record {
+    so_far = record { rounds = []; wide = tt; took_is = took_nothing old.posts; text = sym (append-nil old.taken); steps = published_nothing old.board };
+    rest = λ more. refl;
+  }
 
-  same_long : (old now : List (Post A)) (rounds : List (List (List Report))) → now ≡ all_took old (laid rounds (nothing (length old))) → length now ≡ length old
-  same_long old now rounds is = ap length is ∙ length-took old (laid rounds (nothing (length old)))
+  same_long : (old now : Showing A) → (so_far : TakesRounds [] old now) → length now.posts ≡ length old.posts
+  same_long old now so_far = ap length so_far.took_is ∙ length-took old.posts (laid so_far.rounds (nothing (length old.posts)))
 
-  pub under_way_on : (old now new : List (Post A)) (state state' state'' : View) (taken taken' taken'' : List ℕ) (board board' board'' : Option Published) → TakesOne now new state' state'' taken' taken'' board' board'' → IsCollecting old now state state' taken taken' board board' → IsCollecting old new state state'' taken taken'' board board''
-  under_way_on old now new state state' state'' taken taken' taken'' board board' board'' on so_far =
-      let long : length now ≡ length old = same_long old now so_far.rounds so_far.took_is in
-      let wide : Wide (length old) (on.round ∷ []) = (on.wide ∙ long, tt) in
+  -- these rounds, and then those
+  took_on : (last : List (Answer A)) (old now new : Showing A) → IsCollecting old now → TakesRounds last now new → TakesRounds last old new
+  took_on last old now new under_way on =
+      let so_far = under_way.so_far in
+      let long : length now.posts ≡ length old.posts = same_long old now so_far in
+      let wide : Wide (length old.posts) on.rounds = subst (λ (n : ℕ). Wide n on.rounds) long on.wide in
       record {
-        rounds = so_far.rounds ++ on.round ∷ [];
-        wide = wide-append (length old) so_far.rounds (on.round ∷ []) so_far.wide wide;
-        took_is = then_took old now new so_far.rounds (on.round ∷ []) (nothing (length old)) so_far.wide wide (length-nothing (length old) []) so_far.took_is
-            (on.took_is ∙ ap (λ (n : ℕ). all_took now (laid (on.round ∷ []) (nothing n))) long);
+        rounds = so_far.rounds ++ on.rounds;
+        wide = wide-append (length old.posts) so_far.rounds on.rounds so_far.wide wide;
+        took_is = then_took old.posts now.posts new.posts so_far.rounds on.rounds (replicate (length old.posts) last) so_far.wide wide (length-nothing (length old.posts) last) so_far.took_is
+            (on.took_is ∙ ap (λ (n : ℕ). all_took now.posts (laid on.rounds (replicate n last))) long);
         text =
             on.text
-            ∙ ap (λ (t : List ℕ). t ++ text_of_batch state' on.round) so_far.text
-            ∙ append_assoc taken (text_of_batches state so_far.rounds) (text_of_batch state' on.round)
-            ∙ ap (λ (t : List ℕ). taken ++ (text_of_batches state so_far.rounds ++ t)) (sym (append-nil (text_of_batch state' on.round)))
-            ∙ ap (λ (t : List ℕ). taken ++ t) (sym (so_far.rest (on.round ∷ [])));
+            ∙ ap (λ (t : List ℕ). t ++ text_of_batches now.collector on.rounds) so_far.text
+            ∙ append_assoc old.taken (text_of_batches old.collector so_far.rounds) (text_of_batches now.collector on.rounds)
+            ∙ ap (λ (t : List ℕ). old.taken ++ t) (sym (under_way.rest on.rounds));
         steps =
-            published_more board board' board'' (steps_of_batches so_far.rounds) (steps_of_batch on.round) so_far.steps on.steps
-            ∙ ap (published_on board) (steps-push so_far.rounds on.round);
+            published_more old.board now.board new.board (steps_of_batches so_far.rounds) (steps_of_batches on.rounds) so_far.steps on.steps
+            ∙ ap (published_on old.board) (sym (steps-append so_far.rounds on.rounds));
+      }
+
+  one_taken : (old new : Showing A) → TakesOne old new → TakesRounds [] old new
+  one_taken old new on = record {
+    rounds = on.round ∷ [];
+    wide = (on.wide, tt);
+    took_is = on.took_is;
+    text = on.shows.text ∙ ap (λ (t : List ℕ). old.taken ++ t) (sym (append-nil (text_of_batch old.collector on.round)));
+    steps = on.shows.steps ∙ ap (published_on old.board) (steps-push [] on.round);
+  }
+
+  pub under_way_on : (old now new : Showing A) → TakesOne now new → IsCollecting old now → IsCollecting old new
+  unfolding took_on one_taken
+  under_way_on old now new on under_way =
+      let rounds = under_way.so_far.rounds in
+      let first = text_of_batches old.collector rounds in
+      let next = text_of_batch now.collector on.round in
+      record {
+        so_far = took_on [] old now new under_way (one_taken now new on);
         rest = λ more.
-            ap (text_of_batches state) (append_assoc so_far.rounds (on.round ∷ []) more)
-            ∙ so_far.rest (on.round ∷ more)
-            ∙ ap (λ (z : View). text_of_batches state so_far.rounds ++ (text_of_batch state' on.round ++ text_of_batches z more)) (sym on.kept_is)
-            ∙ sym (append_assoc (text_of_batches state so_far.rounds) (text_of_batch state' on.round) (text_of_batches state'' more))
-            ∙ ap (λ (t : List ℕ). (text_of_batches state so_far.rounds ++ t) ++ text_of_batches state'' more) (sym (append-nil (text_of_batch state' on.round)))
-            ∙ ap (λ (t : List ℕ). t ++ text_of_batches state'' more) (sym (so_far.rest (on.round ∷ [])));
+            ap (text_of_batches old.collector) (append_assoc rounds (on.round ∷ []) more)
+            ∙ under_way.rest (on.round ∷ more)
+            ∙ ap (λ (z : View). first ++ (next ++ text_of_batches z more)) (sym on.shows.kept_is)
+            ∙ sym (append_assoc first next (text_of_batches new.collector more))
+            ∙ ap (λ (t : List ℕ). (first ++ t) ++ text_of_batches new.collector more) (sym (append-nil next))
+            ∙ ap (λ (t : List ℕ). t ++ text_of_batches new.collector more) (sym (under_way.rest (on.round ∷ [])));
       }
 
-  ended_all : (old now new : List (Post A)) (state state' : View) (taken taken' taken'' : List ℕ) (board board' board'' : Option Published) → HasAll now new state' taken' taken'' board' board'' → IsCollecting old now state state' taken taken' board board' → HasAll old new state taken taken'' board board''
-  ended_all old now new state state' taken taken' taken'' board board' board'' last so_far =
-      let long : length now ≡ length old = same_long old now so_far.rounds so_far.took_is in
-      let wide : Wide (length old) last.rounds = subst (λ (n : ℕ). Wide n last.rounds) long last.wide in
-      record {
-        rounds = so_far.rounds ++ last.rounds;
-        wide = wide-append (length old) so_far.rounds last.rounds so_far.wide wide;
-        took_is = then_took old now new so_far.rounds last.rounds (replicate (length old) (Finished ∷ [])) so_far.wide wide (length-nothing (length old) (Finished ∷ [])) so_far.took_is
-            (last.took_is ∙ ap (λ (n : ℕ). all_took now (laid last.rounds (replicate n (Finished ∷ [])))) long);
-        text =
-            last.text
-            ∙ ap (λ (t : List ℕ). t ++ text_of_batches state' last.rounds) so_far.text
-            ∙ append_assoc taken (text_of_batches state so_far.rounds) (text_of_batches state' last.rounds)
-            ∙ ap (λ (t : List ℕ). taken ++ t) (sym (so_far.rest last.rounds));
-        steps =
-            published_more board board' board'' (steps_of_batches so_far.rounds) (steps_of_batches last.rounds) so_far.steps last.steps
-            ∙ ap (published_on board) (sym (steps-append so_far.rounds last.rounds));
-      }
+  -- what went out of these rounds, all of which went out, and of more
+  cut_on : (old now new : Showing A) (more : List (List (List Report))) → (under_way : IsCollecting old now) → IsCut now new more → IsCut old new (under_way.so_far.rounds ++ more)
+  cut_on old now new more under_way (among_steps shown hidden all went published) =
+      let rounds = under_way.so_far.rounds in
+      let first = text_of_batches old.collector rounds in
+      among_steps (steps_of_batches rounds ++ shown) hidden
+      (steps-append rounds more ∙ ap (λ (l : List Step). steps_of_batches rounds ++ l) all ∙ sym (append_assoc (steps_of_batches rounds) shown hidden))
+      (went ∙ ap (λ (t : List ℕ). t ++ text_of_batches now.collector more) under_way.so_far.text ∙ append_assoc old.taken first (text_of_batches now.collector more)
+      ∙ ap (λ (t : List ℕ). old.taken ++ t) (sym (under_way.rest more)))
+      (published_more old.board now.board new.board (steps_of_batches rounds) shown under_way.so_far.steps published)
+  cut_on old now new more under_way (in_last done round sent left parts whole went published) =
+      let rounds = under_way.so_far.rounds in
+      let first = text_of_batches old.collector rounds in
+      let next = text_of_batches now.collector done in
+      in_last (rounds ++ done) round sent left
+      (ap (λ (l : List (List (List Report))). rounds ++ l) parts ∙ sym (append_assoc rounds done (round ∷ [])))
+      (under_way.rest more ∙ ap (λ (t : List ℕ). first ++ t) whole ∙ sym (append_assoc first next (sent ++ left)) ∙ ap (λ (t : List ℕ). t ++ (sent ++ left)) (sym (under_way.rest done)))
+      (went ∙ ap (λ (t : List ℕ). t ++ (next ++ sent)) under_way.so_far.text ∙ append_assoc old.taken first (next ++ sent)
+      ∙ ap (λ (t : List ℕ). old.taken ++ t) (sym (append_assoc first next sent) ∙ ap (λ (t : List ℕ). t ++ sent) (sym (under_way.rest done))))
+      (published_more old.board now.board new.board (steps_of_batches rounds) (steps_of_batches done) under_way.so_far.steps published
+      ∙ ap (published_on old.board) (sym (steps-append rounds done)))
 
-  ended_some : (old now new : List (Post A)) (state state' : View) (taken taken' taken'' : List ℕ) (board board' board'' : Option Published) → HasSome now new state' taken' taken'' board' board'' → IsCollecting old now state state' taken taken' board board' → HasSome old new state taken taken'' board board''
-  ended_some old now new state state' taken taken' taken'' board board' board'' last so_far =
-      let long : length now ≡ length old = same_long old now so_far.rounds so_far.took_is in
-      let wide : Wide (length old) last.rounds = subst (λ (n : ℕ). Wide n last.rounds) long last.wide in
+  ended_some : (old now new : Showing A) → HasSome now new → IsCollecting old now → HasSome old new
+  ended_some old now new last under_way =
+      let so_far = under_way.so_far in
+      let long : length now.posts ≡ length old.posts = same_long old now so_far in
+      let wide : Wide (length old.posts) last.rounds = subst (λ (n : ℕ). Wide n last.rounds) long last.wide in
       record {
         rounds = so_far.rounds ++ last.rounds;
-        wide = wide-append (length old) so_far.rounds last.rounds so_far.wide wide;
+        wide = wide-append (length old.posts) so_far.rounds last.rounds so_far.wide wide;
         more = last.more;
         long = last.long ∙ long;
-        took_is = then_took old now new so_far.rounds last.rounds last.more so_far.wide wide (last.long ∙ long) so_far.took_is last.took_is;
+        took_is = then_took old.posts now.posts new.posts so_far.rounds last.rounds last.more so_far.wide wide (last.long ∙ long) so_far.took_is last.took_is;
         to_last = last.to_last;
-        out = cut_on state state' so_far.rounds last.rounds taken taken' taken'' board board' board'' so_far.rest so_far.text so_far.steps last.out;
+        out = cut_on old now new last.rounds under_way last.out;
       }
 
-  pub ended : (old now new : List (Post A)) (state state' : View) (taken taken' taken'' : List ℕ) (board board' board'' : Option Published) (outcome : Result (Unit {0}) Stop) → EndsCollecting now new state' taken' taken'' board' board'' outcome → IsCollecting old now state state' taken taken' board board' → EndsCollecting old new state taken taken'' board board'' outcome
-  ended old now new state state' taken taken' taken'' board board' board'' (Ok done) last so_far = ended_all old now new state state' taken taken' taken'' board board' board'' last so_far
-  ended old now new state state' taken taken' taken'' board board' board'' (Err stop) last so_far = ended_some old now new state state' taken taken' taken'' board board' board'' last so_far
+  pub ended : (old now new : Showing A) (outcome : Result (Unit {0}) Stop) → EndsCollecting now new outcome → IsCollecting old now → EndsCollecting old new outcome
+  ended old now new (Ok done) last under_way = took_on (Finished ∷ []) old now new under_way last
+  ended old now new (Err stop) last under_way = ended_some old now new last under_way
 
   pub each-push : (answers : List (Answer A)) (a : Answer A) → one_each (answers ++ a ∷ []) ≡ one_each answers ++ (a ∷ []) ∷ []
   each-push [] a = refl

@@ -21,19 +21,18 @@ use Rattle.mdp_reports.proofs.Full.{law_of_full_jumps}
 use Rattle.mdp_crew.specs.declared.arbiter.ArbiterOutcome.{ArbiterOutcome}
 use Rattle.mdp_arbiter.specs.declared.arbiter.Standing.{Standing}
 use Rattle.mdp_crew.specs.declared.batch.Batch.{Batch}
-use Rattle.mdp_crew.specs.declared.crew.Post.{Post}
 use Rattle.mdp_crew.specs.declared.order.Order.{Order}
 use Rattle.mdp_crew.specs.declared.stop.Stop.{Stop}
 use Rattle.mdp_crew.specs.Arbitrating.{HasSent}
 use Rattle.mdp_crew.specs.Batches.{events_taken}
-use Rattle.mdp_crew.specs.Collecting.{EndsCollecting, HasAll, HasSome}
+use Rattle.mdp_crew.specs.Collecting.{EndsCollecting, HasAll, HasSome, Showing, text_of_batches}
 use Rattle.mdp_crew.specs.Crew.{IsCrew, IsSettled}
 use Rattle.mdp_crew.specs.Running.{HasShown, WentOut, outcome_of}
 use Rattle.mdp_crew.specs.Publishing.{published_on}
 use Rattle.mdp_crew.proofs.Boards.{published_nothing}
 use Rattle.mdp_crew.proofs.Leaving.{all_out, begun, out_more, out_of_rounds}
 use Rattle.mdp_crew.proofs.Meeting.{ascend_front, steps_are_shown, text_is_shown}
-use Rattle.mdp_crew.proofs.Settling.{AllSettled, all_published, all_written, some_rounds}
+use Rattle.mdp_crew.proofs.Settling.{AllSettled, all_published, all_written, rounds_of, some_rounds}
 
 -- nothing went out
 pub shown_nothing : (channel : ListedChannel) (events : List Event) (start : List ℕ) (board : Option Published) (stop : Stop) → HasShown channel events start start board board (Err stop)
@@ -53,22 +52,22 @@ module _ {A : Type 0} where
   sent_ascend channel ss receiver outcome sent =
       ascend_front channel.listed 1 (moves_sent sent.batches) sent.sent.rest (subst (Ascend channel.listed 1) sent.sent.front (law_of_ascent channel (events_taken outcome.receiver.taken)))
 
-  all_settled : (channel : ListedChannel) (n : ℕ) (ss : List (LaneSenderView (Order A))) (ps new : List (Post A)) (receiver : IntakeReceiverView (Batch A)) (outcome : ArbiterOutcome A)
-      → 1 ≤ n → IsCrew channel.listed n n ss ps → (sent : HasSent channel receiver ss outcome) → AllZip IsSettled outcome.senders.items new → AllSettled channel.listed n sent.batches ss ps new
-  all_settled channel n ss ps new receiver outcome some crew sent settled_are = record {
+  all_settled : (channel : ListedChannel) (n : ℕ) (ss : List (LaneSenderView (Order A))) (old new : Showing A) (receiver : IntakeReceiverView (Batch A)) (outcome : ArbiterOutcome A)
+      → 1 ≤ n → IsCrew channel.listed n n ss old.posts → (sent : HasSent channel receiver ss outcome) → AllZip IsSettled outcome.senders.items new.posts → AllSettled channel.listed n sent.batches ss old new
+  all_settled channel n ss old new receiver outcome some crew sent settled_are = record {
     many = crew.long;
     some = some;
     fresh = crew.fresh;
     numbered = crew.numbered;
     full = law_of_full_jumps channel.listed 1 (moves_sent sent.batches) (sent_ascend channel ss receiver outcome sent);
-    settled_are = subst (λ (l : List (LaneSenderView (Order A))). AllZip IsSettled l new) sent.lanes settled_are;
+    settled_are = subst (λ (l : List (LaneSenderView (Order A))). AllZip IsSettled l new.posts) sent.lanes settled_are;
   }
 
-  pub met : (channel : ListedChannel) (n : ℕ) (ss : List (LaneSenderView (Order A))) (ps new : List (Post A)) (collector : View) (start taken : List ℕ) (board board' : Option Published) (receiver : IntakeReceiverView (Batch A)) (outcome : ArbiterOutcome A) (collected : Result (Unit {0}) Stop)
-      → 1 ≤ n → AllPairs (λ a b. a ≢ b) (ids_of channel.listed) → IsCrew channel.listed n n ss ps → collector ≡ begun channel.listed → HasSent channel receiver ss outcome → EndsCollecting ps new collector start taken board board' collected
-      → AllZip IsSettled outcome.senders.items new → HasShown channel (events_taken outcome.receiver.taken) start taken board board' (outcome_of collected outcome.standing)
-  met channel n ss ps new collector start taken board board' receiver outcome collected some differ crew collector_is sent ends settled_are =
-      by_both collected outcome.standing (subst (λ (v : View). EndsCollecting ps new v start taken board board' collected) collector_is ends) sent.sent.whole sent.stands
+  pub met : (channel : ListedChannel) (n : ℕ) (ss : List (LaneSenderView (Order A))) (old new : Showing A) (receiver : IntakeReceiverView (Batch A)) (outcome : ArbiterOutcome A) (collected : Result (Unit {0}) Stop)
+      → 1 ≤ n → AllPairs (λ a b. a ≢ b) (ids_of channel.listed) → IsCrew channel.listed n n ss old.posts → old.collector ≡ begun channel.listed → HasSent channel receiver ss outcome → EndsCollecting old new collected
+      → AllZip IsSettled outcome.senders.items new.posts → HasShown channel (events_taken outcome.receiver.taken) old.taken new.taken old.board new.board (outcome_of collected outcome.standing)
+  met channel n ss old new receiver outcome collected some differ crew collector_is sent ends settled_are =
+      by_both collected outcome.standing ends sent.sent.whole sent.stands
     where
       moves : List Move
       moves = moves_sent sent.batches
@@ -76,47 +75,48 @@ module _ {A : Type 0} where
       ascend : Ascend channel.listed 1 moves
       ascend = sent_ascend channel ss receiver outcome sent
 
-      is : AllSettled channel.listed n sent.batches ss ps new
-      is = all_settled channel n ss ps new receiver outcome some crew sent settled_are
+      is : AllSettled channel.listed n sent.batches ss old new
+      is = all_settled channel n ss old new receiver outcome some crew sent settled_are
 
-      all_text : HasAll ps new (begun channel.listed) start taken board board' → taken ≡ start ++ shown_lines channel.listed moves
+      all_text : HasAll old new → new.taken ≡ old.taken ++ shown_lines channel.listed moves
       all_text all =
-          all_written channel.listed n sent.batches ss ps new (begun channel.listed) start taken board board' is all
-          ∙ ap (λ (t : List ℕ). start ++ t) (text_is_shown channel.listed n sent.batches some differ ascend)
+          all_written channel.listed n sent.batches ss old new is all
+          ∙ ap (λ (v : View). old.taken ++ text_of_batches v (rounds_of channel.listed n [] sent.batches)) collector_is
+          ∙ ap (λ (t : List ℕ). old.taken ++ t) (text_is_shown channel.listed n sent.batches some differ ascend)
 
-      all_steps : HasAll ps new (begun channel.listed) start taken board board' → board' ≡ published_on board (board_steps channel.listed moves)
+      all_steps : HasAll old new → new.board ≡ published_on old.board (board_steps channel.listed moves)
       all_steps all =
-          all_published channel.listed n sent.batches ss ps new (begun channel.listed) start taken board board' is all
-          ∙ ap (published_on board) (steps_are_shown channel.listed n sent.batches some)
+          all_published channel.listed n sent.batches ss old new is all
+          ∙ ap (published_on old.board) (steps_are_shown channel.listed n sent.batches some)
 
       -- what went out of the moves that were sent, of all moves of the events
-      of_all : WentOut (moments channel.listed moves) [] start taken board board' → WentOut (moments channel.listed (moves_of channel (events_taken outcome.receiver.taken))) [] start taken board board'
+      of_all : WentOut (moments channel.listed moves) [] old.taken new.taken old.board new.board → WentOut (moments channel.listed (moves_of channel (events_taken outcome.receiver.taken))) [] old.taken new.taken old.board new.board
       of_all out =
-          subst (λ (ms : List Moment). WentOut ms [] start taken board board') (sym (ap (moments channel.listed) sent.sent.front ∙ moments-append channel.listed [] moves sent.sent.rest))
-          (out_more (moments channel.listed moves) (moments_after channel.listed moves sent.sent.rest) [] start taken board board' out)
+          subst (λ (ms : List Moment). WentOut ms [] old.taken new.taken old.board new.board) (sym (ap (moments channel.listed) sent.sent.front ∙ moments-append channel.listed [] moves sent.sent.rest))
+          (out_more (moments channel.listed moves) (moments_after channel.listed moves sent.sent.rest) [] old.taken new.taken old.board new.board out)
 
       -- the collector ended early
-      of_first : HasSome ps new (begun channel.listed) start taken board board' → WentOut (moments channel.listed moves) [] start taken board board'
+      of_first : HasSome old new → WentOut (moments channel.listed moves) [] old.taken new.taken old.board new.board
       of_first has =
-          let at = some_rounds channel.listed n sent.batches ss ps new (begun channel.listed) start taken board board' is has in
+          let at = some_rounds channel.listed n sent.batches ss old new is has in
           let first = moves_sent at.0 in
           let all : moves ≡ first ++ moves_sent at.1 = ap moves_sent at.2 ∙ flat_map-append (λ (l : List Move). l) at.0 at.1 in
-          let out = out_of_rounds channel.listed n at.0 has.rounds start taken board board' some differ (ascend_front channel.listed 1 first (moves_sent at.1) (subst (Ascend channel.listed 1) all ascend)) at.3 has.out in
-          subst (λ (ms : List Moment). WentOut ms [] start taken board board') (sym (ap (moments channel.listed) all ∙ moments-append channel.listed [] first (moves_sent at.1)))
-          (out_more (moments channel.listed first) (moments_after channel.listed first (moves_sent at.1)) [] start taken board board' out)
+          let out = out_of_rounds channel.listed n at.0 has.rounds old new some differ (ascend_front channel.listed 1 first (moves_sent at.1) (subst (Ascend channel.listed 1) all ascend)) collector_is at.3 has.out in
+          subst (λ (ms : List Moment). WentOut ms [] old.taken new.taken old.board new.board) (sym (ap (moments channel.listed) all ∙ moments-append channel.listed [] first (moves_sent at.1)))
+          (out_more (moments channel.listed first) (moments_after channel.listed first (moves_sent at.1)) [] old.taken new.taken old.board new.board out)
 
-      by_both : {E : Type 0} (collected : Result (Unit {0}) Stop) (standing : Result Standing E) → EndsCollecting ps new (begun channel.listed) start taken board board' collected → OnOk standing (sent.sent.rest ≡ [])
+      by_both : {E : Type 0} (collected : Result (Unit {0}) Stop) (standing : Result Standing E) → EndsCollecting old new collected → OnOk standing (sent.sent.rest ≡ [])
           → IfOk standing (λ (s : Standing). s ≡ stands_after channel (events_taken outcome.receiver.taken))
-          → HasShown channel (events_taken outcome.receiver.taken) start taken board board' (outcome_of collected standing)
+          → HasShown channel (events_taken outcome.receiver.taken) old.taken new.taken old.board new.board (outcome_of collected standing)
       by_both (Ok done) (Ok standing) e whole stands =
           let same : moves ≡ moves_of channel (events_taken outcome.receiver.taken) = sym (append-nil moves) ∙ ap (λ (l : List Move). moves ++ l) (sym whole) ∙ sym sent.sent.front in
           record {
             all = record {
-              shown = all_text e ∙ ap (λ (l : List Move). start ++ shown_lines channel.listed l) same;
-              published = all_steps e ∙ ap (λ (l : List Move). published_on board (board_steps channel.listed l)) same;
+              shown = all_text e ∙ ap (λ (l : List Move). old.taken ++ shown_lines channel.listed l) same;
+              published = all_steps e ∙ ap (λ (l : List Move). published_on old.board (board_steps channel.listed l)) same;
               standing_is = stands;
             };
             some = tt;
           }
-      by_both (Ok done) (Err memory) e whole stands = record { all = tt; some = of_all (all_out (moments channel.listed moves) start taken board board' (all_text e) (all_steps e)) }
+      by_both (Ok done) (Err memory) e whole stands = record { all = tt; some = of_all (all_out (moments channel.listed moves) old.taken new.taken old.board new.board (all_text e) (all_steps e)) }
       by_both (Err stop) standing e whole stands = record { all = tt; some = of_all (of_first e) }

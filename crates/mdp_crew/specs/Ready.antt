@@ -1,5 +1,5 @@
 -- What the threads of a crew begin with.
-use Rattle.std.specs.Prelude.{◌≡◌, ◌≤◌, ℕ, List, vec_len, vec_capacity}
+use Rattle.std.specs.Prelude.{◌≡◌}
 use Rattle.mdp_engine.specs.Rounds.{kept_at_start}
 use Rattle.mdp_crew.specs.declared.running.Ready.{Ready}
 use Rattle.mdp_crew.specs.Arbitrating.{HasBegun}
@@ -10,7 +10,6 @@ use Rattle.mdp_crew.specs.Plan.{channel_in}
 -- the arbiter has taken in nothing, the collector has kept what stands at the start, and all workers are hired
 pub record IsReady {A : Type 0} (plan : RunPlan) (ready : Ready A) : Type 0 where
   pub begun : HasBegun (channel_in plan) ready.arbiter
-  pub collector_is : ready.collector ≡ record { listed = plan.instruments.now; kept = kept_at_start plan.instruments.now }
-  pub crew : IsCrew plan.instruments.now plan.workers plan.workers ready.senders.items ready.posts.items
-  pub many : vec_len ready.posts ≡ plan.workers
-  pub place : vec_len ready.posts ≤ vec_capacity ready.round
+  pub collector_is :
+      ready.collecting.collector ≡ record { listed = plan.instruments.now; kept = kept_at_start plan.instruments.now }
+  pub crew : IsCrew plan.instruments.now plan.workers plan.workers ready.senders.items ready.collecting.posts.items

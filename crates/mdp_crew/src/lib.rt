@@ -12,6 +12,7 @@ mod last_orders;
 mod order;
 mod plan;
 mod publishing;
+mod rounds;
 mod running;
 mod starts;
 mod steps;

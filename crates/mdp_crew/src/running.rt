@@ -16,8 +16,8 @@ ghost use Rattle.mdp_crew.specs.Stops.{FailsByStop};
 
 use crate::arbiter::{ArbiterOutcome, Ring, arbitrate, drain};
 use crate::batch::Batch;
-use crate::collector::collect;
-use crate::crew::{Post, hire_all, let_all_go};
+use crate::collector::Collecting;
+use crate::crew::{hire_all, let_all_go};
 use crate::gate::Gate;
 use crate::order::Order;
 use crate::plan::RunPlan;
@@ -26,7 +26,7 @@ use crate::stop::Stop;
 use mdp_arbiter::{Arbiter, Standing};
 use mdp_lanes::{IntakeReceiver, LaneSender, Publisher};
 use mdp_print::CountedWrite;
-use mdp_reports::{Answer, BoardSteps, Collector};
+use mdp_reports::Collector;
 use mdp_templates::Memory;
 use mdp_window::RingWindow;
 use std::alloc::Allocator;
@@ -70,10 +70,8 @@ pub struct CrewOutcome<A: Allocator + Copy> {
 #[derive(Drop)]
 pub struct Ready<'s, A: Allocator + Copy> {
     pub arbiter: Arbiter<A, Ring<A>>,
-    pub collector: Collector<'s, A>,
-    pub round: Vec<Answer<A>, A>,
     pub senders: Vec<LaneSender<Order<A>, A>, A>,
-    pub posts: Vec<Post<'s, A>, A>,
+    pub collecting: Collecting<'s, A>,
 }
 
 // Makes what the crew begins with, and starts the workers.
@@ -106,12 +104,11 @@ where
     let collector = Collector::new(alloc, instruments)?;
     let round = Vec::with_capacity(alloc, usize::from(workers))?;
     let (senders, posts) = hire_all(rt, scope, starts, alloc, gate, instruments, workers)?;
+    let collecting = Collecting::new(alloc, collector, round, posts);
     Ok(Ready {
         arbiter,
-        collector,
-        round,
         senders,
-        posts,
+        collecting,
     })
 }
 
@@ -227,36 +224,21 @@ where
 {
     let Ready {
         arbiter,
-        mut collector,
-        mut round,
         senders,
-        mut posts,
+        mut collecting,
     } = ready;
     let arbitrating = begin_arbiter(
         rt, scope, go, starts, alloc, plan, arbiter, receiver, senders,
     );
     let _ = go.set(rt, true);
-    let mut text = Vec::new(alloc);
-    let mut steps = BoardSteps::new(alloc);
     let mut written = 0;
-    let collected = collect(
-        rt,
-        alloc,
-        posts.as_mut_slice(),
-        &mut collector,
-        &mut round,
-        &mut text,
-        &mut steps,
-        &mut written,
-        board,
-        writer,
-    );
+    let collected = collecting.collect(rt, alloc, &mut written, board, writer);
     let ArbiterOutcome {
         receiver,
         senders,
         standing,
     } = join_arbiter(rt, arbitrating);
-    let_all_go(rt, senders, posts);
+    let_all_go(rt, senders, collecting.posts);
     CrewOutcome {
         receiver,
         standing: outcome(collected, standing),

@@ -4,7 +4,7 @@ ghost use Rattle.std.specs.Prelude.{◌≡◌, ◌≤◌, []};
 ghost use Rattle.mdp_templates.specs.Instrument.{AreFit};
 
 use crate::arbiter::arbitrate;
-use crate::collector::collect;
+use crate::collector::Collecting;
 use crate::crew::{AnswersOrders, Post};
 use crate::gate::Open;
 use crate::order::Order;
@@ -14,7 +14,7 @@ use crate::tests::writer::slow_writer;
 use crate::worker::work;
 use mdp_arbiter::{Arbiter, Standing, Start};
 use mdp_lanes::{Lane, LaneReceiver, LaneSender};
-use mdp_reports::{BoardSteps, Collector};
+use mdp_reports::Collector;
 use mdp_templates::{Instrument, Memory, are_fit};
 use mdp_window::RingWindow;
 use std::alloc::Global;
@@ -110,30 +110,18 @@ fn collect_all<'s, R: Threads + Wait>(
     rt: &R,
     alloc: Global,
     listed: &'s [Instrument],
-    mut posts: Posts<'s>,
+    posts: Posts<'s>,
     standing: Result<Standing, Memory>,
 ) -> Result<InTurn, Memory>
     requires { AreFit listed.now }
 {
-    let mut collector = Collector::new(alloc, listed)?;
-    let mut round = Vec::with_capacity(alloc, posts.len())?;
-    let mut text = Vec::new(alloc);
-    let mut steps = BoardSteps::new(alloc);
+    let collector = Collector::new(alloc, listed)?;
+    let round = Vec::with_capacity(alloc, posts.len())?;
+    let mut collecting = Collecting::new(alloc, collector, round, posts);
     let mut written = 0;
     let mut board = None;
     let mut kept = slow_writer(alloc, 0);
-    let collected = collect(
-        rt,
-        alloc,
-        posts.as_mut_slice(),
-        &mut collector,
-        &mut round,
-        &mut text,
-        &mut steps,
-        &mut written,
-        &mut board,
-        &mut kept,
-    );
+    let collected = collecting.collect(rt, alloc, &mut written, &mut board, &mut kept);
     if let Some(publisher) = board {
         publisher.end(rt);
     }

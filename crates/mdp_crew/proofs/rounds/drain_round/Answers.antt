@@ -3,7 +3,7 @@ use Rattle.std.proofs.lemmas.List.{length-append}
 use Rattle.mdp_reports.specs.declared.answer.Answer.{Answer}
 use Rattle.mdp_crew.specs.Rounds.{last_of}
 use Rattle.mdp_crew.proofs.Taking.{lasts_none, lasts_step, took_none, took_step}
-use Rattle.mdp_crew.proofs.collector.drain_round.Goals as goal
+use Rattle.mdp_crew.proofs.rounds.drain_round.Goals as goal
 
 pub loop-n-init : goal.loop-n-init
 loop-n-init g c = ([], refl, took_none _, lasts_none c.args.round.now)

@@ -1,7 +1,7 @@
 use Rattle.std.proofs.Common.{◌≡◌, List, length}
 use Rattle.mdp_reports.specs.declared.answer.Answer.{Answer}
 use Rattle.mdp_crew.specs.Rounds.{all_took, lasts}
-use Rattle.mdp_crew.proofs.collector.drain_all.Given as goal
+use Rattle.mdp_crew.proofs.rounds.drain_all.Given as goal
 
 abbrev pub invariant-loop : goal.invariant-loop
 invariant-loop g l = (more : List (List (Answer g.row.A.Denot))) × (length more ≡ length l.fn.posts) × (l.posts ≡ all_took l.fn.posts more) × (l.round ≡ lasts l.fn.round more)

@@ -3,7 +3,7 @@ use Rattle.std.proofs.lemmas.List.{append-nil}
 use Rattle.mdp_lanes.specs.declared.step.Step.{Step}
 use Rattle.mdp_crew.specs.Collecting.CutShort.{in_text, in_steps}
 use Rattle.mdp_crew.specs.Publishing.{published_on}
-use Rattle.mdp_crew.proofs.collector.show_round.Goals as goal
+use Rattle.mdp_crew.proofs.collector.Collecting.show.Goals as goal
 
 -- memory ran out before a write
 pub returns-in_default-clause-begins : goal.returns-in_default-clause-begins

@@ -1,6 +1,6 @@
 use Rattle.std.proofs.Common.{◌≡◌, length, vec_len, vec_capacity}
 use Rattle.mdp_crew.specs.Rounds.{all_took, one_each}
-use Rattle.mdp_crew.proofs.collector.take_round.Given as goal
+use Rattle.mdp_crew.proofs.rounds.take_round.Given as goal
 
 abbrev pub invariant-loop-post : goal.invariant-loop-post
 invariant-loop-post g l =
