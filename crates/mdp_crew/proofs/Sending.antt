@@ -78,7 +78,7 @@ module _ {A : Type 0} where
     lanes = lanes_next so_far.batches turns first now after so_far.lanes one;
     all =
         sent_more channel before events so_far.batches old new turns so_far.all
-        (subst (λ (start : List Move). IsFedAll {E = E} listed before events old new start turns (Ok tt)) is (fed listed before so_far.all.settled));
+        (subst (λ (start : List Move). IsFedAll {E = E} channel.listed before events old new start turns (Ok tt)) is (fed channel.listed before so_far.all.settled));
   }
   some_sends events now after old new none turns (Err fault) is fed one = tt
 
@@ -91,7 +91,7 @@ module _ {A : Type 0} where
     lanes = so_far.lanes;
     all =
         sent_as_before channel before events so_far.batches old new turns so_far.all
-        (subst (λ (start : List Move). IsFedAll {E = E} listed before events old new start turns (Ok tt)) is (fed listed before so_far.all.settled)) empty;
+        (subst (λ (start : List Move). IsFedAll {E = E} channel.listed before events old new start turns (Ok tt)) is (fed channel.listed before so_far.all.settled)) empty;
   }
 
   -- there was no memory for what further events add, and nothing of it was sent
