@@ -1,4 +1,4 @@
-use Rattle.std.proofs.Common.{◌≡◌, [], ◌∷◌, ◌∙◌, length, map, arith}
+use Rattle.std.proofs.Common.{◌≡◌, [], ◌∷◌, ap, ◌∙◌, length, map, arith}
 use Rattle.std.proofs.lemmas.List.{take_at}
 use Rattle.mdp_crew.proofs.Adding.{all_sent}
 use Rattle.mdp_crew.specs.declared.order.Order.TheVariants.{Done}
