@@ -81,8 +81,8 @@ pub fn run_in_order<W: CountedWrite, A: Allocator + Copy>(
     requires sound { W.failed writer.old < 2 ^ 64 - 1 }
     requires lawful { IsLawful plan }
     ensures text { IfOk result (λ summary. (text : List ℕ) × (W.taken writer.new ≡ W.taken writer.old ++ text)
-        × PrintsByLine (channel_in plan) (records_in feeds) text (standing_in summary)) }
-    ensures begins { IfErr result (λ _. BeginsByLine (channel_in plan) (records_in feeds)
+        × PrintsByLine (channel_in plan.entry) (records_in feeds.entry) text (standing_in summary)) }
+    ensures begins { IfErr result (λ _. BeginsByLine (channel_in plan.entry) (records_in feeds.entry)
         (W.taken writer.old) (W.taken writer.new)) }
     ensures written { IfOk result (λ summary. HasCounted (W.taken writer.old) (W.taken writer.new) summary.written) }
     ensures told { IfErr result (λ fault. HasCounted (W.taken writer.old) (W.taken writer.new) (written_before fault)) }

@@ -34,7 +34,7 @@ impl<A: Allocator + Copy> Run<A> {
     /// Makes a run before any record.
     pub fn new(alloc: A, plan: RunPlan<'_>) -> Result<Run<A>, Memory>
         requires { IsLawful plan }
-        ensures run { IfOk result (λ r. HasRun (channel_in plan) [] [] r.engine r.refusals) }
+        ensures run { IfOk result (λ r. HasRun (channel_in plan.entry) [] [] r.engine r.refusals) }
     {
         let window = RingWindow::new(alloc, u64::from(plan.window))?;
         Ok(Run {

@@ -50,11 +50,11 @@ pub fn settle_and_finish<W: CountedWrite, A: Allocator + Copy>(
     ensures text { IfOk result (λ summary. (channel : ListedChannel) (start : List ℕ)
         (before after : Option Published)
         → HasShown channel (events_taken crew.receiver.taken) start (W.taken writer.old) before after crew.standing
-        → SaysAll channel (records_in feeds) (out start before) (out (W.taken writer.new) after) (standing_in summary)) }
+        → SaysAll channel (records_in feeds.entry) (out start before) (out (W.taken writer.new) after) (standing_in summary)) }
     ensures begins { IfErr result (λ _. (channel : ListedChannel) (start : List ℕ)
         (before after : Option Published)
         → HasShown channel (events_taken crew.receiver.taken) start (W.taken writer.old) before after crew.standing
-        → SaysSome channel (records_in feeds) (out start before) (out (W.taken writer.new) after)) }
+        → SaysSome channel (records_in feeds.entry) (out start before) (out (W.taken writer.new) after)) }
     ensures counts { IfOk result (λ summary. (start : List ℕ)
         → HasCounted start (W.taken writer.old) crew.written → HasCounted start (W.taken writer.new) summary.written) }
     ensures told { IfErr result (λ fault. (start : List ℕ)

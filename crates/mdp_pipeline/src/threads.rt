@@ -206,7 +206,7 @@ where
     requires sound { W.failed writer.old < 2 ^ 64 - 1 }
     requires lawful { IsLawful plan }
     requires some { 1 ≤ plan.workers }
-    ensures ends { Ends (channel_in plan) (records_in feeds)
+    ensures ends { Ends (channel_in plan.entry) (records_in feeds.entry)
         (out (W.taken writer.old) board.old) (out (W.taken writer.new) board.new) result }
     ensures failed { FailsBy result (W.failed writer.old) (W.failed writer.new) }
 {
@@ -263,8 +263,8 @@ where
     requires lawful { IsLawful plan }
     requires some_workers { 1 ≤ plan.workers }
     ensures text { IfOk result (λ summary. (text : List ℕ) × (W.taken writer.new ≡ W.taken writer.old ++ text)
-        × PrintsMerge (channel_in plan) (records_in feeds) text (standing_in summary)) }
-    ensures begins { IfErr result (λ _. BeginsMerge (channel_in plan) (records_in feeds)
+        × PrintsMerge (channel_in plan.entry) (records_in feeds.entry) text (standing_in summary)) }
+    ensures begins { IfErr result (λ _. BeginsMerge (channel_in plan.entry) (records_in feeds.entry)
         (W.taken writer.old) (W.taken writer.new)) }
     ensures written { IfOk result (λ summary. HasCounted (W.taken writer.old) (W.taken writer.new) summary.written) }
     ensures told { IfErr result (λ fault. HasCounted (W.taken writer.old) (W.taken writer.new) (written_before fault)) }
@@ -305,9 +305,9 @@ where
     ensures board { result.0.board ≡ publisher.board }
     ensures text { IfOk result.1 (λ summary. (text : List ℕ) × (steps : List Step)
         × (W.taken writer.new ≡ W.taken writer.old ++ text) × (result.0 ≡ record publisher { steps = publisher.steps ++ steps })
-        × PublishesMerge (channel_in plan) (records_in feeds) text (standing_in summary) steps) }
+        × PublishesMerge (channel_in plan.entry) (records_in feeds.entry) text (standing_in summary) steps) }
     ensures begins { IfErr result.1 (λ _. (steps : List Step) × (result.0 ≡ record publisher { steps = publisher.steps ++ steps })
-        × BeginsToPublishMerge (channel_in plan) (records_in feeds) (W.taken writer.old) (W.taken writer.new) steps) }
+        × BeginsToPublishMerge (channel_in plan.entry) (records_in feeds.entry) (W.taken writer.old) (W.taken writer.new) steps) }
     ensures written { IfOk result.1 (λ summary. HasCounted (W.taken writer.old) (W.taken writer.new) summary.written) }
     ensures told { IfErr result.1 (λ fault. HasCounted (W.taken writer.old) (W.taken writer.new) (written_before fault)) }
     ensures range { IfOk result.1 (λ summary. IsNextNumber summary.next) }
