@@ -21,10 +21,6 @@ blocks_more start text more (block ∷ blocks) now left are =
     let others = blocks_more (read_on start block) (drop are.0 text) more blocks now left are.2 in
     (are.0, whole_more start.layout start.interfaces text more are.0 block are.1, subst (λ (t : List ℕ). AreBlocks (read_on start block) t blocks now (left ++ more)) (sym behind) others)
 
-pub pieces_add : (start middle now : Reading) (text piece held left : List ℕ) (blocks others : List BlockContent) → AreBlocks start text blocks middle held → AreBlocks middle (held ++ piece) others now left → AreBlocks start (text ++ piece) (blocks ++ others) now left
-pieces_add start middle now text piece held left blocks others first second =
-    blocks_join start (text ++ piece) blocks others middle (held ++ piece) now left (blocks_more start text piece blocks middle held first) second
-
 -- ---- one reading
 
 -- where a block stands no text ends

@@ -1,17 +1,18 @@
 -- A reader goes on, block by block.
-use Rattle.std.proofs.Common.{◌≡◌, ℕ, List, [], ◌∷◌, ◌++◌, take, drop, length, sym, ap, subst, ◌∙◌, arith, refl, Some, None}
+use Rattle.std.proofs.Common.{◌≡◌, ℕ, List, [], ◌∷◌, ◌++◌, take, drop, length, sym, ap, subst, ◌∙◌, arith, refl, Option, Some, None}
 use Rattle.std.specs.List.{flat_map}
 use Rattle.std.proofs.lemmas.Grind.{flat_map-append}
 use Rattle.std.proofs.lemmas.List.{append_assoc, append-nil, length-drop, drop-append-le}
 use Rattle.mdp_pcap.specs.Frame.{CapturedContent}
-use Rattle.mdp_pcap.specs.Block.{BlockContent, read_on, frames_of}
-use Rattle.mdp_pcap.specs.File.{Whole, Faulty, front_of}
+use Rattle.mdp_pcap.specs.Block.{Reading, BlockContent, read_on, frames_of}
+use Rattle.mdp_pcap.specs.File.{FrontContent, Whole, Faulty, front_of, cut_end, EndsAs}
 use Rattle.mdp_pcap.specs.Placing.{block_in}
-use Rattle.mdp_pcap.specs.Reader.{NumberedFrame, numbered, number_after, next_number, ReaderContent, IsReadOn, IsReadWhole}
+use Rattle.mdp_pcap.specs.Reader.{NumberedFrame, numbered, number_after, next_number, ReaderContent, IsReadOn, StandsAs, IsReadWhole, ending_with, at_first, HasHandedOn}
 use Rattle.mdp_pcap.specs.Stepping.{HasTaken, HasMovedOn, HasGoneOn}
 use Rattle.mdp_pcap.specs.declared.block.Block.{Block}
+use Rattle.mdp_pcap.specs.declared.layout.Layout.{Layout}
 use Rattle.mdp_pcap.specs.declared.layout.PcapFault.{PcapFault}
-use Rattle.mdp_pcap.proofs.Blocks.{blocks_join}
+use Rattle.mdp_pcap.proofs.Blocks.{blocks_join, blocks_more}
 use Rattle.mdp_pcap.proofs.Fronts.{whole_more, whole_least, faulty_more}
 
 numbered-append : (number : ℕ) (frames others : List CapturedContent) → numbered number (frames ++ others) ≡ numbered number frames ++ numbered (number_after number frames) others
@@ -98,3 +99,54 @@ stopped_in_held holds old now rest sink fault is front =
     let whole : IsReadWhole holds old stopped (old.held ++ rest) sink sink =
     record { left = old.held ++ rest; so_far = so_far; stands = (refl, faulty_more old.reading.layout old.reading.interfaces old.held rest fault front) } in
     subst (λ (n : ReaderContent). IsReadWhole holds old n (old.held ++ rest) sink sink) (sym is) whole
+
+-- ---- whole texts
+
+-- a reader with no fault has read no more than what stands before the bytes that it holds
+reads_more : {S : Type 0} (holds : S → List NumberedFrame → Type 0) (old now : ReaderContent) (text left more : List ℕ) (before after : S) → IsReadOn holds old now text left before after → IsReadOn holds old now (text ++ more) (left ++ more) before after
+reads_more holds old now text left more before after read =
+    record { blocks = read.blocks; follow = blocks_more old.reading text more read.blocks now.reading left read.follow; taken = read.taken; counted = read.counted }
+
+stands_held : (left held : List ℕ) (fault : Option PcapFault) (front : FrontContent) → fault ≡ None → StandsAs left held fault front → left ≡ held
+stands_held left held None front none stands = stands.0
+stands_held left held (Some fault) front none stands = cc
+
+pub pieces_add : {S : Type 0} (holds : S → List NumberedFrame → Type 0) (old middle now : ReaderContent) (text piece : List ℕ) (before between after : S) → IsReadWhole holds old middle text before between → middle.fault ≡ None → IsReadWhole holds middle now (middle.held ++ piece) between after → IsReadWhole holds old now (text ++ piece) before after
+pieces_add holds old middle now text piece before between after first going second =
+    let held : first.left ≡ middle.held = stands_held first.left middle.held middle.fault (front_of middle.reading.layout middle.reading.interfaces first.left) going first.stands in
+    let read = reads_more holds old middle text first.left piece before between first.so_far in
+    let then = subst (λ (t : List ℕ). IsReadOn holds old middle (text ++ piece) (t ++ piece) before between) held read in
+    whole_join holds old middle now (text ++ piece) (middle.held ++ piece) before between after then second
+
+stands_more : (reading : Reading) (left more held : List ℕ) (fault : Option PcapFault) (found : PcapFault) → fault ≡ Some found → StandsAs left held fault (front_of reading.layout reading.interfaces left) → StandsAs (left ++ more) held fault (front_of reading.layout reading.interfaces (left ++ more))
+stands_more reading left more held None found some stands = cc
+stands_more reading left more held (Some fault) found some stands = (stands.0, faulty_more reading.layout reading.interfaces left more fault stands.1)
+
+pub faults_stay : {S : Type 0} (holds : S → List NumberedFrame → Type 0) (old now : ReaderContent) (text piece : List ℕ) (before after : S) (fault : PcapFault) → IsReadWhole holds old now text before after → now.fault ≡ Some fault → IsReadWhole holds old now (text ++ piece) before after
+faults_stay holds old now text piece before after fault whole stopped =
+    record {
+      left = whole.left ++ piece;
+      so_far = reads_more holds old now text whole.left piece before after whole.so_far;
+      stands = stands_more now.reading whole.left piece now.held now.fault fault stopped whole.stands;
+    }
+
+ends_so : (layout : Layout) (left held : List ℕ) (fault : Option PcapFault) (front : FrontContent) → StandsAs left held fault front → EndsAs layout left (ending_with layout held fault) front
+ends_so layout left held None front stands =
+    subst (EndsAs layout left (cut_end layout held)) (sym stands.1.1) (ap (cut_end layout) (sym stands.0))
+ends_so layout left held (Some fault) front stands = subst (EndsAs layout left (Some fault)) (sym stands.1) refl
+
+pub whole_file : {S : Type 0} (holds : S → List NumberedFrame → Type 0) (now : ReaderContent) (text : List ℕ) (before after : S) → IsReadWhole holds at_first now text before after → HasHandedOn holds now text before after
+whole_file holds now text before after whole =
+    let read = whole.so_far in
+    record {
+      frames = flat_map frames_of read.blocks;
+      is = record {
+        blocks = read.blocks;
+        now = now.reading;
+        left = whole.left;
+        follow = read.follow;
+        ends = ends_so now.reading.layout whole.left now.held now.fault (front_of now.reading.layout now.reading.interfaces whole.left) whole.stands;
+        frames_are = refl;
+      };
+      taken = read.taken;
+    }

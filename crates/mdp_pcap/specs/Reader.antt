@@ -3,7 +3,7 @@ use Rattle.std.specs.Prelude.{◌≡◌, ℕ, ◌+◌, min, List, [], ◌∷◌,
 use Rattle.std.specs.List.{flat_map}
 use Rattle.mdp_pcap.specs.Frame.{CapturedContent}
 use Rattle.mdp_pcap.specs.Block.{Reading, BlockContent, frames_of}
-use Rattle.mdp_pcap.specs.File.{FrontContent, Unfinished, Faulty, AreBlocks, front_of, cut_end}
+use Rattle.mdp_pcap.specs.File.{FrontContent, Unfinished, Faulty, AreBlocks, front_of, cut_end, at_start, IsPcap}
 use Rattle.mdp_pcap.specs.declared.layout.Layout.{Layout}
 use Rattle.mdp_pcap.specs.declared.layout.PcapFault.{PcapFault}
 use Rattle.mdp_pcap.specs.declared.reader.PcapReader.{PcapReader}
@@ -70,3 +70,13 @@ ending_with layout held (Some fault) = Some fault
 
 abbrev pub ending_of : ReaderContent → Option PcapFault
 ending_of now = ending_with now.reading.layout now.held now.fault
+
+-- a reader that has read nothing
+abbrev pub at_first : ReaderContent
+at_first = record { reading = at_start; held = []; number = 1; fault = None }
+
+-- of a text that ends here the frames were handed on, from number 1 on, and the fault is the reader's
+pub record HasHandedOn {S : Type 0} (holds : S → List NumberedFrame → Type 0) (now : ReaderContent) (text : List ℕ) (before after : S) : Type 0 where
+  pub frames : List CapturedContent
+  pub is : IsPcap text (record { frames = frames; fault = ending_of now })
+  pub taken : (earlier : List NumberedFrame) → holds before earlier → holds after (earlier ++ numbered 1 frames)

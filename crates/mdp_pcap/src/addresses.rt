@@ -75,14 +75,14 @@ impl<A: Allocator> FeedAddresses<A> {
     }
 
     /// Answers whether a group is some feed's.
-    pub fn has_group(&self, group: u32) -> bool
+    pub(crate) fn has_group(&self, group: u32) -> bool
         ensures { result ≡ has_group group self.now }
     {
         any_of_group(&self.addresses, group)
     }
 
     /// Gives the feed of a group, if it is one feed's alone.
-    pub fn sole_feed(&self, group: u32) -> Option<Feed>
+    pub(crate) fn sole_feed(&self, group: u32) -> Option<Feed>
         ensures { result ≡ sole_feed group self.now }
     {
         let addresses = self.addresses.as_slice();

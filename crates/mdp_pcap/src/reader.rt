@@ -2,10 +2,10 @@
 
 ghost use Rattle.std.specs.Prelude.{◌≡◌, ◌+◌, ◌*◌, ◌<◌, ◌≤◌, ◌++◌, ◌∷◌, [], ℕ, List, drop, length, OnOk, IfOk, IsOk, IsSome, None};
 ghost use Rattle.mdp_pcap.specs.Frame.{captured_content};
-ghost use Rattle.mdp_pcap.specs.Reader.{NumberedFrame, content_of, IsReadWhole, ending_of};
+ghost use Rattle.mdp_pcap.specs.Reader.{NumberedFrame, content_of, IsReadWhole, ending_of, at_first};
 ghost use Rattle.mdp_pcap.specs.Stepping.{HasStepped, HasMovedOn, HasTaken};
 ghost use Rattle.mdp_pcap.specs.Placing.{block_in, IsInside};
-ghost use Rattle.mdp_pcap.specs.File.{at_start, cut_end, cut_short};
+ghost use Rattle.mdp_pcap.specs.File.{cut_end, cut_short};
 
 use crate::block::{Block, Front, front_of};
 use crate::frame::CapturedFrame;
@@ -62,7 +62,7 @@ pub(crate) enum Step {
 impl<A: Allocator + Copy> PcapReader<A> {
     /// Makes a reader that stands before a file.
     pub fn new(alloc: A) -> PcapReader<A>
-        ensures { content_of result ≡ record { reading = at_start; held = []; number = 1; fault = None } }
+        ensures { content_of result ≡ at_first }
     {
         PcapReader {
             layout: Layout::Start,
