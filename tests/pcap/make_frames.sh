@@ -14,9 +14,8 @@ for sample in *.pcap *.pcapng; do
             letter=${feed%%:*}
             group="ip.dst == ${feed##*:}"
             port="udp.dstport == 14310"
-            rows "$sample" "$group && $port && $whole && !udp.length.bad && udp.length <= 2056" -e frame.number -e udp.payload |
-                sed "s/ */ datagram $letter /; s/ *$//"
-            rows "$sample" "$group && $port && $whole && !udp.length.bad && udp.length > 2056" -e frame.number | sed "s/$/ long $letter/"
+            rows "$sample" "$group && $port && $whole && !udp.length.bad" -e frame.number -e udp.payload |
+                sed -E "s/^([0-9]+) ?/\\1 datagram $letter /; s/ +$//"
             rows "$sample" "$group && $port && $whole && udp.length.bad" -e frame.number | sed "s/$/ broken $letter/"
             rows "$sample" "$group && (ip.flags.mf == 1 || ip.frag_offset > 0)" -e frame.number | sed "s/$/ fragment $letter/"
             rows "$sample" "$group && $port && frame.cap_len < frame.len" -e frame.number | sed "s/$/ cut $letter/"

@@ -49,10 +49,11 @@ def block(order, kind, body):
 
 
 def section(order, link, frames, snap_length=0):
-    """A section with its header, an interface, a block of a kind that nobody knows, simple and enhanced packet blocks."""
+    """A section: its header, an interface, two blocks that are stepped over, and simple and enhanced packet blocks in turn."""
     text = block(order, 0x0A0D0D0A, struct.pack(order + "IHHq", 0x1A2B3C4D, 1, 0, -1))
     text += block(order, 1, struct.pack(order + "HHI", link, 0, snap_length))
-    text += block(order, 0x0BAD, b"stepped over")
+    text += block(order, 4, bytes(4))
+    text += block(order, 5, struct.pack(order + "III", 0, 0, 7))
     for place, frame in enumerate(frames):
         if place % 2 == 0:
             taken = frame if snap_length == 0 else frame[:snap_length]
@@ -84,7 +85,6 @@ def mixed():
 
 
 def main():
-    pcap("mixed.pcap", mixed())
     pcap("big_endian.pcap", mixed(), order=">")
     pcap("nanoseconds.pcap", mixed()[:3], magic=0xA1B23C4D)
     pcap("big_nanoseconds.pcap", mixed()[:3], order=">", magic=0xA1B23C4D)
@@ -93,12 +93,11 @@ def main():
     cooked2 = struct.pack(">HHIHBB8s", 0x800, 0, 2, 1, 0, 6, b"\2\0\0\0\0\1\0\0")
     pcap("cooked2.pcap", [cooked2 + ip(S, udp(b"cooked again"))], link=276)
     pcap("raw.pcap", [ip(B, udp(b"raw")), ip(A, udp(b"raw too"))], link=101)
-    pcap("long.pcap", [ethernet(ip(A, udp(bytes(2049)))), ethernet(ip(A, udp(bytes(2048))))])
     whole = [frame for frame in mixed() if not isinstance(frame, tuple)]
     raw = [ip(A, udp(b"raw in a section")), ip(S, udp(b"and one more"))]
     (HERE / "sections.pcapng").write_bytes(section("<", 1, whole[:4]) + section(">", 101, raw))
     (HERE / "snapped.pcapng").write_bytes(section(">", 1, [whole[1], whole[0], whole[3]], snap_length=50))
-    subprocess.run(["editcap", "-F", "pcapng", "mixed.pcap", "editcap.pcapng"], cwd=HERE, check=True)
+    subprocess.run(["editcap", "-F", "pcapng", "big_endian.pcap", "editcap.pcapng"], cwd=HERE, check=True)
 
 
 main()

@@ -2,7 +2,8 @@
 use Rattle.std.proofs.Common.{◌≡◌, ◌⊎◌, ℕ, ◌≤◌, ltb, List, ◌++◌, take, length, sym, ap, subst, ◌∙◌, arith, refl, inl, inr, Result, Ok, Err}
 use Rattle.std.proofs.lemmas.Bool.{cases_lt, lt-ltb, le-ltb, cond-true, cond-false}
 use Rattle.std.proofs.lemmas.List.{length-append, take-append-le}
-use Rattle.mdp_pcap.specs.Block.{BlockContent, needed, block_of}
+use Rattle.mdp_pcap.specs.Block.{BlockContent, block_of}
+use Rattle.mdp_pcap.specs.Extent.{needed}
 use Rattle.mdp_pcap.specs.File.{Unfinished, Faulty, Whole, front_of, front_with, front_says}
 use Rattle.mdp_pcap.specs.declared.layout.Interface.{Interface}
 use Rattle.mdp_pcap.specs.declared.layout.Layout.{Layout}

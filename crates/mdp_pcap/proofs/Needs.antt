@@ -3,7 +3,7 @@ use Rattle.std.proofs.Common.{◌≡◌, ◌⊎◌, ℕ, ◌+◌, ◌<◌, ◌�
 use Rattle.std.proofs.lemmas.Bool.{cases_lt, lt-ltb, le-ltb, ltb-true, ltb-false, cond-true, cond-false, cond_both}
 use Rattle.std.proofs.lemmas.List.{length-append}
 use Rattle.mdp_pcap.specs.Number.{number_in, big_at}
-use Rattle.mdp_pcap.specs.Block.{needed, section_length, section_total, section_order, record_length, block_length, file_order}
+use Rattle.mdp_pcap.specs.Extent.{needed, section_length, section_total, section_order, record_length, block_length, file_order}
 use Rattle.mdp_pcap.specs.declared.number.Endianness.{Endianness}
 use Rattle.mdp_pcap.specs.declared.layout.Layout.{Layout}
 use Rattle.mdp_pcap.specs.declared.layout.Layout.TheVariants as layouts

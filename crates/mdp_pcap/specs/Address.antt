@@ -26,7 +26,8 @@ has_group group addresses = list_any (λ address. address.group == group) addres
 
 -- some address of this feed has this group
 abbrev pub has_feed : Feed → ℕ → List FeedAddress → Bool
-has_feed feed group addresses = list_any (λ address. address.group == group && feed_letter address.feed == feed_letter feed) addresses
+has_feed feed group addresses =
+    list_any (λ address. address.group == group && feed_letter address.feed == feed_letter feed) addresses
 
 -- the one feed that is there, if just one of A, B and S is
 abbrev pub only_one : Bool → Bool → Bool → Option Feed

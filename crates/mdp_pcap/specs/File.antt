@@ -1,8 +1,10 @@
 -- What a file of captured traffic holds: the frames of its blocks, up to its end or a first fault.
-use Rattle.std.specs.Prelude.{◌≡◌, ℕ, ◌==◌, nat_lt, if◌then◌else◌, List, [], ◌∷◌, length, take, drop, Option, Some, None, Result, Ok, Err}
+use Rattle.std.specs.Prelude.{◌≡◌, ℕ, ◌==◌, nat_lt, if◌then◌else◌, List, [], ◌∷◌, length, take, drop}
+use Rattle.std.specs.Prelude.{Option, Some, None, Result, Ok, Err}
 use Rattle.std.specs.List.{flat_map}
 use Rattle.mdp_pcap.specs.Frame.{CapturedContent}
-use Rattle.mdp_pcap.specs.Block.{Reading, BlockContent, needed, block_of, read_on, frames_of}
+use Rattle.mdp_pcap.specs.Block.{Reading, BlockContent, block_of, read_on, frames_of}
+use Rattle.mdp_pcap.specs.Extent.{needed}
 use Rattle.mdp_pcap.specs.declared.layout.Interface.{Interface}
 use Rattle.mdp_pcap.specs.declared.layout.Layout.{Layout}
 use Rattle.mdp_pcap.specs.declared.layout.Layout.TheVariants as layouts
@@ -22,7 +24,8 @@ front_says count (Err fault) = Faulty fault
 abbrev pub front_with : Layout → List Interface → List ℕ → Result ℕ PcapFault → FrontContent
 front_with layout interfaces text (Err fault) = Faulty fault
 front_with layout interfaces text (Ok count) =
-    if nat_lt (length text) count then Unfinished count else front_says count (block_of layout interfaces (take count text))
+    if nat_lt (length text) count then Unfinished count
+    else front_says count (block_of layout interfaces (take count text))
 
 abbrev pub front_of : Layout → List Interface → List ℕ → FrontContent
 front_of layout interfaces text = front_with layout interfaces text (needed layout text)
@@ -31,7 +34,9 @@ front_of layout interfaces text = front_with layout interfaces text (needed layo
 abbrev pub AreBlocks : Reading → List ℕ → List BlockContent → Reading → List ℕ → Type 0
 AreBlocks reading text [] now left = (reading ≡ now) × (text ≡ left)
 AreBlocks reading text (block ∷ blocks) now left =
-    (count : ℕ) × (front_of reading.layout reading.interfaces text ≡ Whole count block) × AreBlocks (read_on reading block) (drop count text) blocks now left
+    (count : ℕ)
+    × (front_of reading.layout reading.interfaces text ≡ Whole count block)
+    × AreBlocks (read_on reading block) (drop count text) blocks now left
 
 -- how an input ends that ends behind a block, or within one
 abbrev pub cut_short : List ℕ → Option PcapFault

@@ -1,5 +1,6 @@
 -- What a captured frame carries: the link layer, IPv4 (RFC 791) and UDP (RFC 768).
-use Rattle.std.specs.Prelude.{ℕ, ◌-◌, ◌*◌, ◌/◌, ◌%◌, ◌==◌, ◌&&◌, not, nat_lt, nat_le, Bool, if◌then◌else◌, List, length, drop, take, slice_index}
+use Rattle.std.specs.Prelude.{ℕ, ◌-◌, ◌*◌, ◌/◌, ◌%◌, ◌==◌, ◌&&◌, not, nat_lt, nat_le, Bool, if◌then◌else◌}
+use Rattle.std.specs.Prelude.{List, length, drop, take, slice_index}
 use Rattle.mdp_pcap.specs.Number.{big_at}
 use Rattle.mdp_pcap.specs.Link.{NetworkContent, NotIp, Ends, Ip, network_of}
 use Rattle.mdp_pcap.specs.declared.link.Link.{Link}
@@ -17,8 +18,8 @@ pub record CapturedContent : Type 0 where
 abbrev pub is_cut : CapturedContent → Bool
 is_cut captured = nat_lt (length captured.bytes) captured.original
 
--- no UDP datagram over IPv4; a frame that was cut before its group, or between group and port; a datagram of which not all was
--- captured; a fragment; a datagram whose lengths contradict one another; a datagram
+-- no UDP datagram over IPv4; a frame that was cut before its group, or between group and port; a datagram of which not
+-- all was captured; a fragment; a datagram whose lengths contradict one another; a datagram
 pub data FrameContent : Type 0 where
   Other : FrameContent
   CutBeforeGroup : FrameContent

@@ -3,6 +3,7 @@ pub mod Link
 pub mod Frame
 pub mod Address
 pub mod Outcome
+pub mod Extent
 pub mod Block
 pub mod File
 pub mod Placing

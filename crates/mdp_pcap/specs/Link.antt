@@ -15,7 +15,8 @@ link_of number =
     else if number == 276 then Some links.LinuxCooked2
     else None
 
--- what stands behind the link layer: something else than IPv4; nothing, since the bytes end before that is told; an IPv4 packet
+-- what stands behind the link layer: something else than IPv4; nothing, since the bytes end before that is told; an IPv4
+-- packet
 pub data NetworkContent : Type 0 where
   NotIp : NetworkContent
   Ends : NetworkContent
@@ -32,7 +33,8 @@ is_tag kind = kind == 0x8100 || kind == 0x88a8
 -- a tag: two bytes of its own, and then the EtherType of what follows
 abbrev pub behind_tag : (ℕ → List ℕ → NetworkContent) → ℕ → List ℕ → NetworkContent
 behind_tag inner kind rest =
-    if is_tag kind then (if nat_lt (length rest) 4 then Ends else inner (big_at 2 2 rest) (drop 4 rest)) else plain kind rest
+    if is_tag kind then (if nat_lt (length rest) 4 then Ends else inner (big_at 2 2 rest) (drop 4 rest))
+    else plain kind rest
 
 -- what stands behind an EtherType, with at most one tag, and with at most two
 abbrev pub tagged_once : ℕ → List ℕ → NetworkContent
@@ -43,7 +45,8 @@ tagged kind rest = behind_tag tagged_once kind rest
 
 -- a link header of so many bytes, which has the EtherType at an offset
 abbrev pub linked : ℕ → ℕ → List ℕ → NetworkContent
-linked header offset bytes = if nat_lt (length bytes) header then Ends else tagged (big_at offset 2 bytes) (drop header bytes)
+linked header offset bytes =
+    if nat_lt (length bytes) header then Ends else tagged (big_at offset 2 bytes) (drop header bytes)
 
 -- what stands behind the link layer
 abbrev pub network_of : Link → List ℕ → NetworkContent

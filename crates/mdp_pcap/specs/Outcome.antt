@@ -7,8 +7,8 @@ use Rattle.mdp_pcap.specs.declared.addresses.FeedAddress.{FeedAddress}
 use Rattle.mdp_pcap.specs.declared.outcome.FrameOutcome.{FrameOutcome}
 use Rattle.mdp_pcap.specs.declared.outcome.FrameOutcome.TheVariants as outcomes
 
--- no feed's frame; a datagram on a feed; one whose payload is too long; a frame that was cut; a fragment; a datagram whose
--- lengths contradict one another
+-- no feed's frame; a datagram on a feed; one whose payload is too long; a frame that was cut; a fragment; a datagram
+-- whose lengths contradict one another
 pub data OutcomeContent : Type 0 where
   NoFeed : OutcomeContent
   Datagram : Feed → List ℕ → OutcomeContent
@@ -31,10 +31,12 @@ abbrev pub outcome_of : List FeedAddress → FrameContent → OutcomeContent
 outcome_of addresses FrameContent.Other = NoFeed
 outcome_of addresses FrameContent.CutBeforeGroup = Cut None
 outcome_of addresses (FrameContent.CutBeforePort group) = if has_group group addresses then Cut None else NoFeed
-outcome_of addresses (FrameContent.Fragment group) = if has_group group addresses then Fragment (sole_feed group addresses) else NoFeed
+outcome_of addresses (FrameContent.Fragment group) =
+    if has_group group addresses then Fragment (sole_feed group addresses) else NoFeed
 outcome_of addresses (FrameContent.Cut group port) = on_feed (λ feed. Cut (Some feed)) (feed_at group port addresses)
 outcome_of addresses (FrameContent.Broken group port) = on_feed Broken (feed_at group port addresses)
-outcome_of addresses (FrameContent.Datagram group port payload) = on_feed (λ feed. datagram_on feed payload) (feed_at group port addresses)
+outcome_of addresses (FrameContent.Datagram group port payload) =
+    on_feed (λ feed. datagram_on feed payload) (feed_at group port addresses)
 
 -- a lent payload, without where it lies in memory
 abbrev pub outcome_content : FrameOutcome → OutcomeContent

@@ -27,8 +27,8 @@ abbrev pub number_after : ℕ → List CapturedContent → ℕ
 number_after number [] = number
 number_after number (frame ∷ frames) = number_after (next_number number) frames
 
--- what a reader has read, the bytes that it holds of a block that is not whole, the number of the next frame, and the fault at which
--- it stopped
+-- what a reader has read, the bytes that it holds of a block that is not whole, the number of the next frame, and the fault
+-- at which it stopped
 pub record ReaderContent : Type 0 where
   pub reading : Reading
   pub held : List ℕ
@@ -43,22 +43,25 @@ content_of reader = record {
   fault = reader.fault;
 }
 
--- Of a text the blocks up to `left` were read, and their frames were handed on, with their numbers, to what takes frames: whatever
--- that held before, it holds these behind it.
-pub record IsReadOn {S : Type 0} (holds : S → List NumberedFrame → Type 0) (old now : ReaderContent) (text left : List ℕ) (before after : S) : Type 0 where
+-- Of a text the blocks up to `left` were read, and their frames were handed on, with their numbers, to what takes frames:
+-- whatever that held before, it holds these after it.
+pub record IsReadOn {S : Type 0} (holds : S → List NumberedFrame → Type 0) (old now : ReaderContent)
+    (text left : List ℕ) (before after : S) : Type 0 where
   pub blocks : List BlockContent
   pub follow : AreBlocks old.reading text blocks now.reading left
-  pub taken : (frames : List NumberedFrame) → holds before frames → holds after (frames ++ numbered old.number (flat_map frames_of blocks))
+  pub taken : (frames : List NumberedFrame) → holds before frames →
+      holds after (frames ++ numbered old.number (flat_map frames_of blocks))
   pub counted : number_after old.number (flat_map frames_of blocks) ≡ now.number
 
--- No block stands before these bytes: a reader with no fault holds them, since they are the beginning of one; else that is its fault,
--- and it holds nothing.
+-- No block stands at the front of these bytes: a reader with no fault holds them, since they are the beginning of one; else
+-- that is its fault, and it holds nothing.
 abbrev pub StandsAs : List ℕ → List ℕ → Option PcapFault → FrontContent → Type 0
 StandsAs left held None front = (left ≡ held) × ((count : ℕ) × (front ≡ Unfinished count))
 StandsAs left held (Some fault) front = (held ≡ []) × (front ≡ Faulty fault)
 
 -- all that is whole of a text was read
-pub record IsReadWhole {S : Type 0} (holds : S → List NumberedFrame → Type 0) (old now : ReaderContent) (text : List ℕ) (before after : S) : Type 0 where
+pub record IsReadWhole {S : Type 0} (holds : S → List NumberedFrame → Type 0) (old now : ReaderContent)
+    (text : List ℕ) (before after : S) : Type 0 where
   pub left : List ℕ
   pub so_far : IsReadOn holds old now text left before after
   pub stands : StandsAs left now.held now.fault (front_of now.reading.layout now.reading.interfaces left)
@@ -76,7 +79,8 @@ abbrev pub at_first : ReaderContent
 at_first = record { reading = at_start; held = []; number = 1; fault = None }
 
 -- of a text that ends here the frames were handed on, from number 1 on, and the fault is the reader's
-pub record HasHandedOn {S : Type 0} (holds : S → List NumberedFrame → Type 0) (now : ReaderContent) (text : List ℕ) (before after : S) : Type 0 where
+pub record HasHandedOn {S : Type 0} (holds : S → List NumberedFrame → Type 0) (now : ReaderContent)
+    (text : List ℕ) (before after : S) : Type 0 where
   pub frames : List CapturedContent
   pub is : IsPcap text (record { frames = frames; fault = ending_of now })
   pub taken : (earlier : List NumberedFrame) → holds before earlier → holds after (earlier ++ numbered 1 frames)

@@ -20,12 +20,14 @@ pub record HasMovedOn (block : Block) (old now : ReaderContent) : Type 0 where
   pub going : now.fault ≡ old.fault
 
 -- a step took so many bytes of a piece, and left less to read
-pub record HasGoneOn {S : Type 0} (holds : S → List NumberedFrame → Type 0) (old now : ReaderContent) (rest : List ℕ) (before after : S) (count : ℕ) : Type 0 where
+pub record HasGoneOn {S : Type 0} (holds : S → List NumberedFrame → Type 0) (old now : ReaderContent)
+    (rest : List ℕ) (before after : S) (count : ℕ) : Type 0 where
   pub fits : count ≤ length rest
   pub read : IsReadOn holds old now (old.held ++ rest) (now.held ++ drop count rest) before after
   pub going : now.fault ≡ None
   pub less : 2 * (length rest - count) + length now.held < 2 * length rest + length old.held
 
-abbrev pub HasStepped : {S : Type 0} → (S → List NumberedFrame → Type 0) → ReaderContent → ReaderContent → List ℕ → S → S → Step → Type 0
+abbrev pub HasStepped : {S : Type 0} → (S → List NumberedFrame → Type 0) →
+    ReaderContent → ReaderContent → List ℕ → S → S → Step → Type 0
 HasStepped holds old now rest before after (steps.On count) = HasGoneOn holds old now rest before after count
 HasStepped holds old now rest before after steps.Done = IsReadWhole holds old now (old.held ++ rest) before after

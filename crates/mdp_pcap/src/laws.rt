@@ -24,7 +24,8 @@ pub fn pieces_add<S: TakesFrames>()
 
 /// Proves that a fault is one whatever follows: a reader that met one need read nothing more.
 pub fn faults_stay<S: TakesFrames>()
-    ensures { (old now : ReaderContent) (text piece : List ℕ) (before after : S) (fault : PcapFault) →
+    ensures { (old now : ReaderContent) (text piece : List ℕ) (before after : S)
+        (fault : PcapFault) →
         IsReadWhole S.holds old now text before after → now.fault ≡ Some fault →
         IsReadWhole S.holds old now (text ++ piece) before after }
 {}

@@ -1,8 +1,8 @@
 //! What was read of a file, and how many bytes its next block has.
 
 ghost use Rattle.std.specs.Prelude.{◌≡◌, ◌≤◌, ◌+◌, length, IfOk, ℕ};
-ghost use Rattle.mdp_pcap.specs.Block.{needed, file_order, section_order, is_section_header};
-ghost use Rattle.mdp_pcap.specs.Block.{record_length, block_length, section_length};
+ghost use Rattle.mdp_pcap.specs.Extent.{needed, file_order, section_order, is_section_header};
+ghost use Rattle.mdp_pcap.specs.Extent.{record_length, block_length, section_length};
 
 use crate::number::{Endianness, big32, number32};
 

@@ -24,3 +24,6 @@ pub use layout::PcapFault;
 pub use link::Link;
 pub use outcome::FrameOutcome;
 pub use reader::{Halt, PcapReader, TakesFrames};
+
+#[cfg(test)]
+mod tests;

@@ -33,7 +33,8 @@ pub enum FrameOutcome<'a> {
 impl<A: Allocator> FeedAddresses<A> {
     /// Gives what a captured frame brings on the feeds of these addresses. The payload is lent from the frame.
     pub fn outcome_of<'a>(&self, captured: CapturedFrame<'a>) -> FrameOutcome<'a>
-        ensures { outcome_content result ≡ outcome_of self.now (frame_of (captured_content captured.entry)) }
+        ensures { outcome_content result
+            ≡ outcome_of self.now (frame_of (captured_content captured.entry)) }
     {
         match frame_of(captured) {
             Frame::Other => FrameOutcome::NoFeed,

@@ -108,7 +108,8 @@ fn packet_in(
 ) -> Result<Block, PcapFault>
     requires starts { start ≤ 28 }
     requires tails { tail ≤ 4 }
-    ensures said { said_in block.now result ≡ packet_in start tail captured original interface block.now }
+    ensures said { said_in block.now result
+        ≡ packet_in start tail captured original interface block.now }
     ensures inside { IfOk result (IsInside block.now) }
 {
     if captured > 262_144 {

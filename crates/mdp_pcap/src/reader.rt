@@ -1,6 +1,6 @@
 //! A file that is read as it comes, piece by piece.
 
-ghost use Rattle.std.specs.Prelude.{◌≡◌, ◌+◌, ◌*◌, ◌<◌, ◌≤◌, ◌++◌, ◌∷◌, [], ℕ, List, drop, length, OnOk, IfOk, IsOk, IsSome, None};
+ghost use Rattle.std.specs.Prelude.{◌≡◌, ◌≤◌, ◌++◌, ◌∷◌, [], List, drop, length, OnOk, IfOk, IsOk, IsSome, None};
 ghost use Rattle.mdp_pcap.specs.Frame.{captured_content};
 ghost use Rattle.mdp_pcap.specs.Reader.{NumberedFrame, content_of, IsReadWhole, ending_of, at_first};
 ghost use Rattle.mdp_pcap.specs.Stepping.{HasStepped, HasMovedOn, HasTaken};
@@ -137,7 +137,8 @@ impl<A: Allocator + Copy> PcapReader<A> {
     // Reads one block more, or takes in what it lacks.
     fn step<S: TakesFrames>(&mut self, rest: &[u8], sink: &mut S) -> Result<Step, Halt<S::Stop>>
         requires { self.old.fault ≡ None }
-        ensures { IfOk result (HasStepped S.holds (content_of self.old) (content_of self.new) rest.now sink.old sink.new) }
+        ensures { IfOk result (HasStepped S.holds (content_of self.old) (content_of self.new)
+            rest.now sink.old sink.new) }
     {
         if self.held.is_empty() {
             let step = self.step_in_piece(rest, sink)?;
@@ -155,7 +156,8 @@ impl<A: Allocator + Copy> PcapReader<A> {
     ) -> Result<Step, Halt<S::Stop>>
         requires going { self.old.fault ≡ None }
         requires empty { self.old.held.items ≡ [] }
-        ensures { IfOk result (HasStepped S.holds (content_of self.old) (content_of self.new) rest.now sink.old sink.new) }
+        ensures { IfOk result (HasStepped S.holds (content_of self.old) (content_of self.new)
+            rest.now sink.old sink.new) }
     {
         match front_of(self.layout, self.interfaces.as_slice(), rest) {
             Front::Unfinished(_) => {
@@ -185,7 +187,8 @@ impl<A: Allocator + Copy> PcapReader<A> {
         sink: &mut S,
     ) -> Result<Step, Halt<S::Stop>>
         requires { self.old.fault ≡ None }
-        ensures { IfOk result (HasStepped S.holds (content_of self.old) (content_of self.new) rest.now sink.old sink.new) }
+        ensures { IfOk result (HasStepped S.holds (content_of self.old) (content_of self.new)
+            rest.now sink.old sink.new) }
     {
         match front_of(
             self.layout,
