@@ -7,11 +7,13 @@ use Rattle.mdp_pcap.specs.Frame.{CapturedContent}
 use Rattle.mdp_pcap.specs.Block.{Reading, BlockContent, read_on, frames_of}
 use Rattle.mdp_pcap.specs.File.{FrontContent, Whole, Faulty, front_of, cut_end, EndsAs}
 use Rattle.mdp_pcap.specs.Placing.{block_in}
-use Rattle.mdp_pcap.specs.Reader.{NumberedFrame, numbered, number_after, next_number, ReaderContent, IsReadOn, StandsAs, IsReadWhole, ending_with, at_first, HasHandedOn}
-use Rattle.mdp_pcap.specs.Stepping.{HasTaken, HasMovedOn, HasGoneOn}
+use Rattle.mdp_pcap.specs.Reader.{NumberedFrame, numbered, number_after, next_number, ReaderContent, IsReadOn, StandsAs, IsReadWhole, ending_with, at_first, HasHandedOn, IsReadSome, HasHalted}
+use Rattle.mdp_pcap.specs.Stepping.{HasTaken, HasMovedOn, HasGoneOn, IsStop}
 use Rattle.mdp_pcap.specs.declared.block.Block.{Block}
 use Rattle.mdp_pcap.specs.declared.layout.Layout.{Layout}
 use Rattle.mdp_pcap.specs.declared.layout.PcapFault.{PcapFault}
+use Rattle.mdp_pcap.specs.declared.reader.Halt.{Halt}
+use Rattle.mdp_pcap.specs.declared.reader.Halt.TheVariants as halts
 use Rattle.mdp_pcap.proofs.Blocks.{blocks_join, blocks_more}
 use Rattle.mdp_pcap.proofs.Fronts.{whole_more, whole_least, faulty_more}
 
@@ -99,6 +101,24 @@ stopped_in_held holds old now rest sink fault is front =
     let whole : IsReadWhole holds old stopped (old.held ++ rest) sink sink =
     record { left = old.held ++ rest; so_far = so_far; stands = (refl, faulty_more old.reading.layout old.reading.interfaces old.held rest fault front) } in
     subst (λ (n : ReaderContent). IsReadWhole holds old n (old.held ++ rest) sink sink) (sym is) whole
+
+-- ---- halts
+
+pub halts_stopped : {S E : Type 0} (holds : S → List NumberedFrame → Type 0) (old : ReaderContent) (text : List ℕ) (before after : S) (halt : Halt E) → IsStop halt → HasHalted holds old text before after halt
+halts_stopped holds old text before after halts.Memory is = absurd is
+halts_stopped holds old text before after (halts.Stop stop) is = tt
+
+-- what was read before a halt is read
+pub halts_later : {S E : Type 0} (holds : S → List NumberedFrame → Type 0) (old middle : ReaderContent) (text rest : List ℕ) (before between after : S) (halt : Halt E) → IsReadOn holds old middle text rest before between → HasHalted holds middle rest between after halt → HasHalted holds old text before after halt
+halts_later holds old middle text rest before between after halts.Memory first halted =
+    (halted.0, (halted.1.0, reads_join holds old middle halted.0 text rest halted.1.0 before between after first halted.1.1))
+halts_later holds old middle text rest before between after (halts.Stop stop) first halted = tt
+
+-- a block was read, and then memory ran out
+pub halts_after : {S : Type 0} (holds : S → List NumberedFrame → Type 0) (old : ReaderContent) (text : List ℕ) (before after : S) (count : ℕ) (block : BlockContent) → front_of old.reading.layout old.reading.interfaces text ≡ Whole count block → HasTaken holds old.number block before after → IsReadSome holds old text before after
+halts_after holds old text before after count block front taken =
+    let now : ReaderContent = record { reading = read_on old.reading block; held = []; number = number_after old.number (frames_of block); fault = None } in
+    (now, (drop count text, reads_one holds old now text before after count block front refl refl taken))
 
 -- ---- whole texts
 

@@ -6,6 +6,8 @@ use Rattle.mdp_pcap.specs.Block.{Reading, BlockContent, frames_of}
 use Rattle.mdp_pcap.specs.File.{FrontContent, Unfinished, Faulty, AreBlocks, front_of, cut_end, at_start, IsPcap}
 use Rattle.mdp_pcap.specs.declared.layout.Layout.{Layout}
 use Rattle.mdp_pcap.specs.declared.layout.PcapFault.{PcapFault}
+use Rattle.mdp_pcap.specs.declared.reader.Halt.{Halt}
+use Rattle.mdp_pcap.specs.declared.reader.Halt.TheVariants as halts
 use Rattle.mdp_pcap.specs.declared.reader.PcapReader.{PcapReader}
 
 -- a frame with its number in its file
@@ -65,6 +67,18 @@ pub record IsReadWhole {S : Type 0} (holds : S → List NumberedFrame → Type 0
   pub left : List ℕ
   pub so_far : IsReadOn holds old now text left before after
   pub stands : StandsAs left now.held now.fault (front_of now.reading.layout now.reading.interfaces left)
+
+-- some blocks at the front of a text were read
+abbrev pub IsReadSome : {S : Type 0} → (S → List NumberedFrame → Type 0) → ReaderContent → List ℕ → S → S → Type 0
+IsReadSome holds old text before after =
+    (now : ReaderContent) × ((left : List ℕ) × IsReadOn holds old now text left before after)
+
+-- Of a text not all that is whole was read. Where memory ran out, the frames that were handed on are its first ones. Where
+-- what takes the frames took no more, that says itself what it holds.
+abbrev pub HasHalted : {S E : Type 0} → (S → List NumberedFrame → Type 0) →
+    ReaderContent → List ℕ → S → S → Halt E → Type 0
+HasHalted holds old text before after halts.Memory = IsReadSome holds old text before after
+HasHalted holds old text before after (halts.Stop stop) = Unit {0}
 
 -- how the file ends where its input does
 abbrev pub ending_with : Layout → List ℕ → Option PcapFault → Option PcapFault

@@ -4,6 +4,8 @@ use Rattle.mdp_pcap.specs.Block.{BlockContent, read_on, frames_of}
 use Rattle.mdp_pcap.specs.Placing.{block_in}
 use Rattle.mdp_pcap.specs.Reader.{NumberedFrame, numbered, number_after, ReaderContent, IsReadOn, IsReadWhole}
 use Rattle.mdp_pcap.specs.declared.block.Block.{Block}
+use Rattle.mdp_pcap.specs.declared.reader.Halt.{Halt}
+use Rattle.mdp_pcap.specs.declared.reader.Halt.TheVariants as halts
 use Rattle.mdp_pcap.specs.declared.reader.Step.{Step}
 use Rattle.mdp_pcap.specs.declared.reader.Step.TheVariants as steps
 
@@ -11,6 +13,11 @@ use Rattle.mdp_pcap.specs.declared.reader.Step.TheVariants as steps
 abbrev pub HasTaken : {S : Type 0} → (S → List NumberedFrame → Type 0) → ℕ → BlockContent → S → S → Type 0
 HasTaken holds number block before after =
     (frames : List NumberedFrame) → holds before frames → holds after (frames ++ numbered number (frames_of block))
+
+-- what takes the frames took no more
+abbrev pub IsStop : {E : Type 0} → Halt E → Type 0
+IsStop halts.Memory = ⊥
+IsStop (halts.Stop stop) = Unit {0}
 
 -- the reader took note of a block, wherever its frame stands
 pub record HasMovedOn (block : Block) (old now : ReaderContent) : Type 0 where

@@ -1,9 +1,9 @@
 //! A file that is read as it comes, piece by piece.
 
-ghost use Rattle.std.specs.Prelude.{◌≡◌, ◌≤◌, ◌++◌, ◌∷◌, [], List, drop, length, OnOk, IfOk, IsOk, IsSome, None};
+ghost use Rattle.std.specs.Prelude.{◌≡◌, ◌≤◌, ◌++◌, ◌∷◌, [], List, drop, length, OnOk, IfOk, IfErr, IsOk, IsSome, None};
 ghost use Rattle.mdp_pcap.specs.Frame.{captured_content};
-ghost use Rattle.mdp_pcap.specs.Reader.{NumberedFrame, content_of, IsReadWhole, ending_of, at_first};
-ghost use Rattle.mdp_pcap.specs.Stepping.{HasStepped, HasMovedOn, HasTaken};
+ghost use Rattle.mdp_pcap.specs.Reader.{NumberedFrame, content_of, IsReadWhole, HasHalted, ending_of, at_first};
+ghost use Rattle.mdp_pcap.specs.Stepping.{HasStepped, HasMovedOn, HasTaken, IsStop};
 ghost use Rattle.mdp_pcap.specs.Placing.{block_in, IsInside};
 ghost use Rattle.mdp_pcap.specs.File.{cut_end, cut_short};
 
@@ -101,7 +101,8 @@ impl<A: Allocator + Copy> PcapReader<A> {
     ///
     /// # Errors
     ///
-    /// Where memory ran out, or the frames are taken no more; then the reader is not to be used again.
+    /// Where memory ran out, or the frames are taken no more; then the reader is not to be used again. Where memory ran
+    /// out, the frames that were handed on are the first of the text.
     pub fn take_piece<S: TakesFrames>(
         &mut self,
         piece: &[u8],
@@ -109,6 +110,8 @@ impl<A: Allocator + Copy> PcapReader<A> {
     ) -> Result<(), Halt<S::Stop>>
         ensures read { (content_of self.old).fault ≡ None → OnOk result (IsReadWhole S.holds
             (content_of self.old) (content_of self.new) ((content_of self.old).held ++ piece.now) sink.old sink.new) }
+        ensures halted { IfErr result (HasHalted S.holds
+            (content_of self.old) ((content_of self.old).held ++ piece.now) sink.old sink.new) }
         ensures stopped { IsSome (content_of self.old).fault →
             (content_of self.new ≡ content_of self.old) × (sink.new ≡ sink.old) × (IsOk result) }
     {
@@ -122,7 +125,9 @@ impl<A: Allocator + Copy> PcapReader<A> {
     // Reads a piece where no fault was met.
     fn read_on<S: TakesFrames>(&mut self, piece: &[u8], sink: &mut S) -> Result<(), Halt<S::Stop>>
         requires { self.old.fault ≡ None }
-        ensures { OnOk result (IsReadWhole S.holds (content_of self.old) (content_of self.new)
+        ensures read { OnOk result (IsReadWhole S.holds (content_of self.old) (content_of self.new)
+            (self.old.held.items ++ piece.now) sink.old sink.new) }
+        ensures halted { IfErr result (HasHalted S.holds (content_of self.old)
             (self.old.held.items ++ piece.now) sink.old sink.new) }
     {
         let mut from = 0;
@@ -137,8 +142,10 @@ impl<A: Allocator + Copy> PcapReader<A> {
     // Reads one block more, or takes in what it lacks.
     fn step<S: TakesFrames>(&mut self, rest: &[u8], sink: &mut S) -> Result<Step, Halt<S::Stop>>
         requires { self.old.fault ≡ None }
-        ensures { IfOk result (HasStepped S.holds (content_of self.old) (content_of self.new)
+        ensures stepped { IfOk result (HasStepped S.holds (content_of self.old) (content_of self.new)
             rest.now sink.old sink.new) }
+        ensures halted { IfErr result (HasHalted S.holds (content_of self.old)
+            (self.old.held.items ++ rest.now) sink.old sink.new) }
     {
         if self.held.is_empty() {
             let step = self.step_in_piece(rest, sink)?;
@@ -156,8 +163,10 @@ impl<A: Allocator + Copy> PcapReader<A> {
     ) -> Result<Step, Halt<S::Stop>>
         requires going { self.old.fault ≡ None }
         requires empty { self.old.held.items ≡ [] }
-        ensures { IfOk result (HasStepped S.holds (content_of self.old) (content_of self.new)
+        ensures stepped { IfOk result (HasStepped S.holds (content_of self.old) (content_of self.new)
             rest.now sink.old sink.new) }
+        ensures halted { IfErr result (HasHalted S.holds (content_of self.old)
+            (self.old.held.items ++ rest.now) sink.old sink.new) }
     {
         match front_of(self.layout, self.interfaces.as_slice(), rest) {
             Front::Unfinished(_) => {
@@ -187,8 +196,10 @@ impl<A: Allocator + Copy> PcapReader<A> {
         sink: &mut S,
     ) -> Result<Step, Halt<S::Stop>>
         requires { self.old.fault ≡ None }
-        ensures { IfOk result (HasStepped S.holds (content_of self.old) (content_of self.new)
+        ensures stepped { IfOk result (HasStepped S.holds (content_of self.old) (content_of self.new)
             rest.now sink.old sink.new) }
+        ensures halted { IfErr result (HasHalted S.holds (content_of self.old)
+            (self.old.held.items ++ rest.now) sink.old sink.new) }
     {
         match front_of(
             self.layout,
@@ -283,7 +294,8 @@ fn hand_on<S: TakesFrames>(
     sink: &mut S,
 ) -> Result<(), Halt<S::Stop>>
     requires { IsInside bytes.now block }
-    ensures { OnOk result (HasTaken S.holds number (block_in bytes.now block) sink.old sink.new) }
+    ensures taken { OnOk result (HasTaken S.holds number (block_in bytes.now block) sink.old sink.new) }
+    ensures halted { IfErr result IsStop }
 {
     match block {
         Block::Packet(packet) => {
