@@ -1,4 +1,5 @@
--- What the blocks of captured traffic say: which of a classic pcap's or a pcapng's kinds one is depends on what was read before.
+-- What the blocks of captured traffic say: which of a classic pcap's or a pcapng's kinds one is depends on what was
+-- read before.
 use Rattle.std.specs.Prelude.{ℕ, ◌+◌, ◌-◌, ◌%◌, ◌==◌, min, nat_lt, if◌then◌else◌, List, [], ◌∷◌, ◌++◌, length}
 use Rattle.std.specs.Prelude.{take, drop, slice_get, Option, Some, None, Result, Ok, Err}
 use Rattle.mdp_pcap.specs.Number.{number_in, big_at}

@@ -1,6 +1,6 @@
--- How captured traffic is cut into blocks. A classic pcap (the libpcap file format, version 2.4) is a file header and packet
--- records; a pcapng (draft-ietf-opsawg-pcapng) is blocks. All three are called blocks here: the first bytes of each say how
--- many it has.
+-- How captured traffic is cut into blocks. A classic pcap (the libpcap file format, version 2.4) is a file header and
+-- packet records; a pcapng (draft-ietf-opsawg-pcapng) is blocks. All three are called blocks here: the first bytes of
+-- each say how many it has.
 use Rattle.std.specs.Prelude.{ℕ, ◌+◌, ◌%◌, ◌==◌, nat_lt, Bool, is_some, if◌then◌else◌, List, length, Option, Some, None}
 use Rattle.std.specs.Prelude.{Result, Ok, Err}
 use Rattle.mdp_pcap.specs.Number.{number_in, big_at}
@@ -52,8 +52,8 @@ abbrev pub section_length : PcapFault → List ℕ → Result ℕ PcapFault
 section_length fault text =
     if nat_lt (length text) 12 then Ok 12 else section_total fault (section_order (big_at 8 4 text)) text
 
--- How many bytes the block at the front of a text has; where there are too few to tell that, how many tell more. Or why there
--- is no block: what can't be a section header is NotPcap where nothing was read, and a contradiction later.
+-- How many bytes the block at the front of a text has; where there are too few to tell that, how many tell more. Or why
+-- there is no block: what can't be a section header is NotPcap where nothing was read, and a contradiction later.
 abbrev pub needed : Layout → List ℕ → Result ℕ PcapFault
 needed layouts.Start text =
     if nat_lt (length text) 4 then Ok 4

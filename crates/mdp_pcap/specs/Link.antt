@@ -15,8 +15,8 @@ link_of number =
     else if number == 276 then Some links.LinuxCooked2
     else None
 
--- what stands behind the link layer: something else than IPv4; nothing, since the bytes end before that is told; an IPv4
--- packet
+-- what stands behind the link layer: something else than IPv4; nothing, since the bytes end before that is told; an
+-- IPv4 packet
 pub data NetworkContent : Type 0 where
   NotIp : NetworkContent
   Ends : NetworkContent

@@ -29,8 +29,8 @@ abbrev pub number_after : ℕ → List CapturedContent → ℕ
 number_after number [] = number
 number_after number (frame ∷ frames) = number_after (next_number number) frames
 
--- what a reader has read, the bytes that it holds of a block that is not whole, the number of the next frame, and the fault
--- at which it stopped
+-- what a reader has read, the bytes that it holds of a block that is not whole, the number of the next frame, and the
+-- fault at which it stopped
 pub record ReaderContent : Type 0 where
   pub reading : Reading
   pub held : List ℕ
@@ -45,8 +45,8 @@ content_of reader = record {
   fault = reader.fault;
 }
 
--- Of a text the blocks up to `left` were read, and their frames were handed on, with their numbers, to what takes frames:
--- whatever that held before, it holds these after it.
+-- Of a text the blocks up to `left` were read, and their frames were handed on, with their numbers, to what takes
+-- frames: whatever that held before, it holds these after it.
 pub record IsReadOn {S : Type 0} (holds : S → List NumberedFrame → Type 0) (old now : ReaderContent)
     (text left : List ℕ) (before after : S) : Type 0 where
   pub blocks : List BlockContent
@@ -55,8 +55,8 @@ pub record IsReadOn {S : Type 0} (holds : S → List NumberedFrame → Type 0) (
       holds after (frames ++ numbered old.number (flat_map frames_of blocks))
   pub counted : number_after old.number (flat_map frames_of blocks) ≡ now.number
 
--- No block stands at the front of these bytes: a reader with no fault holds them, since they are the beginning of one; else
--- that is its fault, and it holds nothing.
+-- No block stands at the front of these bytes: a reader with no fault holds them, since they are the beginning of one;
+-- else that is its fault, and it holds nothing.
 abbrev pub StandsAs : List ℕ → List ℕ → Option PcapFault → FrontContent → Type 0
 StandsAs left held None front = (left ≡ held) × ((count : ℕ) × (front ≡ Unfinished count))
 StandsAs left held (Some fault) front = (held ≡ []) × (front ≡ Faulty fault)
@@ -73,8 +73,8 @@ abbrev pub IsReadSome : {S : Type 0} → (S → List NumberedFrame → Type 0) �
 IsReadSome holds old text before after =
     (now : ReaderContent) × ((left : List ℕ) × IsReadOn holds old now text left before after)
 
--- Of a text not all that is whole was read. Where memory ran out, the frames that were handed on are its first ones. Where
--- what takes the frames took no more, that says itself what it holds.
+-- Of a text not all that is whole was read. Where memory ran out, the frames that were handed on are its first ones.
+-- Where what takes the frames took no more, that says itself what it holds.
 abbrev pub HasHalted : {S E : Type 0} → (S → List NumberedFrame → Type 0) →
     ReaderContent → List ℕ → S → S → Halt E → Type 0
 HasHalted holds old text before after halts.Memory = IsReadSome holds old text before after

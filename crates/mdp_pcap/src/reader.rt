@@ -142,8 +142,8 @@ impl<A: Allocator + Copy> PcapReader<A> {
     // Reads one block more, or takes in what it lacks.
     fn step<S: TakesFrames>(&mut self, rest: &[u8], sink: &mut S) -> Result<Step, Halt<S::Stop>>
         requires { self.old.fault ≡ None }
-        ensures stepped { IfOk result (HasStepped S.holds (content_of self.old) (content_of self.new)
-            rest.now sink.old sink.new) }
+        ensures stepped { IfOk result (HasStepped S.holds
+            (content_of self.old) (content_of self.new) rest.now sink.old sink.new) }
         ensures halted { IfErr result (HasHalted S.holds (content_of self.old)
             (self.old.held.items ++ rest.now) sink.old sink.new) }
     {
@@ -163,8 +163,8 @@ impl<A: Allocator + Copy> PcapReader<A> {
     ) -> Result<Step, Halt<S::Stop>>
         requires going { self.old.fault ≡ None }
         requires empty { self.old.held.items ≡ [] }
-        ensures stepped { IfOk result (HasStepped S.holds (content_of self.old) (content_of self.new)
-            rest.now sink.old sink.new) }
+        ensures stepped { IfOk result (HasStepped S.holds
+            (content_of self.old) (content_of self.new) rest.now sink.old sink.new) }
         ensures halted { IfErr result (HasHalted S.holds (content_of self.old)
             (self.old.held.items ++ rest.now) sink.old sink.new) }
     {
@@ -196,8 +196,8 @@ impl<A: Allocator + Copy> PcapReader<A> {
         sink: &mut S,
     ) -> Result<Step, Halt<S::Stop>>
         requires { self.old.fault ≡ None }
-        ensures stepped { IfOk result (HasStepped S.holds (content_of self.old) (content_of self.new)
-            rest.now sink.old sink.new) }
+        ensures stepped { IfOk result (HasStepped S.holds
+            (content_of self.old) (content_of self.new) rest.now sink.old sink.new) }
         ensures halted { IfErr result (HasHalted S.holds (content_of self.old)
             (self.old.held.items ++ rest.now) sink.old sink.new) }
     {
@@ -294,7 +294,8 @@ fn hand_on<S: TakesFrames>(
     sink: &mut S,
 ) -> Result<(), Halt<S::Stop>>
     requires { IsInside bytes.now block }
-    ensures taken { OnOk result (HasTaken S.holds number (block_in bytes.now block) sink.old sink.new) }
+    ensures taken { OnOk result
+        (HasTaken S.holds number (block_in bytes.now block) sink.old sink.new) }
     ensures halted { IfErr result IsStop }
 {
     match block {

@@ -11,7 +11,7 @@ returns-in-Ok-move_on-clause-stepped g c =
     let rest = c.args.rest.now in
     let count = c.in-Whole.count in
     let block = c.in-Whole.block in
-    let front = subst (λ (interfaces : List Interface). front_of c.args.self.now.layout interfaces rest ≡ Whole count (block_in (take count rest) block)) c.as_slice.ensures.value (sym c.in-Whole.ensures.said) in
+    let front = subst (λ (interfaces : List Interface). front_of c.args.self.now.layout interfaces rest ≡ Whole count (block_in (take count rest) block)) c.as_slice.ensures.value (sym {b = front_of c.args.self.now.layout c.as_slice.result.now rest} c.in-Whole.ensures.said) in
     went_in_piece g.S.TakesFrames.holds (content_of c.args.self.now) (content_of c.move_on.new.self) rest c.args.sink.now c.hand_on.new.sink count block
     c.requires.empty c.requires.going front c.in-Ok-move_on.ensures c.in_ok-hand_on-in-Whole.ensures.taken
 
@@ -28,6 +28,6 @@ returns-in_default-move_on-clause-halted g c =
     let rest = c.args.rest.now in
     let count = c.in-Whole.count in
     let block = c.in-Whole.block in
-    let front = subst (λ (interfaces : List Interface). front_of c.args.self.now.layout interfaces rest ≡ Whole count (block_in (take count rest) block)) c.as_slice.ensures.value (sym c.in-Whole.ensures.said) in
+    let front = subst (λ (interfaces : List Interface). front_of c.args.self.now.layout interfaces rest ≡ Whole count (block_in (take count rest) block)) c.as_slice.ensures.value (sym {b = front_of c.args.self.now.layout c.as_slice.result.now rest} c.in-Whole.ensures.said) in
     let halted = halts_after holds old rest c.args.sink.now c.hand_on.new.sink count (block_in (take count rest) block) front c.in_ok-hand_on-in-Whole.ensures.taken in
     subst (λ (held : List ℕ). IsReadSome holds old (held ++ rest) c.args.sink.now c.hand_on.new.sink) (sym c.requires.empty) halted
