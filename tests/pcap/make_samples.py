@@ -86,6 +86,7 @@ def mixed():
 
 def main():
     pcap("big_endian.pcap", mixed(), order=">")
+    (HERE / "cut_short.pcap").write_bytes((HERE / "big_endian.pcap").read_bytes()[:500])
     pcap("nanoseconds.pcap", mixed()[:3], magic=0xA1B23C4D)
     pcap("big_nanoseconds.pcap", mixed()[:3], order=">", magic=0xA1B23C4D)
     cooked = struct.pack(">HHH8sH", 0, 1, 6, b"\2\0\0\0\0\1\0\0", 0x800)

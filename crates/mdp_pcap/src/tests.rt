@@ -107,13 +107,13 @@ fn read(alloc: Global, file: &[u8], size: usize) -> Result<(String, Option<PcapF
 }
 
 // Reads a sample in pieces of 1, 7 and 4,096 bytes.
-fn agrees(alloc: Global, file: &[u8], frames: &str) -> Result<bool, Fail> {
+fn agrees(alloc: Global, file: &[u8], frames: &str, ends: Option<PcapFault>) -> Result<bool, Fail> {
     for size in [1, 7, 4096] {
         let (text, ending) = read(alloc, file, size)?;
         if text.as_str() != frames {
             return Ok(false);
         }
-        if ending.is_some() {
+        if ending != ends {
             return Ok(false);
         }
     }
@@ -122,24 +122,20 @@ fn agrees(alloc: Global, file: &[u8], frames: &str) -> Result<bool, Fail> {
 
 #[test]
 fn reads_a_big_endian_pcap(rt: HostRuntime) -> Result<(), Fail> {
-    assert!(rt; agrees(rt.alloc(), &samples::BIG_ENDIAN, samples::BIG_ENDIAN_FRAMES)?);
+    assert!(rt; agrees(rt.alloc(), &samples::BIG_ENDIAN, samples::BIG_ENDIAN_FRAMES, None)?);
     Ok(())
 }
 
 #[test]
 fn reads_a_pcapng_of_editcap(rt: HostRuntime) -> Result<(), Fail> {
-    assert!(rt; agrees(rt.alloc(), &samples::EDITCAP, samples::EDITCAP_FRAMES)?);
+    assert!(rt; agrees(rt.alloc(), &samples::EDITCAP, samples::EDITCAP_FRAMES, None)?);
     Ok(())
 }
 
 #[test]
 fn reads_nanoseconds(rt: HostRuntime) -> Result<(), Fail> {
     assert!(rt;
-        agrees(
-            rt.alloc(),
-            &samples::NANOSECONDS,
-            samples::NANOSECONDS_FRAMES
-        )?
+        agrees(rt.alloc(), &samples::NANOSECONDS, samples::NANOSECONDS_FRAMES, None)?
     );
     Ok(())
 }
@@ -147,41 +143,44 @@ fn reads_nanoseconds(rt: HostRuntime) -> Result<(), Fail> {
 #[test]
 fn reads_big_endian_nanoseconds(rt: HostRuntime) -> Result<(), Fail> {
     assert!(rt;
-        agrees(
-            rt.alloc(),
-            &samples::BIG_NANOSECONDS,
-            samples::BIG_NANOSECONDS_FRAMES
-        )?
+        agrees(rt.alloc(), &samples::BIG_NANOSECONDS, samples::BIG_NANOSECONDS_FRAMES, None)?
     );
     Ok(())
 }
 
 #[test]
 fn reads_linux_cooked_frames(rt: HostRuntime) -> Result<(), Fail> {
-    assert!(rt; agrees(rt.alloc(), &samples::COOKED, samples::COOKED_FRAMES)?);
+    assert!(rt; agrees(rt.alloc(), &samples::COOKED, samples::COOKED_FRAMES, None)?);
     Ok(())
 }
 
 #[test]
 fn reads_linux_cooked_frames_of_version_2(rt: HostRuntime) -> Result<(), Fail> {
-    assert!(rt; agrees(rt.alloc(), &samples::COOKED2, samples::COOKED2_FRAMES)?);
+    assert!(rt; agrees(rt.alloc(), &samples::COOKED2, samples::COOKED2_FRAMES, None)?);
     Ok(())
 }
 
 #[test]
 fn reads_raw_ip(rt: HostRuntime) -> Result<(), Fail> {
-    assert!(rt; agrees(rt.alloc(), &samples::RAW, samples::RAW_FRAMES)?);
+    assert!(rt; agrees(rt.alloc(), &samples::RAW, samples::RAW_FRAMES, None)?);
     Ok(())
 }
 
 #[test]
 fn reads_two_sections_of_two_orders(rt: HostRuntime) -> Result<(), Fail> {
-    assert!(rt; agrees(rt.alloc(), &samples::SECTIONS, samples::SECTIONS_FRAMES)?);
+    assert!(rt; agrees(rt.alloc(), &samples::SECTIONS, samples::SECTIONS_FRAMES, None)?);
     Ok(())
 }
 
 #[test]
 fn reads_simple_packets_that_a_snap_length_cut(rt: HostRuntime) -> Result<(), Fail> {
-    assert!(rt; agrees(rt.alloc(), &samples::SNAPPED, samples::SNAPPED_FRAMES)?);
+    assert!(rt; agrees(rt.alloc(), &samples::SNAPPED, samples::SNAPPED_FRAMES, None)?);
+    Ok(())
+}
+
+#[test]
+fn reads_the_whole_frames_of_a_file_that_was_cut(rt: HostRuntime) -> Result<(), Fail> {
+    let ends = Some(PcapFault::CutShort);
+    assert!(rt; agrees(rt.alloc(), &samples::CUT_SHORT, samples::CUT_SHORT_FRAMES, ends)?);
     Ok(())
 }
