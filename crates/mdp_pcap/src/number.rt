@@ -7,7 +7,7 @@ use byteorder::{BigEndian, ByteOrder, LittleEndian};
 
 /// The order of the bytes of a number: that of the machine that wrote the file.
 #[derive(Clone, Copy, Debug, PartialEq, Eq)]
-pub enum Endianness {
+pub(crate) enum Endianness {
     /// The lowest byte first.
     Little,
     /// The highest byte first.

@@ -122,7 +122,14 @@ fn agrees(alloc: Global, file: &[u8], frames: &str, ends: Option<PcapFault>) -> 
 
 #[test]
 fn reads_a_big_endian_pcap(rt: HostRuntime) -> Result<(), Fail> {
-    assert!(rt; agrees(rt.alloc(), &samples::BIG_ENDIAN, samples::BIG_ENDIAN_FRAMES, None)?);
+    assert!(rt;
+        agrees(
+            rt.alloc(),
+            &samples::BIG_ENDIAN,
+            samples::BIG_ENDIAN_FRAMES,
+            None
+        )?
+    );
     Ok(())
 }
 
@@ -135,7 +142,12 @@ fn reads_a_pcapng_of_editcap(rt: HostRuntime) -> Result<(), Fail> {
 #[test]
 fn reads_nanoseconds(rt: HostRuntime) -> Result<(), Fail> {
     assert!(rt;
-        agrees(rt.alloc(), &samples::NANOSECONDS, samples::NANOSECONDS_FRAMES, None)?
+        agrees(
+            rt.alloc(),
+            &samples::NANOSECONDS,
+            samples::NANOSECONDS_FRAMES,
+            None
+        )?
     );
     Ok(())
 }
@@ -143,7 +155,12 @@ fn reads_nanoseconds(rt: HostRuntime) -> Result<(), Fail> {
 #[test]
 fn reads_big_endian_nanoseconds(rt: HostRuntime) -> Result<(), Fail> {
     assert!(rt;
-        agrees(rt.alloc(), &samples::BIG_NANOSECONDS, samples::BIG_NANOSECONDS_FRAMES, None)?
+        agrees(
+            rt.alloc(),
+            &samples::BIG_NANOSECONDS,
+            samples::BIG_NANOSECONDS_FRAMES,
+            None
+        )?
     );
     Ok(())
 }
@@ -168,7 +185,14 @@ fn reads_raw_ip(rt: HostRuntime) -> Result<(), Fail> {
 
 #[test]
 fn reads_two_sections_of_two_orders(rt: HostRuntime) -> Result<(), Fail> {
-    assert!(rt; agrees(rt.alloc(), &samples::SECTIONS, samples::SECTIONS_FRAMES, None)?);
+    assert!(rt;
+        agrees(
+            rt.alloc(),
+            &samples::SECTIONS,
+            samples::SECTIONS_FRAMES,
+            None
+        )?
+    );
     Ok(())
 }
 
@@ -181,6 +205,13 @@ fn reads_simple_packets_that_a_snap_length_cut(rt: HostRuntime) -> Result<(), Fa
 #[test]
 fn reads_the_whole_frames_of_a_file_that_was_cut(rt: HostRuntime) -> Result<(), Fail> {
     let ends = Some(PcapFault::CutShort);
-    assert!(rt; agrees(rt.alloc(), &samples::CUT_SHORT, samples::CUT_SHORT_FRAMES, ends)?);
+    assert!(rt;
+        agrees(
+            rt.alloc(),
+            &samples::CUT_SHORT,
+            samples::CUT_SHORT_FRAMES,
+            ends
+        )?
+    );
     Ok(())
 }
