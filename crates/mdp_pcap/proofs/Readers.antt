@@ -1,0 +1,172 @@
+-- A reader goes on, block by block.
+use Rattle.std.proofs.Common.{◌≡◌, ℕ, List, [], ◌∷◌, ◌++◌, take, drop, length, sym, ap, subst, ◌∙◌, arith, refl, Option, Some, None}
+use Rattle.std.specs.List.{flat_map}
+use Rattle.std.proofs.lemmas.Grind.{flat_map-append}
+use Rattle.std.proofs.lemmas.List.{append_assoc, append-nil, length-drop, drop-append-le}
+use Rattle.mdp_pcap.specs.Frame.{CapturedContent}
+use Rattle.mdp_pcap.specs.Block.{Reading, BlockContent, read_on, frames_of}
+use Rattle.mdp_pcap.specs.File.{FrontContent, Whole, Faulty, front_of, cut_end, EndsAs}
+use Rattle.mdp_pcap.specs.Placing.{block_in}
+use Rattle.mdp_pcap.specs.Reader.{NumberedFrame, numbered, number_after, next_number, ReaderContent, IsReadOn, StandsAs, IsReadWhole, ending_with, at_first, HasHandedOn, IsReadSome, HasHalted}
+use Rattle.mdp_pcap.specs.Stepping.{HasTaken, HasMovedOn, HasGoneOn, IsStop}
+use Rattle.mdp_pcap.specs.declared.block.Block.{Block}
+use Rattle.mdp_pcap.specs.declared.layout.Layout.{Layout}
+use Rattle.mdp_pcap.specs.declared.layout.PcapFault.{PcapFault}
+use Rattle.mdp_pcap.specs.declared.reader.Halt.{Halt}
+use Rattle.mdp_pcap.specs.declared.reader.Halt.TheVariants as halts
+use Rattle.mdp_pcap.proofs.Blocks.{blocks_join, blocks_more}
+use Rattle.mdp_pcap.proofs.Fronts.{whole_more, whole_least, faulty_more}
+
+numbered-append : (number : ℕ) (frames others : List CapturedContent) → numbered number (frames ++ others) ≡ numbered number frames ++ numbered (number_after number frames) others
+numbered-append number [] others = refl
+numbered-append number (frame ∷ frames) others = let later = numbered-append (next_number number) frames others in cc
+
+number_after-append : (number : ℕ) (frames others : List CapturedContent) → number_after number (frames ++ others) ≡ number_after (number_after number frames) others
+number_after-append number [] others = refl
+number_after-append number (frame ∷ frames) others = number_after-append (next_number number) frames others
+
+-- nothing is read
+pub reads_none : {S : Type 0} (holds : S → List NumberedFrame → Type 0) (now : ReaderContent) (text : List ℕ) (sink : S) → IsReadOn holds now now text text sink sink
+reads_none holds now text sink = record { blocks = []; follow = (refl, refl); taken = λ frames held. subst (holds sink) (sym (append-nil frames)) held; counted = refl }
+
+-- what is read and then read on is read
+pub reads_join : {S : Type 0} (holds : S → List NumberedFrame → Type 0) (old middle now : ReaderContent) (text rest left : List ℕ) (before between after : S) → IsReadOn holds old middle text rest before between → IsReadOn holds middle now rest left between after → IsReadOn holds old now text left before after
+reads_join holds old middle now text rest left before between after first second =
+    let frames = flat_map frames_of first.blocks in
+    let others = flat_map frames_of second.blocks in
+    let both : flat_map frames_of (first.blocks ++ second.blocks) ≡ frames ++ others = flat_map-append frames_of first.blocks second.blocks in
+    let numbers : numbered old.number (flat_map frames_of (first.blocks ++ second.blocks)) ≡ numbered old.number frames ++ numbered middle.number others =
+    ap (numbered old.number) both ∙ numbered-append old.number frames others ∙ ap (λ (n : ℕ). numbered old.number frames ++ numbered n others) first.counted in
+    record {
+      blocks = first.blocks ++ second.blocks;
+      follow = blocks_join old.reading text first.blocks second.blocks middle.reading rest now.reading left first.follow second.follow;
+      taken = λ taken held. subst (holds after)
+          (append_assoc taken (numbered old.number frames) (numbered middle.number others) ∙ ap (λ (fs : List NumberedFrame). taken ++ fs) (sym numbers))
+          (second.taken (taken ++ numbered old.number frames) (first.taken taken held));
+      counted = ap (number_after old.number) both ∙ number_after-append old.number frames others ∙ ap (λ (n : ℕ). number_after n others) first.counted ∙ second.counted;
+    }
+
+pub whole_join : {S : Type 0} (holds : S → List NumberedFrame → Type 0) (old middle now : ReaderContent) (text rest : List ℕ) (before between after : S) → IsReadOn holds old middle text rest before between → IsReadWhole holds middle now rest between after → IsReadWhole holds old now text before after
+whole_join holds old middle now text rest before between after first second =
+    record { left = second.left; so_far = reads_join holds old middle now text rest second.left before between after first second.so_far; stands = second.stands }
+
+-- one block is read
+reads_one : {S : Type 0} (holds : S → List NumberedFrame → Type 0) (old now : ReaderContent) (text : List ℕ) (before after : S) (count : ℕ) (block : BlockContent) → front_of old.reading.layout old.reading.interfaces text ≡ Whole count block → read_on old.reading block ≡ now.reading → number_after old.number (frames_of block) ≡ now.number → HasTaken holds old.number block before after → IsReadOn holds old now text (drop count text) before after
+reads_one holds old now text before after count block front reading counted taken =
+    let alone : flat_map frames_of (block ∷ []) ≡ frames_of block = append-nil (frames_of block) in
+    record {
+      blocks = block ∷ [];
+      follow = (count, front, (reading, refl));
+      taken = λ frames held. subst (λ (fs : List CapturedContent). holds after (frames ++ numbered old.number fs)) (sym alone) (taken frames held);
+      counted = ap (number_after old.number) alone ∙ counted;
+    }
+
+-- the block lay whole in the piece
+pub went_in_piece : {S : Type 0} (holds : S → List NumberedFrame → Type 0) (old now : ReaderContent) (rest : List ℕ) (before after : S) (count : ℕ) (block : Block) → old.held ≡ [] → old.fault ≡ None → front_of old.reading.layout old.reading.interfaces rest ≡ Whole count (block_in (take count rest) block) → HasMovedOn block old now → HasTaken holds old.number (block_in (take count rest) block) before after → HasGoneOn holds old now rest before after count
+went_in_piece holds old now rest before after count block empty going front moved taken =
+    let said = block_in (take count rest) block in
+    let least = whole_least old.reading.layout old.reading.interfaces rest count said front in
+    let one = reads_one holds old now rest before after count said front (moved.reading (take count rest)) (moved.counted (take count rest)) taken in
+    let held : now.held ≡ [] = moved.held ∙ empty in
+    let first : rest ≡ old.held ++ rest = sym (ap (λ (h : List ℕ). h ++ rest) empty) in
+    let last : drop count rest ≡ now.held ++ drop count rest = sym (ap (λ (h : List ℕ). h ++ drop count rest) held) in
+    record {
+      fits = least.1;
+      read = subst (λ (t : List ℕ). IsReadOn holds old now t (now.held ++ drop count rest) before after) first (subst (λ (t : List ℕ). IsReadOn holds old now rest t before after) last one);
+      going = moved.going ∙ going;
+      less = omega (arith, least.0, least.1, ap length held, ap length empty);
+    }
+
+-- the block was held whole
+pub went_in_held : {S : Type 0} (holds : S → List NumberedFrame → Type 0) (old middle now : ReaderContent) (rest : List ℕ) (before after : S) (count : ℕ) (block : Block) → middle ≡ record old { held = drop count old.held } → old.fault ≡ None → front_of old.reading.layout old.reading.interfaces old.held ≡ Whole count (block_in (take count old.held) block) → HasMovedOn block middle now → HasTaken holds old.number (block_in (take count old.held) block) before after → HasGoneOn holds old now rest before after 0
+went_in_held holds old middle now rest before after count block dropped going front moved taken =
+    let said = block_in (take count old.held) block in
+    let least = whole_least old.reading.layout old.reading.interfaces old.held count said front in
+    let same : HasMovedOn block (record old { held = drop count old.held }) now = subst (λ (m : ReaderContent). HasMovedOn block m now) dropped moved in
+    let text = old.held ++ rest in
+    let one = reads_one holds old now text before after count said (whole_more old.reading.layout old.reading.interfaces old.held rest count said front) (same.reading (take count old.held)) (same.counted (take count old.held)) taken in
+    let left : drop count text ≡ now.held ++ drop 0 rest = drop-append-le count old.held rest least.1 ∙ ap (λ (h : List ℕ). h ++ rest) (sym same.held) in
+    record {
+      fits = omega arith;
+      read = subst (λ (t : List ℕ). IsReadOn holds old now text t before after) left one;
+      going = same.going ∙ going;
+      less = omega (arith, least.0, least.1, ap length same.held, length-drop count old.held);
+    }
+
+-- what is held begins no block
+pub stopped_in_held : {S : Type 0} (holds : S → List NumberedFrame → Type 0) (old now : ReaderContent) (rest : List ℕ) (sink : S) (fault : PcapFault) → now ≡ record old { held = []; fault = Some fault } → front_of old.reading.layout old.reading.interfaces old.held ≡ Faulty fault → IsReadWhole holds old now (old.held ++ rest) sink sink
+stopped_in_held holds old now rest sink fault is front =
+    let stopped : ReaderContent = record old { held = []; fault = Some fault } in
+    let so_far : IsReadOn holds old stopped (old.held ++ rest) (old.held ++ rest) sink sink = record { blocks = []; follow = (refl, refl); taken = λ frames held. subst (holds sink) (sym (append-nil frames)) held; counted = refl } in
+    let whole : IsReadWhole holds old stopped (old.held ++ rest) sink sink =
+    record { left = old.held ++ rest; so_far = so_far; stands = (refl, faulty_more old.reading.layout old.reading.interfaces old.held rest fault front) } in
+    subst (λ (n : ReaderContent). IsReadWhole holds old n (old.held ++ rest) sink sink) (sym is) whole
+
+-- ---- halts
+
+pub halts_stopped : {S E : Type 0} (holds : S → List NumberedFrame → Type 0) (old : ReaderContent) (text : List ℕ) (before after : S) (halt : Halt E) → IsStop halt → HasHalted holds old text before after halt
+halts_stopped holds old text before after halts.Memory is = absurd is
+halts_stopped holds old text before after (halts.Stop stop) is = tt
+
+-- what was read before a halt is read
+pub halts_later : {S E : Type 0} (holds : S → List NumberedFrame → Type 0) (old middle : ReaderContent) (text rest : List ℕ) (before between after : S) (halt : Halt E) → IsReadOn holds old middle text rest before between → HasHalted holds middle rest between after halt → HasHalted holds old text before after halt
+halts_later holds old middle text rest before between after halts.Memory first halted =
+    (halted.0, (halted.1.0, reads_join holds old middle halted.0 text rest halted.1.0 before between after first halted.1.1))
+halts_later holds old middle text rest before between after (halts.Stop stop) first halted = tt
+
+-- a block was read, and then memory ran out
+pub halts_after : {S : Type 0} (holds : S → List NumberedFrame → Type 0) (old : ReaderContent) (text : List ℕ) (before after : S) (count : ℕ) (block : BlockContent) → front_of old.reading.layout old.reading.interfaces text ≡ Whole count block → HasTaken holds old.number block before after → IsReadSome holds old text before after
+halts_after holds old text before after count block front taken =
+    let now : ReaderContent = record { reading = read_on old.reading block; held = []; number = number_after old.number (frames_of block); fault = None } in
+    (now, (drop count text, reads_one holds old now text before after count block front refl refl taken))
+
+-- ---- whole texts
+
+-- a reader with no fault has read no more than what stands before the bytes that it holds
+reads_more : {S : Type 0} (holds : S → List NumberedFrame → Type 0) (old now : ReaderContent) (text left more : List ℕ) (before after : S) → IsReadOn holds old now text left before after → IsReadOn holds old now (text ++ more) (left ++ more) before after
+reads_more holds old now text left more before after read =
+    record { blocks = read.blocks; follow = blocks_more old.reading text more read.blocks now.reading left read.follow; taken = read.taken; counted = read.counted }
+
+stands_held : (left held : List ℕ) (fault : Option PcapFault) (front : FrontContent) → fault ≡ None → StandsAs left held fault front → left ≡ held
+stands_held left held None front none stands = stands.0
+stands_held left held (Some fault) front none stands = cc
+
+pub pieces_add : {S : Type 0} (holds : S → List NumberedFrame → Type 0) (old middle now : ReaderContent) (text piece : List ℕ) (before between after : S) → IsReadWhole holds old middle text before between → middle.fault ≡ None → IsReadWhole holds middle now (middle.held ++ piece) between after → IsReadWhole holds old now (text ++ piece) before after
+pieces_add holds old middle now text piece before between after first going second =
+    let held : first.left ≡ middle.held = stands_held first.left middle.held middle.fault (front_of middle.reading.layout middle.reading.interfaces first.left) going first.stands in
+    let read = reads_more holds old middle text first.left piece before between first.so_far in
+    let then = subst (λ (t : List ℕ). IsReadOn holds old middle (text ++ piece) (t ++ piece) before between) held read in
+    whole_join holds old middle now (text ++ piece) (middle.held ++ piece) before between after then second
+
+stands_more : (reading : Reading) (left more held : List ℕ) (fault : Option PcapFault) (found : PcapFault) → fault ≡ Some found → StandsAs left held fault (front_of reading.layout reading.interfaces left) → StandsAs (left ++ more) held fault (front_of reading.layout reading.interfaces (left ++ more))
+stands_more reading left more held None found some stands = cc
+stands_more reading left more held (Some fault) found some stands = (stands.0, faulty_more reading.layout reading.interfaces left more fault stands.1)
+
+pub faults_stay : {S : Type 0} (holds : S → List NumberedFrame → Type 0) (old now : ReaderContent) (text piece : List ℕ) (before after : S) (fault : PcapFault) → IsReadWhole holds old now text before after → now.fault ≡ Some fault → IsReadWhole holds old now (text ++ piece) before after
+faults_stay holds old now text piece before after fault whole stopped =
+    record {
+      left = whole.left ++ piece;
+      so_far = reads_more holds old now text whole.left piece before after whole.so_far;
+      stands = stands_more now.reading whole.left piece now.held now.fault fault stopped whole.stands;
+    }
+
+ends_so : (layout : Layout) (left held : List ℕ) (fault : Option PcapFault) (front : FrontContent) → StandsAs left held fault front → EndsAs layout left (ending_with layout held fault) front
+ends_so layout left held None front stands =
+    subst (EndsAs layout left (cut_end layout held)) (sym stands.1.1) (ap (cut_end layout) (sym stands.0))
+ends_so layout left held (Some fault) front stands = subst (EndsAs layout left (Some fault)) (sym stands.1) refl
+
+pub whole_file : {S : Type 0} (holds : S → List NumberedFrame → Type 0) (now : ReaderContent) (text : List ℕ) (before after : S) → IsReadWhole holds at_first now text before after → HasHandedOn holds now text before after
+whole_file holds now text before after whole =
+    let read = whole.so_far in
+    record {
+      frames = flat_map frames_of read.blocks;
+      is = record {
+        blocks = read.blocks;
+        now = now.reading;
+        left = whole.left;
+        follow = read.follow;
+        ends = ends_so now.reading.layout whole.left now.held now.fault (front_of now.reading.layout now.reading.interfaces whole.left) whole.stands;
+        frames_are = refl;
+      };
+      taken = read.taken;
+    }

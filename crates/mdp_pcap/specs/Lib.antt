@@ -1,0 +1,11 @@
+pub mod Number
+pub mod Link
+pub mod Frame
+pub mod Address
+pub mod Outcome
+pub mod Extent
+pub mod Block
+pub mod File
+pub mod Placing
+pub mod Reader
+pub mod Stepping

@@ -1,0 +1,44 @@
+//! What the definitions say of every text, as functions that only carry a proof.
+
+ghost use Rattle.std.specs.Prelude.{◌≡◌, List, ℕ, ◌++◌, slice_get, Some, None};
+ghost use Rattle.mdp_pcap.specs.Address.{AreApart, feed_at};
+ghost use Rattle.mdp_pcap.specs.File.{HasOnePcap};
+ghost use Rattle.mdp_pcap.specs.Reader.{ReaderContent, IsReadWhole, HasHandedOn, at_first};
+ghost use Rattle.mdp_pcap.specs.declared.addresses.FeedAddress.{FeedAddress};
+ghost use Rattle.mdp_pcap.specs.declared.layout.PcapFault.{PcapFault};
+
+use crate::reader::TakesFrames;
+
+/// Proves that each text holds one thing: the frames up to its end or its first fault, and that fault.
+pub fn one_answer()
+    ensures { (text : List ℕ) → HasOnePcap text }
+{}
+
+/// Proves that pieces add: what is whole of a text and then of what was held and a piece is whole of both.
+pub fn pieces_add<S: TakesFrames>()
+    ensures { (old middle now : ReaderContent) (text piece : List ℕ) (before between after : S) →
+        IsReadWhole S.holds old middle text before between → middle.fault ≡ None →
+        IsReadWhole S.holds middle now (middle.held ++ piece) between after →
+        IsReadWhole S.holds old now (text ++ piece) before after }
+{}
+
+/// Proves that a fault is one whatever follows: a reader that met one need read nothing more.
+pub fn faults_stay<S: TakesFrames>()
+    ensures { (old now : ReaderContent) (text piece : List ℕ) (before after : S)
+        (fault : PcapFault) →
+        IsReadWhole S.holds old now text before after → now.fault ≡ Some fault →
+        IsReadWhole S.holds old now (text ++ piece) before after }
+{}
+
+/// Proves that what a reader has handed on of a text, and how it ends there, is what the text holds.
+pub fn whole_file<S: TakesFrames>()
+    ensures { (now : ReaderContent) (text : List ℕ) (before after : S) →
+        IsReadWhole S.holds at_first now text before after → HasHandedOn S.holds now text before after }
+{}
+
+/// Proves that where no two addresses have one group and port, a lookup finds each address: none hides another.
+pub fn one_feed()
+    ensures { (addresses : List FeedAddress) (address : FeedAddress) (n : ℕ) →
+        AreApart addresses → slice_get addresses n ≡ Some address →
+        feed_at address.group address.port addresses ≡ Some address.feed }
+{}
