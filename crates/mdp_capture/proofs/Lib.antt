@@ -14,3 +14,6 @@ pub mod Holding
 pub mod Decoding
 pub mod Values
 pub mod Spelt
+pub mod Reasons
+pub mod Stops
+pub mod Refusals
