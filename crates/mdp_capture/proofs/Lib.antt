@@ -17,3 +17,4 @@ pub mod Spelt
 pub mod Reasons
 pub mod Stops
 pub mod Refusals
+pub mod GoingOn

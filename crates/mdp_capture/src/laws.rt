@@ -1,8 +1,8 @@
 //! What the definitions of a capture say of every text, as functions that only carry a proof.
 
-ghost use Rattle.std.specs.Prelude.{◌≡◌, ◌↔◌, List, Ok, Err, ℕ};
-ghost use Rattle.mdp_capture.specs.Capture.{CaptureContent, RefusedLine, capture_of};
-ghost use Rattle.mdp_capture.specs.Fronts.{IsFrontOf, front_of};
+ghost use Rattle.std.specs.Prelude.{◌≡◌, ◌↔◌, ◌++◌, ◌∷◌, [], List, Ok, Err, ℕ, true};
+ghost use Rattle.mdp_capture.specs.Capture.{CaptureContent, RefusedLine, capture_of, has_record};
+ghost use Rattle.mdp_capture.specs.Fronts.{FollowsRecords, GoesOnFrom, IsFrontOf, front_of};
 ghost use Rattle.mdp_capture.specs.Lines.{IsCaptureOf};
 ghost use Rattle.mdp_capture.specs.Refused.{HasOneAnswer, IsRefusedCapture};
 
@@ -30,4 +30,19 @@ pub fn fronts_hold_their_lines()
     ensures lines { (text : List ℕ) → IsFrontOf text (front_of text) }
     ensures whole { (text : List ℕ) (capture : CaptureContent) →
         capture_of text ≡ Ok capture → front_of text ≡ capture }
+{}
+
+/// Proves that a text goes on from what stands before any of its line feeds: each list of its front begins with that of
+/// the front of what stands there.
+pub fn fronts_only_grow()
+    ensures { (text more : List ℕ) →
+        GoesOnFrom (front_of (text ++ 10 ∷ [])) (front_of (text ++ 10 ∷ more)) }
+{}
+
+/// Proves that behind a record the instruments stay and nothing but a late instrument can refuse the run, whatever
+/// follows the line feed.
+pub fn only_late_instruments_follow_records()
+    ensures { (text more : List ℕ) (front : CaptureContent) →
+        capture_of (text ++ 10 ∷ []) ≡ Ok front → has_record front ≡ true
+        → FollowsRecords front (capture_of (text ++ 10 ∷ more)) }
 {}
