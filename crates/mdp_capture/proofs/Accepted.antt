@@ -3,9 +3,9 @@ use Rattle.std.proofs.Common.{◌≡◌, ◌≢◌, ◌<◌, ℕ, inl, inr, Bool
 use Rattle.std.specs.Ordering.{int_eq}
 use Rattle.std.specs.List.{list_any}
 use Rattle.std.specs.Str.{bytes_eq}
-use Rattle.std.proofs.lemmas.Bool.{cases_Bool, or_from, or_parts}
+use Rattle.std.proofs.lemmas.Bool.{cases_Bool, or_parts}
 use Rattle.std.proofs.lemmas.Bool.Decides.{Decides-int_eq}
-use Rattle.std.proofs.lemmas.List.Folds.{list_any_at, list_any_none}
+use Rattle.std.proofs.lemmas.List.Folds.{list_any_at}
 use Rattle.std.proofs.lemmas.Slice.Eq.{bytes_eq-Decides}
 use Rattle.mdp_templates.specs.declared.instrument.Instrument.{Instrument}
 use Rattle.mdp_capture.specs.Capture.{CaptureContent, refusal_of, has_record, is_listed, has_legs}
@@ -52,18 +52,3 @@ other_name xs i unlisted k d below = λ same.
     let differs = none_passes (λ (other : Instrument). bytes_eq other.name i.name) xs (or_parts has_id has_name unlisted).1 k d below in
     let is : bytes_eq (get_or xs k d).name i.name ≡ true = (bytes_eq-Decides (get_or xs k d).name i.name).1 same in
     absurd (cc)
-
--- and one whose id and name are its own is not listed
-pub is_unlisted : (xs : List Instrument) (i : Instrument) → ((k : ℕ) (d : Instrument) → k < length xs → (get_or xs k d).id ≢ i.id) → ((k : ℕ) (d : Instrument) → k < length xs → (get_or xs k d).name ≢ i.name) → is_listed xs i ≡ false
-is_unlisted xs i ids names =
-    let no_id : list_any (λ (other : Instrument). int_eq other.id i.id) xs ≡ false =
-    list_any_none (λ (other : Instrument). int_eq other.id i.id) xs (λ k d below. elim (cases_Bool (int_eq (get_or xs k d).id i.id)) [
-      | inl same ↦ absurd (ids k d below ((Decides-int_eq (get_or xs k d).id i.id).0 same))
-      | inr other ↦ other
-    ]) in
-    let no_name : list_any (λ (other : Instrument). bytes_eq other.name i.name) xs ≡ false =
-    list_any_none (λ (other : Instrument). bytes_eq other.name i.name) xs (λ k d below. elim (cases_Bool (bytes_eq (get_or xs k d).name i.name)) [
-      | inl same ↦ absurd (names k d below ((bytes_eq-Decides (get_or xs k d).name i.name).0 same))
-      | inr other ↦ other
-    ]) in
-    or_from _ _ no_id no_name

@@ -10,7 +10,9 @@ use Rattle.mdp_templates.specs.declared.instrument.Instrument.{Instrument}
 use Rattle.mdp_capture.specs.Line.{LineContent, Blank, Listing, Packet, Closing, Skipped, line_of}
 use Rattle.mdp_capture.specs.Capture.{CaptureContent, RefusedLine, add_line, add_lines, and_then, capture_of, has_record, needs_instrument, next_line, no_capture, refusal_of}
 use Rattle.mdp_capture.specs.Lines.{NumberedLine, line_with_number, instruments_of, records_on, skipped_of, InstrumentsFirst, IsCaptureOf}
+use Rattle.mdp_capture.specs.Record.{RecordContent}
 use Rattle.mdp_capture.specs.declared.fault.CaptureRefusal.TheVariants.{NoInstrument}
+use Rattle.mdp_capture.specs.declared.skip.SkippedLine.{SkippedLine}
 use Rattle.mdp_templates.specs.declared.feed.Feed.{Feed}
 use Rattle.mdp_templates.specs.declared.feed.Feed.TheVariants as feeds
 use Rattle.mdp_capture.proofs.Accepted.{accepted, other_name}
@@ -27,6 +29,26 @@ pub record Adds (lines : List NumberedLine) (old new : CaptureContent) : Type 0 
   pub b : new.b ≡ old.b ++ flat_map (records_on feeds.B) lines
   pub s : new.s ≡ old.s ++ flat_map (records_on feeds.S) lines
   pub skipped : new.skipped ≡ old.skipped ++ flat_map skipped_of lines
+
+-- the capture of what these lines bring
+abbrev pub brought_by : List NumberedLine → CaptureContent
+brought_by lines = record {
+  instruments = flat_map instruments_of lines;
+  a = flat_map (records_on feeds.A) lines;
+  b = flat_map (records_on feeds.B) lines;
+  s = flat_map (records_on feeds.S) lines;
+  skipped = flat_map skipped_of lines;
+}
+
+-- captures of the same lists are the same
+pub same_lists : (x y : CaptureContent) → x.instruments ≡ y.instruments → x.a ≡ y.a → x.b ≡ y.b → x.s ≡ y.s → x.skipped ≡ y.skipped → x ≡ y
+same_lists x y i a b s k =
+    let make : List Instrument → List RecordContent → List RecordContent → List RecordContent → List SkippedLine → CaptureContent = λ i a b s k. record { instruments = i; a = a; b = b; s = s; skipped = k } in
+    ap (λ (v : List Instrument). make v x.a x.b x.s x.skipped) i
+    ∙ (ap (λ (v : List RecordContent). make y.instruments v x.b x.s x.skipped) a
+    ∙ (ap (λ (v : List RecordContent). make y.instruments y.a v x.s x.skipped) b
+    ∙ (ap (λ (v : List RecordContent). make y.instruments y.a y.b v x.skipped) s
+    ∙ ap (λ (v : List SkippedLine). make y.instruments y.a y.b y.s v) k)))
 
 no_more : (capture : CaptureContent) → Adds [] capture capture
 no_more c = record {
@@ -109,7 +131,7 @@ some_counted (suc a) b s is = omega arith
 some_counted zero (suc b) s is = omega arith
 some_counted zero zero (suc s) is = omega arith
 
-counted_some : (a b s : ℕ) → 0 < a + b + s → (nat_lt 0 a || nat_lt 0 b || nat_lt 0 s) ≡ true
+pub counted_some : (a b s : ℕ) → 0 < a + b + s → (nat_lt 0 a || nat_lt 0 b || nat_lt 0 s) ≡ true
 counted_some a b s some = grind (arith, nat_tests)
 
 -- how many records a capture has
@@ -129,7 +151,7 @@ none_listed n Closing old new is some = refl
 none_listed n (Skipped skip) old new is some = refl
 
 -- no record is lost
-keeps_records : (line : NumberedLine) (old new : CaptureContent) → Adds (line ∷ []) old new → 0 < records old → 0 < records new
+pub keeps_records : (line : NumberedLine) (old new : CaptureContent) → Adds (line ∷ []) old new → 0 < records old → 0 < records new
 keeps_records line old new adds some =
     let a = ap length adds.a ∙ length-append old.a (flat_map (records_on feeds.A) (line ∷ [])) in
     let b = ap length adds.b ∙ length-append old.b (flat_map (records_on feeds.B) (line ∷ [])) in
@@ -139,7 +161,7 @@ keeps_records line old new adds some =
 nothing_first : {X : Type 0} (f : NumberedLine → List X) (line : NumberedLine) (rest : List NumberedLine) → f line ≡ [] → flat_map f rest ≡ [] → flat_map f (line ∷ rest) ≡ []
 nothing_first {X} f line rest first then = ap (λ (xs : List X). xs ++ flat_map f rest) first ∙ then
 
-none_behind : (place : ℕ) (texts : List (List ℕ)) (old new : CaptureContent) → add_lines (number_at place) texts old ≡ Ok new → 0 < records old → flat_map instruments_of (lines_from place texts) ≡ []
+pub none_behind : (place : ℕ) (texts : List (List ℕ)) (old new : CaptureContent) → add_lines (number_at place) texts old ≡ Ok new → 0 < records old → flat_map instruments_of (lines_from place texts) ≡ []
 none_behind place [] old new is some = refl
 none_behind place (text ∷ rest) old new is some =
     let steps = both_steps (add_line (number_at place) (line_of text) old) (add_lines (next_line (number_at place)) rest) new is in
@@ -228,11 +250,11 @@ named_at_first i j d above below = absurd (omega (arith, below))
 -- ---- the capture of a text
 
 -- a capture with an instrument
-record HasSome (result : Result CaptureContent RefusedLine) (capture : CaptureContent) : Type 0 where
-  same : result ≡ Ok capture
-  some : 0 < length capture.instruments
+pub record HasSome (result : Result CaptureContent RefusedLine) (capture : CaptureContent) : Type 0 where
+  pub same : result ≡ Ok capture
+  pub some : 0 < length capture.instruments
 
-some_instrument : (result : Result CaptureContent RefusedLine) (capture : CaptureContent) → needs_instrument result ≡ Ok capture → HasSome result capture
+pub some_instrument : (result : Result CaptureContent RefusedLine) (capture : CaptureContent) → needs_instrument result ≡ Ok capture → HasSome result capture
 some_instrument (Err refused) capture is = absurd (cc)
 some_instrument (Ok found) capture is =
     let refused : Result CaptureContent RefusedLine = Err (record { line = 0; refusal = NoInstrument }) in

@@ -38,7 +38,7 @@ outright_found xs id (k, i, below, at, is) =
     list_any-from_Any (λ (other : Instrument). int_eq other.id id && is_outright other.kind) xs
     (k, i, below, at, and_from (int_eq i.id id) (is_outright i.kind) ((Decides-int_eq i.id id).1 is.0) (ap is_outright is.1))
 
-legs_found : (xs : List Instrument) (kind : InstrumentKind) → has_legs xs kind ≡ true → HasLegs xs kind
+pub legs_found : (xs : List Instrument) (kind : InstrumentKind) → has_legs xs kind ≡ true → HasLegs xs kind
 legs_found xs Outright is = tt
 legs_found xs (Calendar leg1 leg2) is =
     let one = has_outright xs leg1 in

@@ -14,3 +14,7 @@ pub mod Holding
 pub mod Decoding
 pub mod Values
 pub mod Spelt
+pub mod Reasons
+pub mod Stops
+pub mod Refusals
+pub mod GoingOn

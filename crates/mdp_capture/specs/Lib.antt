@@ -11,3 +11,5 @@ pub mod Repeats
 pub mod Reading
 pub mod Lines
 pub mod Part
+pub mod Refused
+pub mod Fronts

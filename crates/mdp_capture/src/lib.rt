@@ -20,7 +20,10 @@ mod skip;
 
 pub use capture::Capture;
 pub use fault::{CaptureFault, CaptureRefusal};
-pub use laws::captures_hold_their_lines;
+pub use laws::{
+    captures_hold_their_lines, fronts_hold_their_lines, fronts_only_grow,
+    only_late_instruments_follow_records, refusals_are_of_the_first_line, texts_have_one_answer,
+};
 pub use over_threads::read_capture_over_threads;
 pub use reader::{CountedRead, CountingReader};
 pub use reading::read_capture;
