@@ -1,8 +1,9 @@
-//! Shows how a risk desk follows the best prices of a channel while the handler runs. A capture comes on standard input, a run of
-//! `mdp_pipeline` publishes on a board, and two threads look at the first two securities of it as often as they like. No reader
-//! waits, neither for the run nor for the other, and what one read shows is all of one moment. What each saw on the way goes to
-//! standard error, and differs from run to run; what both see in the end goes to standard output. Prices are units of 10^-9.
-//! The first word is the window, 1 to 65536, and 1024 where none is given.
+//! Shows how a risk desk follows the best prices of a channel while the handler runs. A capture comes on standard
+//! input, a run of
+//! `mdp_pipeline` publishes on a board, and two threads look at the first two securities of it as often as they like.
+//! No reader waits, neither for the run nor for the other, and what one read shows is all of one moment. What each saw
+//! on the way goes to standard error, and differs from run to run; what both see in the end goes to standard output.
+//! Prices are units of 10^-9. The first word is the window, 1 to 65536, and 1024 where none is given.
 #![tactic(auto)]
 
 ghost use Rattle.std.specs.Prelude.{◌≡◌, ◌≤◌, [], ◌∷◌, length, IfOk, IfSome};
@@ -47,7 +48,8 @@ struct HandsBack {
 }
 
 impl Promise<Seen> for HandsBack {
-    ghost kept_by = { λ p seen. (seen.reader.board ≡ p.before.value.board) × (seen.reader.slots ≡ p.before.value.slots) };
+    ghost kept_by = { λ p seen. (seen.reader.board ≡ p.before.value.board)
+        × (seen.reader.slots ≡ p.before.value.slots) };
 }
 
 /// A thread that watches, where it could be started.
@@ -60,7 +62,8 @@ fn board<R: Wait>(
     slots: usize,
 ) -> Result<(Publisher<Global>, Reader<Global>, Reader<Global>), AllocError>
     requires { (2 ≤ slots) × (slots ≤ 512) }
-    ensures { IfOk result (λ ends. IsFreshReader ends.0.board slots ends.1 × IsFreshReader ends.0.board slots ends.2) }
+    ensures { IfOk result (λ ends. IsFreshReader ends.0.board slots ends.1
+        × IsFreshReader ends.0.board slots ends.2) }
 {
     let Ok((publisher, mut readers)) = Board::new(alloc, rt, slots, 2) else {
         return Err(AllocError);
@@ -114,9 +117,9 @@ fn push_line(
     text.push_str("\n")
 }
 
-/// Looks at the board until the run is over, and keeps a line of each change that it meets, as long as there is memory for them. A read
-/// takes no lock and no memory: it copies the rows from the copy of the board that is shown, while the run changes the other copy. Where
-/// it answers none, the rows stay as they were.
+/// Looks at the board until the run is over, and keeps a line of each change that it meets, as long as there is memory
+/// for them. A read takes no lock and no memory: it copies the rows from the copy of the board that is shown, while the
+/// run changes the other copy. Where it answers none, the rows stay as they were.
 fn watch<R: Wait>(
     rt: &R,
     alloc: Global,
@@ -168,8 +171,8 @@ fn start<'s, E, R: Threads + Wait + Sync>(
         .map_err(|_| AllocError)
 }
 
-/// Tells a reader of all that was published, and reads once more. Answers how many steps that are, and the rows as all of them left
-/// them; none where the board was let go.
+/// Tells a reader of all that was published, and reads once more. Answers how many steps that are, and the rows as all
+/// of them left them; none where the board was let go.
 fn last_rows(
     publisher: &mut Publisher<Global>,
     reader: &mut Reader<Global>,
@@ -189,7 +192,8 @@ fn last_rows(
     Some((step, rows))
 }
 
-/// Waits for a thread that watches, and reads once more. Answers what the thread saw on the way, and the line of the end.
+/// Waits for a thread that watches, and reads once more. Answers what the thread saw on the way, and the line of the
+/// end.
 fn finish<R: Threads>(
     rt: &R,
     alloc: Global,
@@ -198,7 +202,8 @@ fn finish<R: Threads>(
     publisher: &mut Publisher<Global>,
     instruments: &[Instrument],
 ) -> anyhow::Result<(String, String)>
-    requires { IfOk started (λ handle. (handle.promise.before.value.board ≡ publisher.old.board) × (2 ≤ handle.promise.before.value.slots)) }
+    requires { IfOk started (λ handle. (handle.promise.before.value.board ≡ publisher.old.board)
+        × (2 ≤ handle.promise.before.value.slots)) }
     ensures { publisher.new ≡ publisher.old }
 {
     let Seen { mut reader, lines } = started?.join(rt);
@@ -212,8 +217,8 @@ fn finish<R: Threads>(
     Ok((lines, last))
 }
 
-/// Runs over the capture and publishes, while two threads watch. Answers what they saw on the way, and what they see in the end. The
-/// text of the run goes nowhere.
+/// Runs over the capture and publishes, while two threads watch. Answers what they saw on the way, and what they see in
+/// the end. The text of the run goes nowhere.
 fn run_watched<'s, E, R: Threads + Wait + Sync>(
     rt: &'s R,
     scope: &'s Scope<'s, E>,

@@ -8,8 +8,8 @@ use Rattle.mdp_arbiter.specs.Channel.{Channel}
 use Rattle.mdp_arbiter.specs.Machine.{State, has_run_ahead}
 
 -- The channel, the number of the packet that passes next, the top (the highest number, or the one before the next if
--- that is greater), whether packets may pass, whether the channel was closed, each listed security's newest snapshot and
--- the one of the latest jump, and the packets held ahead.
+-- that is greater), whether packets may pass, whether the channel was closed, each listed security's newest snapshot
+-- and the one of the latest jump, and the packets held ahead.
 pub record View : Type 0 where
   pub channel : Channel
   pub next : ℕ

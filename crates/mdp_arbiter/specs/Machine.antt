@@ -40,7 +40,8 @@ has_run_ahead room next top = nat_le (next + room) top
 abbrev pub is_lost : Channel → List Event → State → Bool
 is_lost channel es s = not s.joined || has_run_ahead channel.room s.next (highest es)
 
--- a security's snapshot is there, and includes every packet that is given up: those that lie the room or more below the top
+-- a security's snapshot is there, and includes every packet that is given up: those that lie the room or more below the
+-- top
 abbrev pub is_fresh : ℕ → ℕ → Option SnapshotContent → Bool
 is_fresh room top None = false
 is_fresh room top (Some s) = nat_le top (s.last + room)
@@ -77,7 +78,8 @@ next_move channel es s =
 
 abbrev pub after : State → Move → State
 after s (passed packet) = record { next = s.next + 1; bases = s.bases; joined = s.joined }
-after s (jumped old new snapshots) = record { next = new; bases = map (λ snapshot. Some snapshot) snapshots; joined = true }
+after s (jumped old new snapshots) =
+    record { next = new; bases = map (λ snapshot. Some snapshot) snapshots; joined = true }
 
 abbrev pub after_all : State → List Move → State
 after_all s moves = fold after s moves
@@ -90,7 +92,8 @@ Settles channel es s (m ∷ ms) = (next_move channel es s ≡ Some m) × Settles
 -- the possible moves one after another, at most so many
 abbrev pub moves : ℕ → Channel → List Event → State → List Move
 moves zero channel es s = []
-moves (suc most) channel es s = elim (next_move channel es s) [ None ↦ [] | Some m ↦ m ∷ moves most channel es (after s m) ]
+moves (suc most) channel es s =
+    elim (next_move channel es s) [ None ↦ [] | Some m ↦ m ∷ moves most channel es (after s m) ]
 
 -- The one list that settles: each move begins at most at the highest number, and ends above where it began; one that
 -- joins comes first, and ends above 0.
@@ -101,7 +104,8 @@ settle channel es s = moves (highest es + 1) channel es s
 abbrev pub go_on : Channel → List Event → State → List Event → List Move
 go_on channel past s [] = []
 go_on channel past s (e ∷ es) =
-    settle channel (past ++ e ∷ []) s ++ go_on channel (past ++ e ∷ []) (after_all s (settle channel (past ++ e ∷ []) s)) es
+    settle channel (past ++ e ∷ []) s ++ go_on channel (past ++ e ∷ [])
+    (after_all s (settle channel (past ++ e ∷ []) s)) es
 
 -- the moves of these events: after each event, as many as are possible
 abbrev pub trace : Channel → List Event → List Move
@@ -133,13 +137,15 @@ LawOfFronts = (channel : Channel) (xs ys : List Event)
 -- from each state on there is exactly one list of moves until none is possible
 abbrev pub LawOfMoves : Type 0
 LawOfMoves = (channel : Channel) (es : List Event) (s : State)
-    → Settles channel es s (settle channel es s) × ((ms : List Move) → Settles channel es s ms → ms ≡ settle channel es s)
+    → Settles channel es s (settle channel es s)
+    × ((ms : List Move) → Settles channel es s ms → ms ≡ settle channel es s)
 
 -- one more event adds the moves that are then possible, one after another until none is
 abbrev pub LawOfEvents : Type 0
 LawOfEvents = (channel : Channel) (es : List Event) (e : Event) (ms : List Move)
     → Settles channel (es ++ e ∷ []) (state_at channel es) ms
-    → (trace channel (es ++ e ∷ []) ≡ trace channel es ++ ms) × (state_at channel (es ++ e ∷ []) ≡ after_all (state_at channel es) ms)
+    → (trace channel (es ++ e ∷ []) ≡ trace channel es ++ ms)
+    × (state_at channel (es ++ e ∷ []) ≡ after_all (state_at channel es) ms)
 
 -- a packet that passes is the first that came of the next number
 abbrev pub LawOfPasses : Type 0
@@ -149,7 +155,8 @@ LawOfPasses = (channel : Channel) (es : List Event) (s : State) (packet : Packet
 
 -- A jump takes the newest snapshot of each listed security, none of which leaves out a packet that is given up, and
 -- goes on right after the one that reaches least far. One that joins may leave the number that passes next.
-pub record IsRecovery (channel : Channel) (es : List Event) (s : State) (old new : ℕ) (snapshots : List SnapshotContent) : Type 0 where
+pub record IsRecovery (channel : Channel) (es : List Event) (s : State) (old new : ℕ)
+    (snapshots : List SnapshotContent) : Type 0 where
   pub from : old ≡ s.next
   pub on : s.joined ≡ true → old < new
   pub begun : 1 ≤ new

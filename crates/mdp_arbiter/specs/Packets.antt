@@ -41,7 +41,8 @@ is_taken_in Kept = true
 is_taken_in (Back back) = true
 is_taken_in (Memory back) = false
 
--- A packet of this number passes at once: it is the next one, packets may pass, and none came with its number or a later one.
+-- A packet of this number passes at once: it is the next one, packets may pass, and none came with its number or a
+-- later one.
 abbrev pub passes_at_once : ℕ → View → Bool
 passes_at_once number v = not v.is_closed && (v.joined && (number == v.next && nat_lt v.top v.next))
 

@@ -32,7 +32,8 @@ pub record StepsAs {A : Type 0} (es : List Event) (old new : View) (step : Optio
   pub answer : Answers (next_move old.channel es (state old)) step
   pub state : state new ≡ after_move (state old) (next_move old.channel es (state old))
 
--- a packet passed as the machine's move at the events, which leaves the arbiter standing there, and no other move is possible
+-- a packet passed as the machine's move at the events, which leaves the arbiter standing there, and no other move is
+-- possible
 pub record HasPassed (packet : PacketContent) (es : List Event) (old new : View) : Type 0 where
   pub stands : StandsAt es new
   pub possible : next_move old.channel es (state old) ≡ Some (passed packet)

@@ -142,8 +142,8 @@ impl<A: Allocator + Copy, W: Window<Packet<A>> + Drop> Arbiter<A, W> {
         self.bases[slot].among(&self.newest[slot])
     }
 
-    /// Lends the newest snapshot of each listed security, in listed order, where there is one. Right after a jump these are the ones
-    /// that it took.
+    /// Lends the newest snapshot of each listed security, in listed order, where there is one. Right after a jump these
+    /// are the ones that it took.
     pub fn newest(&self) -> &[Option<Snapshot>]
         ensures { result.now ≡ self.now.newest }
     {
@@ -159,8 +159,8 @@ impl<A: Allocator + Copy, W: Window<Packet<A>> + Drop> Arbiter<A, W> {
         self.is_closed = true;
     }
 
-    /// Takes in a packet, and makes no step. `Back`: an old packet, a repeat, or one after a close. `Memory`: the window
-    /// could not grow. Both leave the arbiter unchanged.
+    /// Takes in a packet, and makes no step. `Back`: an old packet, a repeat, or one after a close. `Memory`: the
+    /// window could not grow. Both leave the arbiter unchanged.
     pub fn packet(&mut self, packet: Packet<A>) -> Put<Packet<A>>
         ensures receives { Receives W.ALLOCATES packet self.old self.new result }
         ensures keeps { state self.new ≡ state self.old }
@@ -171,9 +171,10 @@ impl<A: Allocator + Copy, W: Window<Packet<A>> + Drop> Arbiter<A, W> {
         self.receive(packet)
     }
 
-    /// Lets a packet pass at once where nothing stands in its way: it is the one that passes next, and none came with its
-    /// number or a later one. That is what [`packet`](Arbiter::packet) and [`step`](Arbiter::step) would do, without a stay in
-    /// the window, and no further step is possible then. Tells whether it passed; where not, all is as before.
+    /// Lets a packet pass at once where nothing stands in its way: it is the one that passes next, and none came with
+    /// its number or a later one. That is what [`packet`](Arbiter::packet) and [`step`](Arbiter::step) would do,
+    /// without a stay in the window, and no further step is possible then. Tells whether it passed; where not, all is
+    /// as before.
     pub fn pass_at_once(&mut self, packet: &Packet<A>) -> bool
         ensures tells { result ≡ passes_at_once packet.now.number self.old }
         ensures keeps { result ≡ false → self.new ≡ self.old }
@@ -200,13 +201,14 @@ impl<A: Allocator + Copy, W: Window<Packet<A>> + Drop> Arbiter<A, W> {
         self.renew(snapshot)
     }
 
-    /// Makes the one step that is possible, and answers it; none exactly where none is. Each step raises `next`, but that a
-    /// first jump which joins may leave it.
+    /// Makes the one step that is possible, and answers it; none exactly where none is. Each step raises `next`, but
+    /// that a first jump which joins may leave it.
     pub fn step(&mut self) -> Option<Step<A>>
         ensures channel { self.new.channel ≡ self.old.channel }
         ensures raises { IfSome result (λ _. (steps_left self.new < steps_left self.old)
             × (self.old.next ≤ self.new.next) × (self.new.next ≤ 4294967296)) }
-        ensures steps { (es : List Event) → StandsAt es self.old → StepsAs es self.old self.new result }
+        ensures steps { (es : List Event) → StandsAt es self.old
+            → StepsAs es self.old self.new result }
     {
         self.take_step()
     }

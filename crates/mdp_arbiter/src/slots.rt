@@ -55,7 +55,8 @@ impl<A: Allocator + Copy> Slots<A> {
     /// Tells the place of a security, from 0, if it is listed.
     pub fn slot_of(&self, id: i32) -> Option<usize>
         ensures some { IfSome result (λ slot. slice_get self.now slot ≡ Some id) }
-        ensures only { IfSome result (λ slot. (other : ℕ) → slice_get self.now other ≡ Some id → other ≡ slot) }
+        ensures only { IfSome result (λ slot. (other : ℕ) → slice_get self.now other ≡ Some id
+            → other ≡ slot) }
         ensures none { IfNone result ((slot : ℕ) → slice_get self.now slot ≡ Some id → ⊥) }
     {
         self.ids.get_index_of(&id)

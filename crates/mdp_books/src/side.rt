@@ -8,7 +8,8 @@ use mdp_templates::{Action, Level};
 use mdp_text::PrintedLevels;
 use std::marker::Model;
 
-/// The levels of one side with their printed text, the best first, with room for `CAPACITY` of them, and how many it has at most.
+/// The levels of one side with their printed text, the best first, with room for `CAPACITY` of them, and how many it
+/// has at most.
 #[derive(Drop)]
 pub struct Side<const CAPACITY: usize> {
     depth: usize,
@@ -78,7 +79,8 @@ impl<const CAPACITY: usize> Side<CAPACITY> {
     /// level). Gives false and changes nothing where the position is impossible: a new level past
     /// the depth or past the level behind the last, a change or a delete past the last, or level 0.
     pub fn apply(&mut self, action: Action, level: u8, with: Level) -> bool
-        ensures after { side_after action level with self.old ≡ (if result then Some self.new else None) }
+        ensures after { side_after action level with self.old
+            ≡ (if result then Some self.new else None) }
         ensures same { OnFalse result (self.new ≡ self.old) }
     {
         let position = level as usize;
@@ -92,14 +94,16 @@ impl<const CAPACITY: usize> Side<CAPACITY> {
     // Puts one more level behind the last.
     fn push(&mut self, level: Level)
         requires { length self.old.levels < self.old.depth }
-        ensures { self.new ≡ record { depth = self.old.depth; levels = self.old.levels ++ level ∷ [] } }
+        ensures { self.new
+            ≡ record { depth = self.old.depth; levels = self.old.levels ++ level ∷ [] } }
     {
         self.levels.insert(self.levels.len(), level);
     }
 
     // Enters a new level at a position: those from there on move down, and what falls past the depth is dropped.
     fn enter_new(&mut self, position: usize, with: Level) -> bool
-        ensures after { after_new position with self.old ≡ (if result then Some self.new else None) }
+        ensures after { after_new position with self.old
+            ≡ (if result then Some self.new else None) }
         ensures same { OnFalse result (self.new ≡ self.old) }
     {
         if position == 0 || position > self.levels.len() + 1 || position > self.depth {
@@ -112,7 +116,8 @@ impl<const CAPACITY: usize> Side<CAPACITY> {
 
     // Puts a level in the place of the one at a position, counted from 1; false and unchanged where there is none.
     fn change(&mut self, position: usize, with: Level) -> bool
-        ensures after { after_change position with self.old ≡ (if result then Some self.new else None) }
+        ensures after { after_change position with self.old
+            ≡ (if result then Some self.new else None) }
         ensures same { OnFalse result (self.new ≡ self.old) }
     {
         if position == 0 || position > self.levels.len() {
@@ -122,7 +127,8 @@ impl<const CAPACITY: usize> Side<CAPACITY> {
         true
     }
 
-    // Takes the level at a position, counted from 1, out, so that those behind it move up; false and unchanged where there is none.
+    // Takes the level at a position, counted from 1, out, so that those behind it move up; false and unchanged where
+    // there is none.
     fn delete(&mut self, position: usize) -> bool
         ensures after { after_delete position self.old ≡ (if result then Some self.new else None) }
         ensures same { OnFalse result (self.new ≡ self.old) }

@@ -37,7 +37,8 @@ no_capture = record { instruments = []; a = []; b = []; s = []; skipped = [] }
 -- whether one of the instruments has this one's id or name
 abbrev pub is_listed : List Instrument → Instrument → Bool
 is_listed instruments instrument =
-    list_any (λ other. int_eq other.id instrument.id) instruments || list_any (λ other. bytes_eq other.name instrument.name) instruments
+    list_any (λ other. int_eq other.id instrument.id) instruments
+    || list_any (λ other. bytes_eq other.name instrument.name) instruments
 
 abbrev pub is_outright : InstrumentKind → Bool
 is_outright Outright = true
@@ -49,7 +50,8 @@ has_outright instruments id = list_any (λ other. int_eq other.id id && is_outri
 
 -- whether these are the ids of two different outrights among the instruments
 abbrev pub are_legs : List Instrument → ℤ → ℤ → Bool
-are_legs instruments leg1 leg2 = not (int_eq leg1 leg2) && has_outright instruments leg1 && has_outright instruments leg2
+are_legs instruments leg1 leg2 =
+    not (int_eq leg1 leg2) && has_outright instruments leg1 && has_outright instruments leg2
 
 -- whether the legs stand among the instruments; an outright needs none
 abbrev pub has_legs : List Instrument → InstrumentKind → Bool
@@ -76,7 +78,8 @@ unless_refused line None capture = Ok capture
 
 abbrev pub add_instrument : ℕ → Instrument → CaptureContent → Result CaptureContent RefusedLine
 add_instrument line instrument capture =
-    unless_refused line (refusal_of capture instrument) (record capture { instruments = capture.instruments ++ instrument ∷ [] })
+    unless_refused line (refusal_of capture instrument)
+    (record capture { instruments = capture.instruments ++ instrument ∷ [] })
 
 -- the capture with one more record on a feed
 abbrev pub add_record : Feed → RecordContent → CaptureContent → CaptureContent
@@ -88,16 +91,19 @@ add_record feeds.S entry capture = record capture { s = capture.s ++ entry ∷ [
 abbrev pub add_line : ℕ → LineContent → CaptureContent → Result CaptureContent RefusedLine
 add_line line Blank capture = Ok capture
 add_line line (Listing instrument) capture = add_instrument line instrument capture
-add_line line (Packet feed bytes) capture = Ok (add_record feed (record { line = line; received = Datagram bytes }) capture)
+add_line line (Packet feed bytes) capture =
+    Ok (add_record feed (record { line = line; received = Datagram bytes }) capture)
 add_line line Closing capture = Ok (add_record feeds.S (record { line = line; received = Close }) capture)
-add_line line (Skipped skip) capture = Ok (record capture { skipped = capture.skipped ++ (record { line = line; skip = skip }) ∷ [] })
+add_line line (Skipped skip) capture =
+    Ok (record capture { skipped = capture.skipped ++ (record { line = line; skip = skip }) ∷ [] })
 
 -- the number of the line after this one; from 4294967295 on all lines bear that number
 abbrev pub next_line : ℕ → ℕ
 next_line line = min (line + 1) 4294967295
 
 -- a step after another, unless the run is refused before it
-abbrev pub and_then : Result CaptureContent RefusedLine → (CaptureContent → Result CaptureContent RefusedLine) → Result CaptureContent RefusedLine
+abbrev pub and_then : Result CaptureContent RefusedLine → (CaptureContent → Result CaptureContent RefusedLine)
+    → Result CaptureContent RefusedLine
 and_then (Ok capture) next = next capture
 and_then (Err refused) next = Err refused
 
@@ -108,7 +114,8 @@ add_lines line (text ∷ rest) capture = and_then (add_line line (line_of text) 
 
 -- a run needs an instrument
 abbrev pub needs_instrument : Result CaptureContent RefusedLine → Result CaptureContent RefusedLine
-needs_instrument (Ok capture) = if length capture.instruments == 0 then Err (record { line = 0; refusal = NoInstrument }) else Ok capture
+needs_instrument (Ok capture) =
+    if length capture.instruments == 0 then Err (record { line = 0; refusal = NoInstrument }) else Ok capture
 needs_instrument (Err refused) = Err refused
 
 -- the capture of a text, or the first refusal of the run; a line ends with a line feed or, before it, one carriage

@@ -26,4 +26,5 @@ SpellByte first second byte =
 -- each byte from one place to another is the one that its two digits spell
 abbrev pub SpellBetween : List ℕ → List ℕ → ℕ → ℕ → Type 0
 SpellBetween digits bytes from to =
-    (k : ℕ) → from ≤ k → k < to → SpellByte (slice_index digits (2 * k)) (slice_index digits (2 * k + 1)) (slice_index bytes k)
+    (k : ℕ) → from ≤ k → k < to → SpellByte (slice_index digits (2 * k)) (slice_index digits (2 * k + 1))
+    (slice_index bytes k)

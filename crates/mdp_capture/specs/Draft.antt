@@ -18,4 +18,5 @@ capture_so_far draft = record {
 -- at most 512 instruments, each of which fits after those before it
 pub record AreFitSoFar (instruments : List Instrument) : Type 0 where
   pub few : length instruments ≤ 512
-  pub each : (place : ℕ) (d : Instrument) → place < length instruments → FitsAfter (take place instruments) (slice_index_or instruments place d)
+  pub each : (place : ℕ) (d : Instrument) → place < length instruments
+      → FitsAfter (take place instruments) (slice_index_or instruments place d)

@@ -71,7 +71,8 @@ abbrev pub instruments_of : NumberedLine → List Instrument
 instruments_of line = instruments_in line.content
 
 abbrev pub records_on : Feed → NumberedLine → List RecordContent
-records_on feed line = map (λ (received : Received). record { line = line.number; received = received }) (received_in feed line.content)
+records_on feed line =
+    map (λ (received : Received). record { line = line.number; received = received }) (received_in feed line.content)
 
 abbrev pub skipped_of : NumberedLine → List SkippedLine
 skipped_of line = map (λ (skip : Skip). record { line = line.number; skip = skip }) (skips_in line.content)
@@ -92,7 +93,8 @@ pub record InstrumentsFirst (lines : List NumberedLine) : Type 0 where
   pub no_record : (feed : Feed) → flat_map (records_on feed) front ≡ []
   pub no_instrument : flat_map instruments_of back ≡ []
 
--- a text has this capture: 1 to 512 instruments of different ids and names, the legs of each calendar earlier among them
+-- a text has this capture: 1 to 512 instruments of different ids and names, the legs of each calendar earlier among
+-- them
 pub record IsCaptureOf (text : List ℕ) (capture : CaptureContent) : Type 0 where
   pub brings : Brings (numbered_lines text) capture
   pub first : InstrumentsFirst (numbered_lines text)

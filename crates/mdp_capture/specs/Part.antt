@@ -19,7 +19,8 @@ contents_of read = map content_of read
 -- the capture with what these lines say, the first of which has this number
 abbrev pub add_contents : ℕ → List LineContent → CaptureContent → Result CaptureContent RefusedLine
 add_contents line [] capture = Ok capture
-add_contents line (content ∷ rest) capture = and_then (add_line line content capture) (add_contents (next_line line) rest)
+add_contents line (content ∷ rest) capture =
+    and_then (add_line line content capture) (add_contents (next_line line) rest)
 
 -- the capture that these contents of lines make of one that is being read
 abbrev pub capture_after : {A : Type 0} → Draft A → List LineContent → Result CaptureContent RefusedLine
@@ -27,7 +28,8 @@ capture_after draft contents = needs_instrument (add_contents draft.line content
 
 -- a text says what these lines say, and then what this rest of it begins to say, where it begins with a line
 abbrev pub Says : {A : Type 0} → List ℕ → List (Line A) → List ℕ → Type 0
-Says text read rest = (more : List ℕ) → map line_of (lines (text ++ more)) ≡ contents_of read ++ map line_of (lines (rest ++ more))
+Says text read rest =
+    (more : List ℕ) → map line_of (lines (text ++ more)) ≡ contents_of read ++ map line_of (lines (rest ++ more))
 
 -- the instruments among these lines have depths of their kinds
 abbrev pub ListDepths : {A : Type 0} → List (Line A) → Type 0

@@ -11,7 +11,8 @@ capture_from line text capture = needs_instrument (add_lines line (lines text) c
 
 -- the capture that a reading comes to where this text follows
 abbrev pub capture_with : {A : Type 0} → Reading A → List ℕ → Result CaptureContent RefusedLine
-capture_with reading text = capture_from reading.draft.line (reading.pending.items ++ text) (capture_so_far reading.draft)
+capture_with reading text =
+    capture_from reading.draft.line (reading.pending.items ++ text) (capture_so_far reading.draft)
 
 -- bytes with no line feed among them
 abbrev pub IsOneLine : List ℕ → Type 0

@@ -18,8 +18,8 @@ pub(crate) struct Blocks<A: Allocator> {
     room: BytesMut<A>,
 }
 
-// Writes the bytes that digits spell, two digits a byte, and tells whether they are digits. Where others stand among them, the
-// bytes mean nothing.
+// Writes the bytes that digits spell, two digits a byte, and tells whether they are digits. Where others stand among
+// them, the bytes mean nothing.
 fn put_bytes(digits: &[u8], bytes: &mut [u8]) -> bool
     requires { length digits.now ≡ 2 * length bytes.old }
     ensures { result ≡ true → decode_of digits.now ≡ Ok bytes.new }

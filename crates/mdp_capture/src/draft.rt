@@ -55,10 +55,13 @@ impl<A: Allocator + Copy> Draft<A> {
     /// Takes in the next line.
     pub(crate) fn add_line(&mut self, line: Line<A>) -> Result<(), CaptureFault>
         requires { ListsDepth (content_of line) }
-        ensures capture { OnOk result (add_line self.old.line (content_of line) (capture_so_far self.old) ≡ Ok (capture_so_far self.new)) }
+        ensures capture { OnOk result (add_line self.old.line (content_of line)
+            (capture_so_far self.old) ≡ Ok (capture_so_far self.new)) }
         ensures line { OnOk result (self.new.line ≡ next_line self.old.line) }
-        ensures fit { OnOk result (AreFitSoFar self.old.instruments.items → AreFitSoFar self.new.instruments.items) }
-        ensures refused { IfErr result (IsFaultOf (add_line self.old.line (content_of line) (capture_so_far self.old))) }
+        ensures fit { OnOk result (AreFitSoFar self.old.instruments.items
+            → AreFitSoFar self.new.instruments.items) }
+        ensures refused { IfErr result (IsFaultOf
+            (add_line self.old.line (content_of line) (capture_so_far self.old))) }
         ensures no_input { IfErr result (λ fault. fault ≢ CaptureFault.Input) }
     {
         self.add(line)?;
@@ -71,7 +74,8 @@ impl<A: Allocator + Copy> Draft<A> {
         requires { ListDepths lines.items }
         ensures capture { OnOk result ((rest : List LineContent) →
             capture_after self.old (contents_of lines.items ++ rest) ≡ capture_after self.new rest) }
-        ensures fit { OnOk result (AreFitSoFar self.old.instruments.items → AreFitSoFar self.new.instruments.items) }
+        ensures fit { OnOk result (AreFitSoFar self.old.instruments.items
+            → AreFitSoFar self.new.instruments.items) }
         ensures refused { IfErr result (λ fault. (rest : List LineContent) →
             IsFaultOf (capture_after self.old (contents_of lines.items ++ rest)) fault) }
         ensures no_input { IfErr result (λ fault. fault ≢ CaptureFault.Input) }
@@ -84,9 +88,11 @@ impl<A: Allocator + Copy> Draft<A> {
 
     // Takes in what a line says, and does not count it.
     fn add(&mut self, line: Line<A>) -> Result<(), CaptureFault>
-        ensures capture { OnOk result (add_line self.old.line (content_of line) (capture_so_far self.old) ≡ Ok (capture_so_far self.new)) }
+        ensures capture { OnOk result (add_line self.old.line (content_of line)
+            (capture_so_far self.old) ≡ Ok (capture_so_far self.new)) }
         ensures line { self.new.line ≡ self.old.line }
-        ensures refused { IfErr result (IsFaultOf (add_line self.old.line (content_of line) (capture_so_far self.old))) }
+        ensures refused { IfErr result (IsFaultOf
+            (add_line self.old.line (content_of line) (capture_so_far self.old))) }
         ensures no_input { IfErr result (λ fault. fault ≢ CaptureFault.Input) }
     {
         match line {
@@ -101,7 +107,8 @@ impl<A: Allocator + Copy> Draft<A> {
 
     // Appends a record to its feed's list.
     fn add_record(&mut self, feed: Feed, entry: Record<A>) -> Result<(), CaptureFault>
-        ensures capture { OnOk result (add_record feed entry (capture_so_far self.old) ≡ capture_so_far self.new) }
+        ensures capture { OnOk result (add_record feed entry (capture_so_far self.old)
+            ≡ capture_so_far self.new) }
         ensures line { self.new.line ≡ self.old.line }
         ensures memory { IfErr result (λ fault. fault ≡ CaptureFault.Memory) }
     {
@@ -115,9 +122,11 @@ impl<A: Allocator + Copy> Draft<A> {
 
     /// Takes in the next line, which brings a datagram of these bytes.
     pub(crate) fn add_datagram(&mut self, feed: Feed, bytes: Bytes<A>) -> Result<(), CaptureFault>
-        ensures capture { OnOk result (add_line self.old.line (Packet feed bytes) (capture_so_far self.old) ≡ Ok (capture_so_far self.new)) }
+        ensures capture { OnOk result (add_line self.old.line (Packet feed bytes)
+            (capture_so_far self.old) ≡ Ok (capture_so_far self.new)) }
         ensures line { OnOk result (self.new.line ≡ next_line self.old.line) }
-        ensures fit { OnOk result (AreFitSoFar self.old.instruments.items → AreFitSoFar self.new.instruments.items) }
+        ensures fit { OnOk result (AreFitSoFar self.old.instruments.items
+            → AreFitSoFar self.new.instruments.items) }
         ensures memory { IfErr result (λ fault. fault ≡ CaptureFault.Memory) }
     {
         self.add_record(feed, Record::shared(self.line, bytes))?;
@@ -127,7 +136,8 @@ impl<A: Allocator + Copy> Draft<A> {
 
     /// Gives the bytes of the last record of a feed once more, where it is a datagram whose bytes records may share.
     pub(crate) fn newest(&self, feed: Feed) -> Result<Option<Bytes<A>>, AllocError>
-        ensures { IfOk result (λ found. IfSome found (λ bytes. newest_on feed (capture_so_far self.now) ≡ Some bytes)) }
+        ensures { IfOk result (λ found. IfSome found
+            (λ bytes. newest_on feed (capture_so_far self.now) ≡ Some bytes)) }
     {
         match feed {
             Feed::A => newest_of(self.a.as_slice()),
@@ -138,7 +148,8 @@ impl<A: Allocator + Copy> Draft<A> {
 
     // Notes that this line is skipped, and why.
     fn skip_line(&mut self, skip: Skip) -> Result<(), CaptureFault>
-        ensures capture { OnOk result (add_line self.old.line (Skipped skip) (capture_so_far self.old) ≡ Ok (capture_so_far self.new)) }
+        ensures capture { OnOk result (add_line self.old.line (Skipped skip)
+            (capture_so_far self.old) ≡ Ok (capture_so_far self.new)) }
         ensures line { self.new.line ≡ self.old.line }
         ensures memory { IfErr result (λ fault. fault ≡ CaptureFault.Memory) }
     {
@@ -149,9 +160,11 @@ impl<A: Allocator + Copy> Draft<A> {
 
     // Lists an instrument, or refuses the capture.
     fn add_instrument(&mut self, instrument: Instrument) -> Result<(), CaptureFault>
-        ensures capture { OnOk result (add_instrument self.old.line instrument (capture_so_far self.old) ≡ Ok (capture_so_far self.new)) }
+        ensures capture { OnOk result (add_instrument self.old.line instrument
+            (capture_so_far self.old) ≡ Ok (capture_so_far self.new)) }
         ensures line { self.new.line ≡ self.old.line }
-        ensures refused { IfErr result (IsFaultOf (add_instrument self.old.line instrument (capture_so_far self.old))) }
+        ensures refused { IfErr result (IsFaultOf
+            (add_instrument self.old.line instrument (capture_so_far self.old))) }
         ensures no_input { IfErr result (λ fault. fault ≢ CaptureFault.Input) }
     {
         if let Some(refusal) = self.refusal_of(&instrument) {
@@ -195,8 +208,10 @@ impl<A: Allocator + Copy> Draft<A> {
 
     /// Gives the whole capture.
     pub(crate) fn finish(self) -> Result<Capture<A>, CaptureFault>
-        ensures capture { IfOk result (λ capture. needs_instrument (Ok (capture_so_far self)) ≡ Ok capture) }
-        ensures fit { IfOk result (λ capture. AreFitSoFar self.instruments.items → AreFit capture.instruments) }
+        ensures capture { IfOk result (λ capture. needs_instrument (Ok (capture_so_far self))
+            ≡ Ok capture) }
+        ensures fit { IfOk result (λ capture. AreFitSoFar self.instruments.items
+            → AreFit capture.instruments) }
         ensures refused { IfErr result (IsFaultOf (needs_instrument (Ok (capture_so_far self)))) }
         ensures no_input { IfErr result (λ fault. fault ≢ CaptureFault.Input) }
     {

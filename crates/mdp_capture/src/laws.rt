@@ -9,7 +9,8 @@ ghost use Rattle.mdp_capture.specs.Refused.{HasOneAnswer, IsRefusedCapture};
 /// Proves that a text has a capture exactly where each list of the capture is what the text's lines bring to it, with
 /// their numbers and in their order, every instrument stands before the first record, and the instruments fit.
 pub fn captures_hold_their_lines()
-    ensures { (text : List ℕ) (capture : CaptureContent) → (capture_of text ≡ Ok capture) ↔ IsCaptureOf text capture }
+    ensures { (text : List ℕ) (capture : CaptureContent)
+        → (capture_of text ≡ Ok capture) ↔ IsCaptureOf text capture }
 {}
 
 /// Proves that a text is refused exactly on its first line that refuses the run, for the first refusal that holds there

@@ -38,7 +38,8 @@ pub(crate) const LONGEST_DATAGRAM: usize = 2048;
 impl<A: Allocator> Line<A> {
     /// Gives the bytes of the datagram once more, where lines may share them.
     pub(crate) fn share(&self) -> Result<Option<Bytes<A>>, AllocError>
-        ensures { IfOk result (λ found. IfSome found (λ bytes. bytes_in (content_of self.now) ≡ Some bytes)) }
+        ensures { IfOk result (λ found. IfSome found
+            (λ bytes. bytes_in (content_of self.now) ≡ Some bytes)) }
     {
         match self {
             Line::Shared(_, bytes) => {
@@ -181,7 +182,8 @@ pub(crate) fn bytes_of<A: Allocator>(
     alloc: A,
     digits: &[u8],
 ) -> Result<Result<Vec<u8, A>, Skip>, AllocError>
-    ensures { IfOk result (λ read. MatchResult read (λ bytes. Spells digits.now bytes.items) (IsSkippedFor digits.now)) }
+    ensures { IfOk result (λ read. MatchResult read (λ bytes. Spells digits.now bytes.items)
+        (IsSkippedFor digits.now)) }
 {
     match hex::decode(alloc, digits) {
         Ok(bytes) if bytes.is_empty() => Ok(Err(Skip::LineForm)),

@@ -22,8 +22,8 @@ const LARGE_PIECE: usize = 4_194_304;
 /// How many bytes of a piece one thread reads, and further to the end of the line.
 const PART: usize = 1_048_576;
 
-/// Reads a capture as `read_capture` does, in large pieces whose lines threads read, each those of a part. Where a thread can't
-/// be started, the lines of its part are read all the same.
+/// Reads a capture as `read_capture` does, in large pieces whose lines threads read, each those of a part. Where a
+/// thread can't be started, the lines of its part are read all the same.
 ///
 /// # Errors
 ///
@@ -38,11 +38,14 @@ where
     R: CountedRead,
     A: Allocator + Copy + Send + Sync,
     requires { R.failed reader.old < 2 ^ 64 - 1 }
-    ensures capture { IfOk result (λ capture. IfSome (R.rest reader.old) (λ text. capture_of text ≡ Ok capture)) }
+    ensures capture { IfOk result (λ capture. IfSome (R.rest reader.old)
+        (λ text. capture_of text ≡ Ok capture)) }
     ensures fit { IfOk result (λ capture. AreFit capture.instruments) }
     ensures end { OnOk result (IsAtEnd (R.rest reader.new)) }
-    ensures refused { IfErr result (λ fault. IfSome (R.rest reader.old) (λ text. IsFaultOf (capture_of text) fault)) }
-    ensures input { result ≡ Err CaptureFault.Input → R.failed reader.new ≡ R.failed reader.old + 1 }
+    ensures refused { IfErr result (λ fault. IfSome (R.rest reader.old)
+        (λ text. IsFaultOf (capture_of text) fault)) }
+    ensures input { result ≡ Err CaptureFault.Input
+        → R.failed reader.new ≡ R.failed reader.old + 1 }
     ensures sound { result ≢ Err CaptureFault.Input → R.failed reader.new ≡ R.failed reader.old }
 {
     let mut reading = Reading::new(alloc);
@@ -56,8 +59,8 @@ where
     }
 }
 
-/// Takes in the next piece of the text, whose lines threads read in parts of this size, each to the end of its last line.
-/// The first line may have begun before the piece, so it is no part's.
+/// Takes in the next piece of the text, whose lines threads read in parts of this size, each to the end of its last
+/// line. The first line may have begun before the piece, so it is no part's.
 pub(crate) fn take_large_piece<T, A>(
     rt: &T,
     alloc: A,
@@ -69,9 +72,11 @@ where
     T: Threads + Sync,
     A: Allocator + Copy + Send + Sync,
     requires { IsSound reading.old }
-    ensures capture { OnOk result ((text : List ℕ) → capture_with reading.old (piece.now ++ text) ≡ capture_with reading.new text) }
+    ensures capture { OnOk result ((text : List ℕ)
+        → capture_with reading.old (piece.now ++ text) ≡ capture_with reading.new text) }
     ensures sound { OnOk result (IsSound reading.new) }
-    ensures refused { IfErr result (λ fault. (text : List ℕ) → IsFaultOf (capture_with reading.old (piece.now ++ text)) fault) }
+    ensures refused { IfErr result (λ fault. (text : List ℕ)
+        → IsFaultOf (capture_with reading.old (piece.now ++ text)) fault) }
     ensures no_input { IfErr result (λ fault. fault ≢ CaptureFault.Input) }
 {
     if piece.len() <= size {
@@ -94,9 +99,11 @@ where
     T: Threads + Sync,
     A: Allocator + Copy + Send + Sync,
     requires { IsSound reading.old }
-    ensures capture { OnOk result ((text : List ℕ) → capture_with reading.old (piece.now ++ text) ≡ capture_with reading.new text) }
+    ensures capture { OnOk result ((text : List ℕ)
+        → capture_with reading.old (piece.now ++ text) ≡ capture_with reading.new text) }
     ensures sound { OnOk result (IsSound reading.new) }
-    ensures refused { IfErr result (λ fault. (text : List ℕ) → IsFaultOf (capture_with reading.old (piece.now ++ text)) fault) }
+    ensures refused { IfErr result (λ fault. (text : List ℕ)
+        → IsFaultOf (capture_with reading.old (piece.now ++ text)) fault) }
     ensures no_input { IfErr result (λ fault. fault ≢ CaptureFault.Input) }
 {
     let texts = cut(alloc, piece, size)?;
@@ -113,9 +120,11 @@ fn take_parts<A: Allocator + Copy>(
 ) -> Result<(), CaptureFault>
     requires sound { IsSound reading.old }
     requires read { AreReadOf texts.now parts.items }
-    ensures capture { OnOk result ((text : List ℕ) → capture_with reading.old (joined texts.now ++ text) ≡ capture_with reading.new text) }
+    ensures capture { OnOk result ((text : List ℕ)
+        → capture_with reading.old (joined texts.now ++ text) ≡ capture_with reading.new text) }
     ensures sound { OnOk result (IsSound reading.new) }
-    ensures refused { IfErr result (λ fault. (text : List ℕ) → IsFaultOf (capture_with reading.old (joined texts.now ++ text)) fault) }
+    ensures refused { IfErr result (λ fault. (text : List ℕ)
+        → IsFaultOf (capture_with reading.old (joined texts.now ++ text)) fault) }
     ensures no_input { IfErr result (λ fault. fault ≢ CaptureFault.Input) }
 {
     let mut number = 0;

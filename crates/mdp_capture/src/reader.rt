@@ -25,7 +25,8 @@ pub trait CountedRead {
         requires { failed self.old < 2 ^ 64 - 1 }
         ensures count { IfOk result (λ n. n ≤ length buf.new) }
         ensures bytes { ReadConsumes (rest self.old) (rest self.new) result buf.new }
-        ensures failed { MatchResult result (λ _. failed self.new ≡ failed self.old) (λ _. failed self.new ≡ failed self.old + 1) }
+        ensures failed { MatchResult result (λ _. failed self.new ≡ failed self.old)
+            (λ _. failed self.new ≡ failed self.old + 1) }
         ensures bounded { left self.old < 2 ^ 64 }
         ensures left { left self.new ≡ left self.old - 1 }
         ensures none_left { left self.old ≡ 0 → IsErr result };

@@ -33,11 +33,14 @@ pub fn read_capture<R: CountedRead, A: Allocator + Copy>(
     reader: &mut R,
 ) -> Result<Capture<A>, CaptureFault>
     requires { R.failed reader.old < 2 ^ 64 - 1 }
-    ensures capture { IfOk result (λ capture. IfSome (R.rest reader.old) (λ text. capture_of text ≡ Ok capture)) }
+    ensures capture { IfOk result (λ capture. IfSome (R.rest reader.old)
+        (λ text. capture_of text ≡ Ok capture)) }
     ensures fit { IfOk result (λ capture. AreFit capture.instruments) }
     ensures end { OnOk result (IsAtEnd (R.rest reader.new)) }
-    ensures refused { IfErr result (λ fault. IfSome (R.rest reader.old) (λ text. IsFaultOf (capture_of text) fault)) }
-    ensures input { result ≡ Err CaptureFault.Input → R.failed reader.new ≡ R.failed reader.old + 1 }
+    ensures refused { IfErr result (λ fault. IfSome (R.rest reader.old)
+        (λ text. IsFaultOf (capture_of text) fault)) }
+    ensures input { result ≡ Err CaptureFault.Input
+        → R.failed reader.new ≡ R.failed reader.old + 1 }
     ensures sound { result ≢ Err CaptureFault.Input → R.failed reader.new ≡ R.failed reader.old }
 {
     let mut reading = Reading::new(alloc);
@@ -84,9 +87,11 @@ impl<A: Allocator + Copy> Reading<A> {
     /// Takes in the next piece of the text.
     pub(crate) fn take_piece(&mut self, alloc: A, piece: &[u8]) -> Result<(), CaptureFault>
         requires { IsSound self.old }
-        ensures capture { OnOk result ((text : List ℕ) → capture_with self.old (piece.now ++ text) ≡ capture_with self.new text) }
+        ensures capture { OnOk result ((text : List ℕ)
+            → capture_with self.old (piece.now ++ text) ≡ capture_with self.new text) }
         ensures sound { OnOk result (IsSound self.new) }
-        ensures refused { IfErr result (λ fault. (text : List ℕ) → IsFaultOf (capture_with self.old (piece.now ++ text)) fault) }
+        ensures refused { IfErr result (λ fault. (text : List ℕ)
+            → IsFaultOf (capture_with self.old (piece.now ++ text)) fault) }
         ensures no_input { IfErr result (λ fault. fault ≢ CaptureFault.Input) }
     {
         let mut rest = piece;
@@ -112,9 +117,11 @@ impl<A: Allocator + Copy> Reading<A> {
         requires sound { IsSound self.old }
         requires says { Says text.now part.lines.items part.rest.now }
         requires depths { ListDepths part.lines.items }
-        ensures capture { OnOk result ((more : List ℕ) → capture_with self.old (text.now ++ more) ≡ capture_with self.new more) }
+        ensures capture { OnOk result ((more : List ℕ)
+            → capture_with self.old (text.now ++ more) ≡ capture_with self.new more) }
         ensures sound { OnOk result (IsSound self.new) }
-        ensures refused { IfErr result (λ fault. (more : List ℕ) → IsFaultOf (capture_with self.old (text.now ++ more)) fault) }
+        ensures refused { IfErr result (λ fault. (more : List ℕ)
+            → IsFaultOf (capture_with self.old (text.now ++ more)) fault) }
         ensures no_input { IfErr result (λ fault. fault ≢ CaptureFault.Input) }
     {
         let has_begun = !self.pending.is_empty();
@@ -126,8 +133,9 @@ impl<A: Allocator + Copy> Reading<A> {
         self.take_piece(alloc, rest)
     }
 
-    // Takes in what a line feed ends. With nothing pending it is a whole line, which is read where it lies, and the answer is
-    // the feed on which it brought a datagram. `last` is the line before, and `feed` what was answered of that.
+    // Takes in what a line feed ends. With nothing pending it is a whole line, which is read where it lies, and the
+    // answer is the feed on which it brought a datagram. `last` is the line before, and `feed` what was answered of
+    // that.
     fn take_line(
         &mut self,
         alloc: A,
@@ -138,10 +146,13 @@ impl<A: Allocator + Copy> Reading<A> {
         requires sound { IsSound self.old }
         requires line { IsOneLine text.now }
         requires known { HasBytesOf (line_of (strip_carriage_return last.now)) self.old.draft feed }
-        ensures capture { OnOk result ((more : List ℕ) → capture_with self.old (text.now ++ 10 ∷ more) ≡ capture_with self.new more) }
+        ensures capture { OnOk result ((more : List ℕ)
+            → capture_with self.old (text.now ++ 10 ∷ more) ≡ capture_with self.new more) }
         ensures sound { OnOk result (IsSound self.new) }
-        ensures known { IfOk result (HasBytesOf (line_of (strip_carriage_return text.now)) self.new.draft) }
-        ensures refused { IfErr result (λ fault. (more : List ℕ) → IsFaultOf (capture_with self.old (text.now ++ 10 ∷ more)) fault) }
+        ensures known { IfOk result (HasBytesOf
+            (line_of (strip_carriage_return text.now)) self.new.draft) }
+        ensures refused { IfErr result (λ fault. (more : List ℕ)
+            → IsFaultOf (capture_with self.old (text.now ++ 10 ∷ more)) fault) }
         ensures no_input { IfErr result (λ fault. fault ≢ CaptureFault.Input) }
     {
         if !self.pending.is_empty() {
@@ -158,10 +169,12 @@ impl<A: Allocator + Copy> Reading<A> {
     // Takes in the line that is pending, which a line feed ended.
     fn end_line(&mut self, alloc: A) -> Result<(), CaptureFault>
         requires { IsSound self.old }
-        ensures capture { OnOk result ((text : List ℕ) → capture_with self.old (10 ∷ text) ≡ capture_with self.new text) }
+        ensures capture { OnOk result ((text : List ℕ)
+            → capture_with self.old (10 ∷ text) ≡ capture_with self.new text) }
         ensures sound { OnOk result (IsSound self.new) }
         ensures pending { OnOk result (self.new.pending.items ≡ []) }
-        ensures refused { IfErr result (λ fault. (text : List ℕ) → IsFaultOf (capture_with self.old (10 ∷ text)) fault) }
+        ensures refused { IfErr result (λ fault. (text : List ℕ)
+            → IsFaultOf (capture_with self.old (10 ∷ text)) fault) }
         ensures no_input { IfErr result (λ fault. fault ≢ CaptureFault.Input) }
     {
         let line = line_of(alloc, without_carriage_return(self.pending.as_slice()))?;
@@ -186,7 +199,8 @@ impl<A: Allocator + Copy> Reading<A> {
     // Takes in the last line, where it had no line feed.
     fn end_text(&mut self, alloc: A) -> Result<(), CaptureFault>
         requires { IsSound self.old }
-        ensures capture { OnOk result (capture_with self.old [] ≡ needs_instrument (Ok (capture_so_far self.new.draft))) }
+        ensures capture { OnOk result (capture_with self.old []
+            ≡ needs_instrument (Ok (capture_so_far self.new.draft))) }
         ensures fit { OnOk result (AreFitSoFar self.new.draft.instruments.items) }
         ensures refused { IfErr result (IsFaultOf (capture_with self.old [])) }
         ensures no_input { IfErr result (λ fault. fault ≢ CaptureFault.Input) }

@@ -76,7 +76,8 @@ impl<A: Allocator> Record<A> {
 
     /// Lends the bytes of the datagram, or `None` for a close.
     pub fn bytes(&self) -> Option<&[u8]>
-        ensures { MatchOption result (self.now.received ≡ Close) (λ bytes. self.now.received ≡ Datagram bytes.now) }
+        ensures { MatchOption result (self.now.received ≡ Close)
+            (λ bytes. self.now.received ≡ Datagram bytes.now) }
     {
         match &self.held {
             Held::Own(bytes) => Some(bytes.as_slice()),
@@ -87,7 +88,8 @@ impl<A: Allocator> Record<A> {
 
     /// Gives the bytes of the datagram once more, where records may share them.
     pub(crate) fn share(&self) -> Result<Option<Bytes<A>>, AllocError>
-        ensures { IfOk result (λ found. IfSome found (λ bytes. self.now.received ≡ Datagram bytes)) }
+        ensures { IfOk result (λ found. IfSome found
+            (λ bytes. self.now.received ≡ Datagram bytes)) }
     {
         match &self.held {
             Held::Own(_) => Ok(None),

@@ -1,4 +1,5 @@
-//! Lines that repeat the datagram of the line before, as feed B mostly does feed A's: they share its bytes, which are not decoded anew.
+//! Lines that repeat the datagram of the line before, as feed B mostly does feed A's: they share its bytes, which are
+//! not decoded anew.
 
 ghost use Rattle.std.specs.Prelude.{◌≡◌, ◌≢◌, true, OnOk, IfOk, IfErr, IfSome};
 ghost use Rattle.mdp_capture.specs.Capture.{IsFaultOf, add_line, next_line};
@@ -14,8 +15,8 @@ use mdp_templates::Feed;
 use std::alloc::{AllocError, Allocator};
 
 impl<A: Allocator + Copy> Draft<A> {
-    /// Takes in the next line, and tells on which feed it brought a datagram. `last` is the line before, and `known` the feed
-    /// on which it brought one; where that is `None`, nothing is known of it.
+    /// Takes in the next line, and tells on which feed it brought a datagram. `last` is the line before, and `known`
+    /// the feed on which it brought one; where that is `None`, nothing is known of it.
     pub(crate) fn add_text(
         &mut self,
         alloc: A,
@@ -24,11 +25,14 @@ impl<A: Allocator + Copy> Draft<A> {
         known: Option<Feed>,
     ) -> Result<Option<Feed>, CaptureFault>
         requires { HasBytesOf (line_of last.now) self.old known }
-        ensures capture { OnOk result (add_line self.old.line (line_of text.now) (capture_so_far self.old) ≡ Ok (capture_so_far self.new)) }
+        ensures capture { OnOk result (add_line self.old.line (line_of text.now)
+            (capture_so_far self.old) ≡ Ok (capture_so_far self.new)) }
         ensures line { OnOk result (self.new.line ≡ next_line self.old.line) }
-        ensures fit { OnOk result (AreFitSoFar self.old.instruments.items → AreFitSoFar self.new.instruments.items) }
+        ensures fit { OnOk result (AreFitSoFar self.old.instruments.items
+            → AreFitSoFar self.new.instruments.items) }
         ensures known { IfOk result (HasBytesOf (line_of text.now) self.new) }
-        ensures refused { IfErr result (IsFaultOf (add_line self.old.line (line_of text.now) (capture_so_far self.old))) }
+        ensures refused { IfErr result (IsFaultOf
+            (add_line self.old.line (line_of text.now) (capture_so_far self.old))) }
         ensures no_input { IfErr result (λ fault. fault ≢ CaptureFault.Input) }
     {
         match digits_in(text) {
@@ -54,9 +58,11 @@ impl<A: Allocator + Copy> Draft<A> {
         known: Option<Feed>,
     ) -> Result<Option<Feed>, CaptureFault>
         requires { HasBytesOf (line_of last.now) self.old known }
-        ensures capture { OnOk result (add_line self.old.line (packet_of feed (fields digits.now)) (capture_so_far self.old) ≡ Ok (capture_so_far self.new)) }
+        ensures capture { OnOk result (add_line self.old.line (packet_of feed (fields digits.now))
+            (capture_so_far self.old) ≡ Ok (capture_so_far self.new)) }
         ensures line { OnOk result (self.new.line ≡ next_line self.old.line) }
-        ensures fit { OnOk result (AreFitSoFar self.old.instruments.items → AreFitSoFar self.new.instruments.items) }
+        ensures fit { OnOk result (AreFitSoFar self.old.instruments.items
+            → AreFitSoFar self.new.instruments.items) }
         ensures known { IfOk result (HasBytesOf (packet_of feed (fields digits.now)) self.new) }
         ensures refused { IfErr result
             (IsFaultOf (add_line self.old.line (packet_of feed (fields digits.now)) (capture_so_far self.old))) }
@@ -98,9 +104,11 @@ impl<A: Allocator + Copy> Draft<A> {
         feed: Feed,
         digits: &[u8],
     ) -> Result<Option<Feed>, CaptureFault>
-        ensures capture { OnOk result (add_line self.old.line (packet_of feed (fields digits.now)) (capture_so_far self.old) ≡ Ok (capture_so_far self.new)) }
+        ensures capture { OnOk result (add_line self.old.line (packet_of feed (fields digits.now))
+            (capture_so_far self.old) ≡ Ok (capture_so_far self.new)) }
         ensures line { OnOk result (self.new.line ≡ next_line self.old.line) }
-        ensures fit { OnOk result (AreFitSoFar self.old.instruments.items → AreFitSoFar self.new.instruments.items) }
+        ensures fit { OnOk result (AreFitSoFar self.old.instruments.items
+            → AreFitSoFar self.new.instruments.items) }
         ensures known { IfOk result (HasBytesOf (packet_of feed (fields digits.now)) self.new) }
         ensures refused { IfErr result
             (IsFaultOf (add_line self.old.line (packet_of feed (fields digits.now)) (capture_so_far self.old))) }
@@ -138,7 +146,8 @@ impl<A: Allocator + Copy> Draft<A> {
 
 /// Tells whether a line begins as a datagram's does and has these digits.
 pub(crate) fn has_digits(text: &[u8], digits: &[u8]) -> bool
-    ensures { result ≡ true → (feed : Feed) × (line_of text.now ≡ packet_of feed (fields digits.now)) }
+    ensures { result ≡ true → (feed : Feed)
+        × (line_of text.now ≡ packet_of feed (fields digits.now)) }
 {
     match digits_in(text) {
         Some((_, found)) => found == digits,

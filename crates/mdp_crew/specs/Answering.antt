@@ -21,30 +21,40 @@ pub record HasDrained {A : Type 0} (old new : LaneReceiverView (Order A)) : Type
   pub took : new ≡ record old { taken = old.taken ++ orders_of batches }
 
 -- an order was answered by what its moves show of the worker's securities
-pub record HasTold {A : Type 0} (worker worker' : View) (orders orders' : LaneReceiverView (Order A)) (answers answers' : LaneSenderView (Answer A)) : Type 0 where
+pub record HasTold {A : Type 0} (worker worker' : View) (orders orders' : LaneReceiverView (Order A))
+    (answers answers' : LaneSenderView (Answer A)) : Type 0 where
   pub moves : List Move
   pub took : orders' ≡ record orders { taken = orders.taken ++ Take moves ∷ [] }
-  pub sent : answers' ≡ record answers { sent = answers.sent ++ Tells (reports_of_moves worker.slots moves worker.desks) ∷ [] }
+  pub sent : answers' ≡ record answers {
+    sent = answers.sent ++ Tells (reports_of_moves worker.slots moves worker.desks)
+        ∷ [];
+  }
   pub worker_is : worker' ≡ record worker { desks = desks_after_moves worker.slots moves worker.desks }
 
 -- the last answer was given, and the last order taken
-pub record HasEnded {A : Type 0} (orders orders' : LaneReceiverView (Order A)) (answers answers' : LaneSenderView (Answer A)) : Type 0 where
+pub record HasEnded {A : Type 0} (orders orders' : LaneReceiverView (Order A))
+    (answers answers' : LaneSenderView (Answer A)) : Type 0 where
   pub batches : List (List Move)
   pub done : Bool
   pub took : orders' ≡ record orders { taken = orders.taken ++ orders_of batches }
   pub sent : answers' ≡ record answers { sent = answers.sent ++ last_answer done ∷ [] }
   pub all : done ≡ true → batches ≡ []
 
-abbrev pub AnswersOne : {A : Type 0} → View → View → LaneReceiverView (Order A) → LaneReceiverView (Order A) → LaneSenderView (Answer A) → LaneSenderView (Answer A) → Bool → Type 0
+abbrev pub AnswersOne : {A : Type 0} → View → View → LaneReceiverView (Order A) → LaneReceiverView (Order A)
+    → LaneSenderView (Answer A) → LaneSenderView (Answer A) → Bool → Type 0
 AnswersOne worker worker' orders orders' answers answers' true = HasTold worker worker' orders orders' answers answers'
 AnswersOne worker worker' orders orders' answers answers' false = HasEnded orders orders' answers answers'
 
--- So far these batches were answered. Where each jump has a snapshot of each listed security, the answers are the worker's part, and
--- its desks stand behind all these moves.
-pub record IsWorking {A : Type 0} (listed : List Instrument) (workers number : ℕ) (worker : View) (orders orders' : LaneReceiverView (Order A)) (answers answers' : LaneSenderView (Answer A)) : Type 0 where
+-- So far these batches were answered. Where each jump has a snapshot of each listed security, the answers are the
+-- worker's part, and its desks stand behind all these moves.
+pub record IsWorking {A : Type 0} (listed : List Instrument) (workers number : ℕ) (worker : View)
+    (orders orders' : LaneReceiverView (Order A)) (answers answers' : LaneSenderView (Answer A)) : Type 0 where
   pub batches : List (List Move)
   pub took : orders' ≡ record orders { taken = map Take batches }
   pub answers_lane : answers'.lane ≡ answers.lane
   pub slots : worker.slots ≡ own_slots (is_kept_by workers number) 0 listed
-  pub sent : AreFull listed (moves_sent batches) → answers'.sent ≡ map Tells (reports_by listed workers number [] batches)
-  pub stands : AreFull listed (moves_sent batches) → StandBehind (own_part (is_kept_by workers number) 0 listed) (own_moves (is_kept_by workers number) (moves_sent batches)) worker.desks
+  pub sent : AreFull listed (moves_sent batches)
+      → answers'.sent ≡ map Tells (reports_by listed workers number [] batches)
+  pub stands : AreFull listed (moves_sent batches)
+      → StandBehind (own_part (is_kept_by workers number) 0 listed)
+      (own_moves (is_kept_by workers number) (moves_sent batches)) worker.desks

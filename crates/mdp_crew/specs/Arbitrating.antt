@@ -25,8 +25,9 @@ pub record HasBegun (channel : ListedChannel) (arbiter : View) : Type 0 where
 abbrev pub IsNextNumber : ℕ → Type 0
 IsNextNumber n = (1 ≤ n) × (n ≤ 4294967296)
 
--- The arbiter's thread has ended: it took all batches of the readers, each worker's lane has the same orders more, and these are the
--- moves of the events that were taken, or a beginning of them where memory ran out. Else it tells where the channel stands.
+-- The arbiter's thread has ended: it took all batches of the readers, each worker's lane has the same orders more, and
+-- these are the moves of the events that were taken, or a beginning of them where memory ran out. Else it tells where
+-- the channel stands.
 pub record HasSent {A : Type 0} (channel : ListedChannel) (receiver : IntakeReceiverView (Batch A))
     (senders : List (LaneSenderView (Order A))) (outcome : ArbiterOutcome A) : Type 0 where
   pub batches : List (List Move)
@@ -40,7 +41,8 @@ pub record HasSent {A : Type 0} (channel : ListedChannel) (receiver : IntakeRece
 -- ---- batch by batch
 
 -- the lanes have these batches of moves more
-abbrev pub HavePut : {A : Type 0} → List (List Move) → List (LaneSenderView (Order A)) → List (LaneSenderView (Order A)) → Type 0
+abbrev pub HavePut : {A : Type 0} → List (List Move) → List (LaneSenderView (Order A)) → List (LaneSenderView (Order A))
+    → Type 0
 HavePut batches before after = after ≡ map (and_sent (map Take batches)) before
 
 -- the arbiter has taken in these events, and all their moves went into the lanes
@@ -58,13 +60,15 @@ pub record HasSentFirst {A : Type 0} (channel : ListedChannel) (events : List Ev
   pub sent : AreSent {X = Unit {0}} {E = Unit {0}} channel events batches (Err tt)
 
 -- Where all moves of these events were sent, all moves of those are.
-abbrev pub SendsMore : {A : Type 0} → List Event → List (LaneSenderView (Order A)) → View → List Event → List (LaneSenderView (Order A)) → View → Type 0
+abbrev pub SendsMore : {A : Type 0} → List Event → List (LaneSenderView (Order A)) → View → List Event
+    → List (LaneSenderView (Order A)) → View → Type 0
 SendsMore {A} events lanes arbiter events' lanes' arbiter' =
     (channel : ListedChannel) (first : List (LaneSenderView (Order A)))
     → HasSentSoFar channel events first lanes arbiter → HasSentSoFar channel events' first lanes' arbiter'
 
 -- Where all moves of these events were sent, a beginning of those events' moves is.
-abbrev pub StopsWithin : {A : Type 0} → List Event → List (LaneSenderView (Order A)) → View → List Event → List (LaneSenderView (Order A)) → Type 0
+abbrev pub StopsWithin : {A : Type 0} → List Event → List (LaneSenderView (Order A)) → View → List Event
+    → List (LaneSenderView (Order A)) → Type 0
 StopsWithin {A} events lanes arbiter events' lanes' =
     (channel : ListedChannel) (first : List (LaneSenderView (Order A)))
     → HasSentSoFar channel events first lanes arbiter → HasSentFirst channel events' first lanes'

@@ -20,4 +20,5 @@ events_taken taken = flat_map (λ m. batch_events m.1) taken
 
 -- more was taken
 abbrev pub HasTakenMore : {A : Type 0} → IntakeReceiverView (Batch A) → IntakeReceiverView (Batch A) → Type 0
-HasTakenMore {A} before after = (more : List (Feed × Batch A)) × (after ≡ record before { taken = before.taken ++ more })
+HasTakenMore {A} before after =
+    (more : List (Feed × Batch A)) × (after ≡ record before { taken = before.taken ++ more })

@@ -20,12 +20,14 @@ abbrev pub text_of_batch : View → List (List Report) → List ℕ
 text_of_batch collector reports = text_from collector.listed collector.kept (rounds_in reports)
 
 abbrev pub kept_after_batch : View → List (List Report) → View
-kept_after_batch collector reports = record { listed = collector.listed; kept = kept_after_rounds collector.kept (rounds_in reports) }
+kept_after_batch collector reports =
+    record { listed = collector.listed; kept = kept_after_rounds collector.kept (rounds_in reports) }
 
 -- batch by batch
 abbrev pub text_of_batches : View → List (List (List Report)) → List ℕ
 text_of_batches collector [] = []
-text_of_batches collector (reports ∷ batches) = text_of_batch collector reports ++ text_of_batches (kept_after_batch collector reports) batches
+text_of_batches collector (reports ∷ batches) =
+    text_of_batch collector reports ++ text_of_batches (kept_after_batch collector reports) batches
 
 abbrev pub steps_of_batch : List (List Report) → List Step
 steps_of_batch reports = steps_in (rounds_in reports)
@@ -33,8 +35,8 @@ steps_of_batch reports = steps_in (rounds_in reports)
 abbrev pub steps_of_batches : List (List (List Report)) → List Step
 steps_of_batches batches = steps_in (all_rounds_in batches)
 
--- A moment of the collector, as contracts see it: what was taken of each worker, what it keeps for the next batch, and what went out, as
--- text and on the board.
+-- A moment of the collector, as contracts see it: what was taken of each worker, what it keeps for the next batch, and
+-- what went out, as text and on the board.
 pub record Showing (A : Type 0) : Type 0 where
   pub posts : List (Post A)
   pub collector : View
@@ -43,7 +45,8 @@ pub record Showing (A : Type 0) : Type 0 where
 
 -- the moment where these bytes went out, and this stands on the board
 abbrev pub showing : {A : Type 0} → Collecting A → List ℕ → Option Published → Showing A
-showing collecting taken board = record { posts = collecting.posts.items; collector = collecting.collector; taken = taken; board = board }
+showing collecting taken board =
+    record { posts = collecting.posts.items; collector = collecting.collector; taken = taken; board = board }
 
 -- a round's text was written, and then its steps published
 pub record ShowsRound {A : Type 0} (old new : Showing A) (round : List (List Report)) : Type 0 where
@@ -53,8 +56,10 @@ pub record ShowsRound {A : Type 0} (old new : Showing A) (round : List (List Rep
 
 -- Not all of a round went out: of its text so many bytes and none of its steps, or its text and so many of its steps.
 pub data CutShort {A : Type 0} (old new : Showing A) (round : List (List Report)) : Type 0 where
-  in_text : (n : ℕ) → new.taken ≡ old.taken ++ take n (text_of_batch old.collector round) → new.board ≡ old.board → CutShort old new round
-  in_steps : (n : ℕ) → new.taken ≡ old.taken ++ text_of_batch old.collector round → new.board ≡ published_on old.board (take n (steps_of_batch round))
+  in_text : (n : ℕ) → new.taken ≡ old.taken ++ take n (text_of_batch old.collector round) → new.board ≡ old.board
+      → CutShort old new round
+  in_steps : (n : ℕ) → new.taken ≡ old.taken ++ text_of_batch old.collector round
+      → new.board ≡ published_on old.board (take n (steps_of_batch round))
       → CutShort old new round
 
 -- one round was taken and shown
@@ -76,14 +81,17 @@ pub record TakesRounds {A : Type 0} (last : List (Answer A)) (old new : Showing 
 abbrev pub HasAll : {A : Type 0} → Showing A → Showing A → Type 0
 HasAll {A} old new = TakesRounds (Finished ∷ []) old new
 
--- What went out of these rounds: the text of all, and of their steps a beginning; or text and steps of all but the last, and of the last
--- one's text a beginning.
+-- What went out of these rounds: the text of all, and of their steps a beginning; or text and steps of all but the
+-- last, and of the last one's text a beginning.
 pub data IsCut {A : Type 0} (old new : Showing A) (rounds : List (List (List Report))) : Type 0 where
-  among_steps : (shown hidden : List Step) → steps_of_batches rounds ≡ shown ++ hidden → new.taken ≡ old.taken ++ text_of_batches old.collector rounds
+  among_steps : (shown hidden : List Step) → steps_of_batches rounds ≡ shown ++ hidden
+      → new.taken ≡ old.taken ++ text_of_batches old.collector rounds
       → new.board ≡ published_on old.board shown → IsCut old new rounds
-  in_last : (done : List (List (List Report))) (round : List (List Report)) (sent rest : List ℕ) → rounds ≡ done ++ round ∷ []
+  in_last : (done : List (List (List Report))) (round : List (List Report)) (sent rest : List ℕ)
+      → rounds ≡ done ++ round ∷ []
       → text_of_batches old.collector rounds ≡ text_of_batches old.collector done ++ (sent ++ rest)
-      → new.taken ≡ old.taken ++ (text_of_batches old.collector done ++ sent) → new.board ≡ published_on old.board (steps_of_batches done)
+      → new.taken ≡ old.taken ++ (text_of_batches old.collector done ++ sent)
+      → new.board ≡ published_on old.board (steps_of_batches done)
       → IsCut old new rounds
 
 -- rounds were taken, of which so much went out, and then what each worker still answered, to its last

@@ -9,7 +9,8 @@ use Rattle.mdp_engine.specs.Engine.{IsSettled}
 
 -- These events were taken in behind others. The moves that they add are appended; where memory ran out, a beginning of
 -- them, and the rest are those that are missing.
-pub record IsFedAll {E : Type 0} (listed : List Instrument) (before events : List Event) (old new : View) (turns turns' : List Move) (result : Result (Unit {0}) E) : Type 0 where
+pub record IsFedAll {E : Type 0} (listed : List Instrument) (before events : List Event) (old new : View)
+    (turns turns' : List Move) (result : Result (Unit {0}) E) : Type 0 where
   pub made : List Move
   pub rest : List Move
   pub appended : turns' ≡ turns ++ made
@@ -17,7 +18,8 @@ pub record IsFedAll {E : Type 0} (listed : List Instrument) (before events : Lis
   pub whole : OnOk result ((rest ≡ []) × IsSettled listed (before ++ events) new × (new.channel ≡ old.channel))
 
 -- the same of one event
-abbrev pub IsFed : {E : Type 0} → List Instrument → List Event → Event → View → View → List Move → List Move → Result (Unit {0}) E → Type 0
+abbrev pub IsFed : {E : Type 0} → List Instrument → List Event → Event → View → View → List Move → List Move
+    → Result (Unit {0}) E → Type 0
 IsFed listed before event old new turns turns' result = IsFedAll listed before (event ∷ []) old new turns turns' result
 
 -- ---- moves one after another
@@ -29,7 +31,8 @@ pub record HasComeTo (events : List Event) (made : List Move) (old new : View) :
   pub state : state new ≡ after_all (state old) made
 
 -- The moves that are possible are appended, one after another until none is; where memory ran out, a beginning of them.
-pub record MakesMoves {E : Type 0} (events : List Event) (old new : View) (turns turns' : List Move) (result : Result (Unit {0}) E) : Type 0 where
+pub record MakesMoves {E : Type 0} (events : List Event) (old new : View) (turns turns' : List Move)
+    (result : Result (Unit {0}) E) : Type 0 where
   pub made : List Move
   pub rest : List Move
   pub appended : turns' ≡ turns ++ made

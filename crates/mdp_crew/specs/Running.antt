@@ -20,7 +20,8 @@ pub record HasShownAll (channel : ListedChannel) (events : List Event) (start ta
   pub published : board' ≡ published_on board (board_steps channel.listed (moves_of channel events))
   pub standing_is : standing ≡ stands_after channel events
 
--- Of these moments, after whose text stands this end, a beginning was written, and of that a beginning at most was published.
+-- Of these moments, after whose text stands this end, a beginning was written, and of that a beginning at most was
+-- published.
 pub record WentOut (shown : List Moment) (end start taken : List ℕ) (board board' : Option Published) : Type 0 where
   pub sent : List ℕ
   pub steps : List Step
@@ -28,7 +29,8 @@ pub record WentOut (shown : List Moment) (end start taken : List ℕ) (board boa
   pub board_is : board' ≡ published_on board steps
   pub behind : IsBehind shown end sent steps
 
--- what a run comes to: where the channel stands, or why it stopped early; what the collector met goes before what the arbiter met
+-- what a run comes to: where the channel stands, or why it stopped early; what the collector met goes before what the
+-- arbiter met
 abbrev pub outcome_of : {E : Type 0} → Result (Unit {0}) Stop → Result Standing E → Result Standing Stop
 outcome_of (Err stop) standing = Err stop
 outcome_of (Ok done) (Ok standing) = Ok standing
@@ -38,4 +40,5 @@ outcome_of (Ok done) (Err memory) = Err Memory
 pub record HasShown (channel : ListedChannel) (events : List Event) (start taken : List ℕ)
     (board board' : Option Published) (outcome : Result Standing Stop) : Type 0 where
   pub all : IfOk outcome (λ (standing : Standing). HasShownAll channel events start taken board board' standing)
-  pub some : IfErr outcome (λ (stop : Stop). WentOut (moments channel.listed (moves_of channel events)) [] start taken board board')
+  pub some : IfErr outcome (λ (stop : Stop). WentOut
+      (moments channel.listed (moves_of channel events)) [] start taken board board')

@@ -23,7 +23,8 @@ use std::sync::Wait;
 /// The packets that came ahead of the next one.
 pub type Ring<A> = RingWindow<Packet<A>, A>;
 
-/// What the arbiter leaves: its ends of the intake and of the workers' lanes, and where the channel stands, unless memory ran out.
+/// What the arbiter leaves: its ends of the intake and of the workers' lanes, and where the channel stands, unless
+/// memory ran out.
 #[derive(Drop)]
 pub struct ArbiterOutcome<A: Allocator + Copy> {
     pub receiver: IntakeReceiver<Batch<A>, A>,
@@ -63,8 +64,11 @@ fn take_batch<R: Wait, A: Allocator + Copy>(
     last: &mut LastOrders<A>,
 ) -> Result<(), Memory>
     ensures takes { HasTakenMore receiver.old receiver.new }
-    ensures sends { OnOk result (SendsMore (events_taken receiver.old.taken) senders.old arbiter.old (events_taken receiver.new.taken) senders.new arbiter.new) }
-    ensures stops { IfErr result (λ _. StopsWithin (events_taken receiver.old.taken) senders.old arbiter.old (events_taken receiver.new.taken) senders.new) }
+    ensures sends { OnOk result (SendsMore (events_taken receiver.old.taken) senders.old arbiter.old
+        (events_taken receiver.new.taken) senders.new arbiter.new) }
+    ensures stops { IfErr result (λ _. StopsWithin
+        (events_taken receiver.old.taken) senders.old arbiter.old
+        (events_taken receiver.new.taken) senders.new) }
 {
     let (_, batch) = receiver.take(rt);
     send_on(rt, alloc, arbiter, batch.events, senders, last)
@@ -80,8 +84,11 @@ fn take_all<R: Wait, A: Allocator + Copy>(
 ) -> Result<(), Memory>
     ensures takes { HasTakenMore receiver.old receiver.new }
     ensures ends { OnOk result (ends_taken (λ b. b.is_last) receiver.new.taken ≡ 3) }
-    ensures sends { OnOk result (SendsMore (events_taken receiver.old.taken) senders.old arbiter.old (events_taken receiver.new.taken) senders.new arbiter.new) }
-    ensures stops { IfErr result (λ _. StopsWithin (events_taken receiver.old.taken) senders.old arbiter.old (events_taken receiver.new.taken) senders.new) }
+    ensures sends { OnOk result (SendsMore (events_taken receiver.old.taken) senders.old arbiter.old
+        (events_taken receiver.new.taken) senders.new arbiter.new) }
+    ensures stops { IfErr result (λ _. StopsWithin
+        (events_taken receiver.old.taken) senders.old arbiter.old
+        (events_taken receiver.new.taken) senders.new) }
 {
     let mut last = LastOrders::new();
     for _ in rt.forever() {
@@ -106,9 +113,9 @@ pub fn drain<R: Wait, A: Allocator + Copy>(rt: &R, receiver: &mut IntakeReceiver
     }
 }
 
-/// Takes all batches of the three readers, sends to all workers what their events make possible, and then that there is no more.
-/// After the first want of memory nothing more is made of events: the workers are told at once that there is no more, and what the
-/// readers still hand over is taken and let go.
+/// Takes all batches of the three readers, sends to all workers what their events make possible, and then that there is
+/// no more. After the first want of memory nothing more is made of events: the workers are told at once that there is
+/// no more, and what the readers still hand over is taken and let go.
 pub fn arbitrate<R: Wait, A: Allocator + Copy>(
     rt: &R,
     alloc: A,

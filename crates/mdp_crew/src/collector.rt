@@ -1,5 +1,5 @@
-//! The collector: it takes an answer of each worker, writes the text of that round and publishes its steps, and goes on until all have
-//! finished.
+//! The collector: it takes an answer of each worker, writes the text of that round and publishes its steps, and goes on
+//! until all have finished.
 
 ghost use Rattle.std.specs.Prelude.{◌≡◌, ◌<◌, ◌≤◌, ◌-◌, ◌^◌, ◌++◌, ℕ, false, List, OnOk, IfErr, IfNone, Result, Some, length, map, take, vec_len, vec_capacity};
 ghost use Rattle.std.specs.List.{list_any};
@@ -23,8 +23,10 @@ use std::sync::Wait;
 fn write_text<W: CountedWrite>(text: &[u8], written: &mut u64, writer: &mut W) -> Result<(), Stop>
     requires { W.failed writer.old < 2 ^ 64 - 1 }
     ensures text { OnOk result (W.taken writer.new ≡ W.taken writer.old ++ text.now) }
-    ensures begins { IfErr result (λ _. (n : ℕ) × (W.taken writer.new ≡ W.taken writer.old ++ take n text.now)) }
-    ensures counts { (start : List ℕ) → HasCounted start (W.taken writer.old) written.old → HasCounted start (W.taken writer.new) written.new }
+    ensures begins { IfErr result (λ _. (n : ℕ)
+        × (W.taken writer.new ≡ W.taken writer.old ++ take n text.now)) }
+    ensures counts { (start : List ℕ) → HasCounted start (W.taken writer.old) written.old
+        → HasCounted start (W.taken writer.new) written.new }
     ensures failed { FailsByStop result (W.failed writer.old) (W.failed writer.new) }
 {
     match write_all_counted(writer, text) {
@@ -98,7 +100,8 @@ impl<'s, A: Allocator + Copy> Collecting<'s, A> {
     fn make_text(&mut self, alloc: A) -> Result<(), Memory>
         ensures text { OnOk result (self.new.text.items
             ≡ text_of_batch self.old.collector (map told_in_answer self.old.round.items)) }
-        ensures steps { OnOk result (self.new.steps ≡ steps_of_batch (map told_in_answer self.old.round.items)) }
+        ensures steps { OnOk result (self.new.steps
+            ≡ steps_of_batch (map told_in_answer self.old.round.items)) }
         ensures kept { OnOk result (self.new.collector
             ≡ kept_after_batch self.old.collector (map told_in_answer self.old.round.items)) }
         ensures stays { (self.new.posts ≡ self.old.posts) × (self.new.round ≡ self.old.round) }
@@ -121,10 +124,12 @@ impl<'s, A: Allocator + Copy> Collecting<'s, A> {
         requires { W.failed writer.old < 2 ^ 64 - 1 }
         ensures shows { OnOk result (ShowsRound (showing self.old (W.taken writer.old) board.old)
             (showing self.new (W.taken writer.new) board.new) (map told_in_answer self.old.round.items)) }
-        ensures begins { IfErr result (λ _. CutShort (showing self.old (W.taken writer.old) board.old)
+        ensures begins { IfErr result (λ _. CutShort
+            (showing self.old (W.taken writer.old) board.old)
             (showing self.new (W.taken writer.new) board.new) (map told_in_answer self.old.round.items)) }
         ensures stays { (self.new.posts ≡ self.old.posts) × (self.new.round ≡ self.old.round) }
-        ensures counts { (start : List ℕ) → HasCounted start (W.taken writer.old) written.old → HasCounted start (W.taken writer.new) written.new }
+        ensures counts { (start : List ℕ) → HasCounted start (W.taken writer.old) written.old
+            → HasCounted start (W.taken writer.new) written.new }
         ensures failed { FailsByStop result (W.failed writer.old) (W.failed writer.new) }
     {
         let Ok(()) = self.make_text(alloc) else {
@@ -151,7 +156,8 @@ impl<'s, A: Allocator + Copy> Collecting<'s, A> {
         requires { W.failed writer.old < 2 ^ 64 - 1 }
         ensures turned { TurnsTo (showing self.old (W.taken writer.old) board.old)
             (showing self.new (W.taken writer.new) board.new) result }
-        ensures counts { (start : List ℕ) → HasCounted start (W.taken writer.old) written.old → HasCounted start (W.taken writer.new) written.new }
+        ensures counts { (start : List ℕ) → HasCounted start (W.taken writer.old) written.old
+            → HasCounted start (W.taken writer.new) written.new }
         ensures still { IfNone result (W.failed writer.new ≡ W.failed writer.old) }
         ensures failed { (outcome : Result (Unit {0}) Stop) → result ≡ Some outcome
             → FailsByStop outcome (W.failed writer.old) (W.failed writer.new) }
@@ -173,14 +179,15 @@ impl<'s, A: Allocator + Copy> Collecting<'s, A> {
         }
     }
 
-    /// Takes an answer of each worker, round by round, until all workers have finished: it writes the text of each round, and
-    /// then publishes its steps on the board, if there is one. From the first want of memory on, a worker's or its own, or from
-    /// a failed write on, it writes and publishes nothing more, and takes what each worker still answers, to the last.
+    /// Takes an answer of each worker, round by round, until all workers have finished: it writes the text of each
+    /// round, and then publishes its steps on the board, if there is one. From the first want of memory on, a worker's
+    /// or its own, or from a failed write on, it writes and publishes nothing more, and takes what each worker still
+    /// answers, to the last.
     ///
     /// # Errors
     ///
-    /// `Output` exactly where a write failed, else `Memory`. The text that went out is a beginning of that of the rounds taken,
-    /// and what was published a beginning of their steps.
+    /// `Output` exactly where a write failed, else `Memory`. The text that went out is a beginning of that of the
+    /// rounds taken, and what was published a beginning of their steps.
     pub fn collect<R: Wait, W: CountedWrite>(
         &mut self,
         rt: &R,
@@ -192,7 +199,8 @@ impl<'s, A: Allocator + Copy> Collecting<'s, A> {
         requires { W.failed writer.old < 2 ^ 64 - 1 }
         ensures ends { EndsCollecting (showing self.old (W.taken writer.old) board.old)
             (showing self.new (W.taken writer.new) board.new) result }
-        ensures counts { (start : List ℕ) → HasCounted start (W.taken writer.old) written.old → HasCounted start (W.taken writer.new) written.new }
+        ensures counts { (start : List ℕ) → HasCounted start (W.taken writer.old) written.old
+            → HasCounted start (W.taken writer.new) written.new }
         ensures failed { FailsByStop result (W.failed writer.old) (W.failed writer.new) }
     {
         for _ in rt.forever() {

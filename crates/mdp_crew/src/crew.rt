@@ -36,7 +36,8 @@ pub struct AnswersOrders<'s, A: Allocator + Copy> {
 impl<'s, A: Allocator + Copy> Promise<WorkerOutcome<A>> for AnswersOrders<'s, A> {
     ghost use Rattle.mdp_crew.specs.Work.{HasAnswered};
 
-    ghost kept_by = { λ p outcome. HasAnswered p.listed.value.now p.workers p.number p.orders.value p.answers.value outcome };
+    ghost kept_by = { λ p outcome. HasAnswered p.listed.value.now p.workers p.number p.orders.value p.answers.value
+        outcome };
 }
 
 /// What the collector has of a worker: the end that its answers come to, and its thread.
@@ -74,7 +75,8 @@ where
     requires taken { orders.taken ≡ [] }
     requires sent { answers.sent ≡ [] }
     ensures worker { IfOk result (λ h. IsWorker listed.now workers number h.promise) }
-    ensures ends { IfOk result (λ h. (h.promise.orders.value ≡ orders) × (h.promise.answers.value ≡ answers)) }
+    ensures ends { IfOk result (λ h. (h.promise.orders.value ≡ orders)
+        × (h.promise.answers.value ≡ answers)) }
 {
     let promise = AnswersOrders {
         listed: Snapshot::of(&listed),
@@ -142,8 +144,8 @@ fn dismiss<'s, R: Threads + Wait, A: Allocator + Copy>(
     }
 }
 
-/// Starts all workers, each with the securities of its own among the listed ones. Where one can't be started, those before it are
-/// ended.
+/// Starts all workers, each with the securities of its own among the listed ones. Where one can't be started, those
+/// before it are ended.
 ///
 /// # Errors
 ///
@@ -165,7 +167,8 @@ where
     A: 's,
     requires fit { AreFit listed.now }
     requires some { 1 ≤ workers }
-    ensures crew { IfOk result (λ hired. IsCrew listed.now workers workers hired.0.items hired.1.items) }
+    ensures crew { IfOk result (λ hired. IsCrew listed.now workers workers hired.0.items
+        hired.1.items) }
     ensures many { IfOk result (λ hired. vec_len hired.1 ≡ workers) }
 {
     let mut senders = Vec::with_capacity(alloc, usize::from(workers))?;
@@ -185,7 +188,8 @@ where
     Ok((senders, posts))
 }
 
-// Joins a worker, and settles its lanes. What was taken of it is a beginning of what it answers to the orders that it was sent.
+// Joins a worker, and settles its lanes. What was taken of it is a beginning of what it answers to the orders that it
+// was sent.
 fn let_go<'s, R: Threads, A: Allocator + Copy>(
     rt: &R,
     sender: LaneSender<Order<A>, A>,

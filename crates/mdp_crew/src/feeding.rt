@@ -74,8 +74,10 @@ fn feed<A: Allocator + Copy, W: Window<Packet<A>> + Drop>(
     event: Event<A>,
     turns: &mut Vec<Turn<A>, A>,
 ) -> Result<(), Memory>
-    ensures { (listed : List Instrument) (before : List Accepted) → IsSettled listed before arbiter.old
-        → IsFed listed before (event_of event) arbiter.old arbiter.new (map move_of turns.old.items) (map move_of turns.new.items) result }
+    ensures { (listed : List Instrument) (before : List Accepted)
+        → IsSettled listed before arbiter.old
+        → IsFed listed before (event_of event) arbiter.old arbiter.new (map move_of turns.old.items)
+        (map move_of turns.new.items) result }
 {
     take_in(arbiter, event)?;
     make_moves(alloc, arbiter, turns)
@@ -92,8 +94,10 @@ pub fn feed_all<A: Allocator + Copy, W: Window<Packet<A>> + Drop>(
     events: Vec<Event<A>, A>,
     turns: &mut Vec<Turn<A>, A>,
 ) -> Result<(), Memory>
-    ensures { (listed : List Instrument) (before : List Accepted) → IsSettled listed before arbiter.old
-        → IsFedAll listed before (map event_of events.items) arbiter.old arbiter.new (map move_of turns.old.items) (map move_of turns.new.items) result }
+    ensures { (listed : List Instrument) (before : List Accepted)
+        → IsSettled listed before arbiter.old
+        → IsFedAll listed before (map event_of events.items) arbiter.old arbiter.new (map move_of turns.old.items)
+        (map move_of turns.new.items) result }
 {
     for event in events {
         feed(alloc, arbiter, event, turns)?;

@@ -7,8 +7,8 @@ use std::alloc::Allocator;
 /// How many orders are held: more than a worker can be behind, which is a lane full of them and one at work.
 const MOST_HELD: usize = 80;
 
-/// Shares of the orders that were sent last. Who lets go of an order's last share frees its packets. Held here until the workers are
-/// through with it, that is the arbiter, which has less to do than they.
+/// Shares of the orders that were sent last. Who lets go of an order's last share frees its packets. Held here until
+/// the workers are through with it, that is the arbiter, which has less to do than they.
 #[derive(Drop)]
 pub struct LastOrders<A: Allocator> {
     shares: ArrayVec<Option<Steps<A>>, MOST_HELD>,

@@ -1,5 +1,6 @@
-//! The threads behind the readers: the arbiter's, which sends what events cause to all workers; the workers', each of which keeps the
-//! books of its own securities and answers what is printed of them; and what the caller's thread makes of their answers.
+//! The threads behind the readers: the arbiter's, which sends what events cause to all workers; the workers', each of
+//! which keeps the books of its own securities and answers what is printed of them; and what the caller's thread makes
+//! of their answers.
 #![tactic(auto)]
 
 mod arbiter;

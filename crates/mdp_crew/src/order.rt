@@ -63,7 +63,8 @@ fn send_shares<R: Wait, A: Allocator + Copy>(
     }
 }
 
-/// Sends the turns to each worker, and holds a share of them. All memory that this takes is taken before the first is sent to.
+/// Sends the turns to each worker, and holds a share of them. All memory that this takes is taken before the first is
+/// sent to.
 ///
 /// # Errors
 ///
@@ -75,7 +76,8 @@ pub fn send_steps<R: Wait, A: Allocator + Copy>(
     turns: Vec<Turn<A>, A>,
     last: &mut LastOrders<A>,
 ) -> Result<(), Memory>
-    ensures sends { OnOk result (senders.new ≡ map (and_sent (Order.Take (map move_of turns.items) ∷ [])) senders.old) }
+    ensures sends { OnOk result (senders.new
+        ≡ map (and_sent (Order.Take (map move_of turns.items) ∷ [])) senders.old) }
     ensures stays { IfErr result (λ _. senders.new ≡ senders.old) }
 {
     let steps = Steps::new(alloc, turns)?;

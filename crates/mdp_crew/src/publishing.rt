@@ -33,8 +33,13 @@ fn publish_all<R: Wait, A: Allocator + Copy>(
     publisher: &mut Publisher<A>,
     steps: &BoardSteps<A>,
 ) -> Result<(), Memory>
-    ensures all { OnOk result (publisher.new ≡ record publisher.old { steps = publisher.old.steps ++ steps.now }) }
-    ensures some { IfErr result (λ _. (n : ℕ) × (publisher.new ≡ record publisher.old { steps = publisher.old.steps ++ take n steps.now })) }
+    ensures all { OnOk result (publisher.new
+        ≡ record publisher.old { steps = publisher.old.steps ++ steps.now }) }
+    ensures some { IfErr result (λ _. (n : ℕ)
+        × (publisher.new ≡ record publisher.old {
+          steps = publisher.old.steps
+              ++ take n steps.now;
+        })) }
 {
     for n in 0..steps.len() {
         let Some(posting) = steps.at(n) else {
@@ -56,7 +61,8 @@ pub fn publish<R: Wait, A: Allocator + Copy>(
     steps: &BoardSteps<A>,
 ) -> Result<(), Memory>
     ensures all { OnOk result (board.new ≡ published_on board.old steps.now) }
-    ensures some { IfErr result (λ _. (n : ℕ) × (board.new ≡ published_on board.old (take n steps.now))) }
+    ensures some { IfErr result (λ _. (n : ℕ)
+        × (board.new ≡ published_on board.old (take n steps.now))) }
 {
     match board {
         Some(publisher) => publish_all(rt, publisher, steps),

@@ -18,7 +18,8 @@ pub fn take_round<R: Wait, A: Allocator + Copy>(
 )
     requires room { vec_len round.old + length posts.old ≤ vec_capacity round.old }
     requires empty { round.old.items ≡ [] }
-    ensures took { (length round.new.items ≡ length posts.old) × (posts.new ≡ all_took posts.old (one_each round.new.items)) }
+    ensures took { (length round.new.items ≡ length posts.old)
+        × (posts.new ≡ all_took posts.old (one_each round.new.items)) }
     ensures room { vec_capacity round.new ≡ vec_capacity round.old }
 {
     for post in posts.iter_mut() {
@@ -67,7 +68,8 @@ fn take_next<R: Wait, A: Allocator + Copy>(
     answers: &mut LaneReceiver<Answer<A>, A>,
     answer: &mut Answer<A>,
 )
-    ensures { (more : List (Answer A)) × (answers.new ≡ record answers.old { taken = answers.old.taken ++ more })
+    ensures { (more : List (Answer A)) ×
+        (answers.new ≡ record answers.old { taken = answers.old.taken ++ more })
         × (answer.new ≡ last_of answer.old more) }
 {
     if !tells(answer) {
@@ -79,7 +81,8 @@ fn take_next<R: Wait, A: Allocator + Copy>(
 // Takes the next answer of each worker that has not ended.
 fn drain_round<R: Wait, A: Allocator + Copy>(rt: &R, posts: &mut [Post<A>], round: &mut [Answer<A>])
     requires { length round.old ≡ length posts.old }
-    ensures { (more : List (List (Answer A))) × (length more ≡ length posts.old) × (posts.new ≡ all_took posts.old more)
+    ensures { (more : List (List (Answer A))) × (length more ≡ length posts.old)
+        × (posts.new ≡ all_took posts.old more)
         × (round.new ≡ lasts round.old more) }
 {
     for n in 0..posts.len() {
@@ -87,15 +90,17 @@ fn drain_round<R: Wait, A: Allocator + Copy>(rt: &R, posts: &mut [Post<A>], roun
     }
 }
 
-/// Takes all workers' answers up to their last ones, after this round. It takes one of each at a time: where it took all of
-/// one worker's first, the others would wait for room in their lanes, the arbiter for them, and that worker for the arbiter.
+/// Takes all workers' answers up to their last ones, after this round. It takes one of each at a time: where it took
+/// all of one worker's first, the others would wait for room in their lanes, the arbiter for them, and that worker for
+/// the arbiter.
 pub fn drain_all<R: Wait, A: Allocator + Copy>(
     rt: &R,
     posts: &mut [Post<A>],
     round: &mut [Answer<A>],
 )
     requires { length round.old ≡ length posts.old }
-    ensures { (more : List (List (Answer A))) × (length more ≡ length posts.old) × (posts.new ≡ all_took posts.old more)
+    ensures { (more : List (List (Answer A))) × (length more ≡ length posts.old)
+        × (posts.new ≡ all_took posts.old more)
         × (list_any is_told (lasts round.old more) ≡ false) }
 {
     for _ in rt.forever() {

@@ -246,15 +246,17 @@ where
     }
 }
 
-/// Runs over what three readers hand over, once they are told to go: an arbiter and so many workers in threads of the scope, and the
-/// collector on the caller's thread, which writes the text and publishes its steps on the board, if there is one. All that the readers
-/// hand over is taken, and all threads are joined, on every path. Where a thread can't be started the readers are told to stop; where
-/// it is the arbiter's, the caller's thread arbitrates what they put before.
+/// Runs over what three readers hand over, once they are told to go: an arbiter and so many workers in threads of the
+/// scope, and the collector on the caller's thread, which writes the text and publishes its steps on the board, if
+/// there is one. All that the readers hand over is taken, and all threads are joined, on every path. Where a thread
+/// can't be started the readers are told to stop; where it is the arbiter's, the caller's thread arbitrates what they
+/// put before.
 ///
 /// # Errors
 ///
-/// `Output` exactly where a write failed, else `Memory`, also where a worker's thread can't be started. What went out is a beginning of
-/// what the whole run shows, and what was published the steps of a beginning of that whose text went out whole.
+/// `Output` exactly where a write failed, else `Memory`, also where a worker's thread can't be started. What went out
+/// is a beginning of what the whole run shows, and what was published the steps of a beginning of that whose text went
+/// out whole.
 pub fn run_crew<'s, E, R, S, G, W, A>(
     rt: &'s R,
     scope: &'s Scope<'s, E>,

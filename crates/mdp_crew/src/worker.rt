@@ -23,8 +23,8 @@ pub struct WorkerOutcome<A: Allocator + Copy> {
     pub answers: LaneSender<Answer<A>, A>,
 }
 
-// Makes these steps, and reports them, with room for as much as was reported last. The gate is told of each step before, and they are
-// counted on.
+// Makes these steps, and reports them, with room for as much as was reported last. The gate is told of each step
+// before, and they are counted on.
 fn report<G: Gate, A: Allocator + Copy>(
     gate: &G,
     alloc: A,
@@ -34,8 +34,13 @@ fn report<G: Gate, A: Allocator + Copy>(
     room: &mut Room,
     turns: &[Turn<A>],
 ) -> Result<Reports<A>, Memory>
-    ensures worker { OnOk result (worker.new ≡ record worker.old { desks = desks_after_moves worker.old.slots (map move_of turns.now) worker.old.desks }) }
-    ensures reports { IfOk result (λ reports. reports ≡ reports_of_moves worker.old.slots (map move_of turns.now) worker.old.desks) }
+    ensures worker { OnOk result (worker.new
+        ≡ record worker.old {
+          desks = desks_after_moves worker.old.slots
+              (map move_of turns.now) worker.old.desks;
+        }) }
+    ensures reports { IfOk result (λ reports. reports
+        ≡ reports_of_moves worker.old.slots (map move_of turns.now) worker.old.desks) }
 {
     let mut reports = Reports::with_room(alloc, *room)?;
     for turn in turns {
@@ -92,8 +97,8 @@ fn answer_one<R: Wait, G: Gate, A: Allocator + Copy>(
     }
 }
 
-/// Answers each order with what is printed of the worker's own securities, up to the last one. After want of memory it answers that
-/// it failed, and takes the orders to the last.
+/// Answers each order with what is printed of the worker's own securities, up to the last one. After want of memory it
+/// answers that it failed, and takes the orders to the last.
 pub fn work<R: Wait, G: Gate, A: Allocator + Copy>(
     rt: &R,
     gate: &G,

@@ -84,7 +84,8 @@ passed_moments ms ds = moments_through (λ m desks. map (desk_seen m) desks) des
 
 -- a jump: the snapshot is the base and the book, and the security is due at the first event end behind it
 abbrev pub desk_rebased : SnapshotContent → Desk → Desk
-desk_rebased s d = record { instrument = d.instrument; base = s.last; book = book_of_snapshot d.instrument.depth s; marked = true }
+desk_rebased s d =
+    record { instrument = d.instrument; base = s.last; book = book_of_snapshot d.instrument.depth s; marked = true }
 
 abbrev pub desk_jumped : Option SnapshotContent → Desk → Desk
 desk_jumped None d = d

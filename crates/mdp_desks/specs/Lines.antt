@@ -44,18 +44,22 @@ seen_of id (Some s ∷ seen) = if int_eq s.instrument.id id then Some s else see
 
 -- the line of a spread's verdicts; a fault has no best levels, and then there is none
 abbrev pub verdicts_text : ℕ → ℕ → List ℕ → Option Best → Option Best → Option Best → List ℕ
-verdicts_text packet message name (Some spread) (Some leg1) (Some leg2) = audit_line packet message name (bid_verdict spread leg1 leg2) (offer_verdict spread leg1 leg2)
+verdicts_text packet message name (Some spread) (Some leg1) (Some leg2) =
+    audit_line packet message name (bid_verdict spread leg1 leg2) (offer_verdict spread leg1 leg2)
 verdicts_text packet message name spread leg1 leg2 = []
 
 -- a spread is audited where it and both its legs are seen, and one of the three is printed
 abbrev pub spread_text : ℕ → ℕ → Option Seen → Option Seen → Option Seen → List ℕ
 spread_text packet message (Some s) (Some leg1) (Some leg2) =
-    if s.printed || leg1.printed || leg2.printed then verdicts_text packet message s.instrument.name (best_of s.book) (best_of leg1.book) (best_of leg2.book) else []
+    if s.printed || leg1.printed || leg2.printed
+    then verdicts_text packet message s.instrument.name (best_of s.book) (best_of leg1.book) (best_of leg2.book)
+    else []
 spread_text packet message s leg1 leg2 = []
 
 abbrev pub legs_text : ℕ → ℕ → List (Option Seen) → Seen → InstrumentKind → List ℕ
 legs_text packet message seen s Outright = []
-legs_text packet message seen s (Calendar leg1 leg2) = spread_text packet message (Some s) (seen_of leg1 seen) (seen_of leg2 seen)
+legs_text packet message seen s (Calendar leg1 leg2) =
+    spread_text packet message (Some s) (seen_of leg1 seen) (seen_of leg2 seen)
 
 abbrev pub audit_text : ℕ → ℕ → List (Option Seen) → Option Seen → List ℕ
 audit_text packet message seen None = []

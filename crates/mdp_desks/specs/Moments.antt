@@ -1,5 +1,5 @@
--- What the moves show, moment by moment: at each event end what it shows of each listed security, and each jump. The lines that
--- are printed, the steps of a board and the reports of a worker are all read off these moments.
+-- What the moves show, moment by moment: at each event end what it shows of each listed security, and each jump. The
+-- lines that are printed, the steps of a board and the reports of a worker are all read off these moments.
 use Rattle.std.specs.Prelude.{Option, ℕ, List, [], ◌∷◌, ◌++◌, if◌then◌else◌, map}
 use Rattle.std.specs.List.{flat_map}
 use Rattle.mdp_templates.specs.declared.instrument.Instrument.{Instrument}
@@ -20,7 +20,8 @@ abbrev pub moment_at : Sent → List (Option Seen) → List Moment
 moment_at m seen = if m.end then ended m.packet m.message seen ∷ [] else []
 
 -- at each message in turn: what it shows where things stand so, and where they stand behind it
-abbrev pub moments_through : {S : Type 0} → (Sent → S → List (Option Seen)) → (Sent → S → S) → S → List Sent → List Moment
+abbrev pub moments_through : {S : Type 0} → (Sent → S → List (Option Seen)) → (Sent → S → S) → S → List Sent
+    → List Moment
 moments_through shows goes s [] = []
 moments_through shows goes s (m ∷ ms) = moment_at m (shows m s) ++ moments_through shows goes (goes m s) ms
 
@@ -51,7 +52,8 @@ moments listed moves = moments_after listed [] moves
 -- batch by batch, where the first comes after these moves
 abbrev pub moments_by : List Instrument → List Move → List (List Move) → List (List Moment)
 moments_by listed before [] = []
-moments_by listed before (batch ∷ batches) = moments_after listed before batch ∷ moments_by listed (before ++ batch) batches
+moments_by listed before (batch ∷ batches) =
+    moments_after listed before batch ∷ moments_by listed (before ++ batch) batches
 
 -- ---- the lines
 

@@ -16,7 +16,13 @@ pub record Told : Type 0 where
   pub top : Option TopOfBook
 
 abbrev pub told_of : ℕ → ℕ → ℕ → Seen → Told
-told_of packet message slot s = record { slot = slot; lines = book_lines packet message s.instrument.name s.book; best = best_of s.book; top = top_of_book s.book }
+told_of packet message slot s =
+    record {
+      slot = slot;
+      lines = book_lines packet message s.instrument.name s.book;
+      best = best_of s.book;
+      top = top_of_book s.book;
+    }
 
 abbrev pub told_there : ℕ → ℕ → ℕ → Option Seen → List Told
 told_there packet message slot None = []
@@ -44,5 +50,6 @@ report_by slots (leapt old new) = leaps old new
 
 -- what a worker reports of a moment of all securities
 abbrev pub report_of : (ℕ → Bool) → Moment → Report
-report_of mine (ended packet message seen) = tells packet message (filter (λ (t : Told). mine t.slot) (told_from packet message 0 seen))
+report_of mine (ended packet message seen) =
+    tells packet message (filter (λ (t : Told). mine t.slot) (told_from packet message 0 seen))
 report_of mine (leapt old new) = leaps old new

@@ -83,7 +83,8 @@ impl Desk {
         packet: u32,
         message: u64,
     ) -> Result<(), Memory>
-        ensures ok { OnOk result (out.new.items ≡ out.old.items ++ text_of packet message (desk_standing packet self.now)) }
+        ensures ok { OnOk result (out.new.items ≡ out.old.items
+            ++ text_of packet message (desk_standing packet self.now)) }
         ensures err { OnErr result (BeginsWith out.new.items out.old.items) }
     {
         if packet > self.base && self.marked {

@@ -37,8 +37,8 @@ impl<A: Allocator> Model for Desks<A> {
     ghost invariant = { λ d. AreBeside d.desks.items d.slots d.marked };
 }
 
-// Tells the place of the security that an entry names, if it is listed. The place at hand is looked at first, since entries in a row
-// often name one security.
+// Tells the place of the security that an entry names, if it is listed. The place at hand is looked at first, since
+// entries in a row often name one security.
 fn slot_named<A: Allocator + Copy>(
     slots: &Slots<A>,
     desks: &[Desk],
@@ -47,7 +47,8 @@ fn slot_named<A: Allocator + Copy>(
 ) -> Option<usize>
     requires { slots.now ≡ ids_of (listed_in desks.now) }
     ensures some { IfSome result (λ slot. slice_get slots.now slot ≡ Some entry.now.security) }
-    ensures none { IfNone result ((slot : ℕ) → slice_get slots.now slot ≡ Some entry.now.security → ⊥) }
+    ensures none { IfNone result ((slot : ℕ) → slice_get slots.now slot ≡ Some entry.now.security
+        → ⊥) }
 {
     if at_hand < desks.len() && desks[at_hand].instrument.id == entry.security {
         return Some(at_hand);
@@ -64,7 +65,8 @@ fn put_marked<A: Allocator>(
     marked: &Marked<A>,
 ) -> Result<(), Memory>
     requires { marked.now ≡ marks_of desks.now }
-    ensures ok { OnOk result (out.new.items ≡ out.old.items ++ flat_map (text_of packet message) (map (desk_standing packet) desks.now)) }
+    ensures ok { OnOk result (out.new.items ≡ out.old.items
+        ++ flat_map (text_of packet message) (map (desk_standing packet) desks.now)) }
     ensures err { OnErr result (BeginsWith out.new.items out.old.items) }
 {
     let mut from = 0;
@@ -144,7 +146,8 @@ impl<A: Allocator + Copy> Desks<A> {
         &self.slots
     }
 
-    // Takes an entry, which is for one desk at most, and tells that desk's place, or where there is none the one at hand.
+    // Takes an entry, which is for one desk at most, and tells that desk's place, or where there is none the one at
+    // hand.
     fn enter(&mut self, at_hand: usize, place: Place, entry: &Entry) -> usize
         ensures { self.new ≡ map (desk_heard place entry.now) self.old }
     {
@@ -172,10 +175,11 @@ impl<A: Allocator + Copy> Desks<A> {
         }
     }
 
-    /// Appends the lines of the books that an event end in message `message` of packet `packet` prints. Where memory runs out, what
-    /// was there stays in front.
+    /// Appends the lines of the books that an event end in message `message` of packet `packet` prints. Where memory
+    /// runs out, what was there stays in front.
     pub fn put_books(&self, out: &mut Vec<u8, A>, packet: u32, message: u64) -> Result<(), Memory>
-        ensures ok { OnOk result (out.new.items ≡ out.old.items ++ flat_map (text_of packet message) (map (desk_standing packet) self.now)) }
+        ensures ok { OnOk result (out.new.items ≡ out.old.items
+            ++ flat_map (text_of packet message) (map (desk_standing packet) self.now)) }
         ensures err { OnErr result (BeginsWith out.new.items out.old.items) }
     {
         put_marked(out, packet, message, &self.desks, &self.marked)

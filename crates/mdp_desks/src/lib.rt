@@ -1,5 +1,5 @@
-//! The desks of a channel's listed securities: each security's book, moved forward in place, and whether it is to be printed at
-//! the next event end.
+//! The desks of a channel's listed securities: each security's book, moved forward in place, and whether it is to be
+//! printed at the next event end.
 #![tactic(auto)]
 
 mod desk;

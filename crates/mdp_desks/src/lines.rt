@@ -19,7 +19,8 @@ fn put_totals<A: Allocator>(
     head: &Head,
     sides: &Sides,
 ) -> Result<TopOfBook, Memory>
-    ensures line { OnOk result (out.new.items ≡ out.old.items ++ consolidated_line head.now (quotes_of sides.now).bids (quotes_of sides.now).offers) }
+    ensures line { OnOk result (out.new.items ≡ out.old.items
+        ++ consolidated_line head.now (quotes_of sides.now).bids (quotes_of sides.now).offers) }
     ensures err { OnErr result (BeginsWith out.new.items out.old.items) }
     ensures top { IfOk result (λ top. top ≡ top_of_quotes (quotes_of sides.now)) }
 {
@@ -42,7 +43,8 @@ pub fn put_book<A: Allocator>(
     name: &Name,
     live: &Live,
 ) -> Result<Option<TopOfBook>, Memory>
-    ensures ok { OnOk result (out.new.items ≡ out.old.items ++ book_lines packet message name.now live.now) }
+    ensures ok { OnOk result (out.new.items ≡ out.old.items
+        ++ book_lines packet message name.now live.now) }
     ensures err { OnErr result (BeginsWith out.new.items out.old.items) }
     ensures top { IfOk result (λ top. top ≡ top_of_book live.now) }
 {

@@ -15,9 +15,18 @@ use Rattle.mdp_arbiter.specs.Machine.Move.{passed, jumped}
 -- leave out no packet behind the jump.
 abbrev pub AreOf : List Instrument → List PacketContent → ℕ → List Move → Type 0
 AreOf listed feed next [] = ⊤
-AreOf listed feed next (passed packet ∷ moves) = (packet.number ≡ next) × IsIn feed packet × AreOf listed feed (next + 1) moves
-AreOf listed feed next (jumped old new snapshots ∷ moves) = AllZip (λ (i : Instrument) (s : SnapshotContent). IsJumpedTo feed new i s) listed snapshots × AreOf listed feed new moves
+AreOf listed feed next (passed packet ∷ moves) =
+    (packet.number ≡ next) × IsIn feed packet × AreOf listed feed (next + 1) moves
+AreOf listed feed next (jumped old new snapshots ∷ moves) =
+    AllZip (λ (i : Instrument) (s : SnapshotContent). IsJumpedTo feed new i s) listed snapshots
+    × AreOf listed feed new moves
 
 -- a listed security as the complete feed has it: its book after the packet that is its base
 abbrev pub start_of : List PacketContent → Footing → Start
-start_of feed i = record { instrument = i.instrument; base = i.base; jumped = i.jumped; book = book_at i.instrument (sent_by (take i.base feed)) }
+start_of feed i =
+    record {
+      instrument = i.instrument;
+      base = i.base;
+      jumped = i.jumped;
+      book = book_at i.instrument (sent_by (take i.base feed));
+    }

@@ -50,11 +50,13 @@ pub record Stands (listed : List Instrument) (es : List Event) (drained : List �
 
 -- the text is the lines that the feed owes
 abbrev pub LawOfOwedText : Type 0
-LawOfOwedText = (listed : List Instrument) (feed : List PacketContent) (es : List Event) (drained : List ℕ) (v : View) → IsHonest listed feed es
+LawOfOwedText =
+    (listed : List Instrument) (feed : List PacketContent) (es : List Event) (drained : List ℕ) (v : View)
+    → IsHonest listed feed es
     → Stands listed es drained v → drained ++ v.held ≡ lines listed feed (steps_of (trace v.arbiter.channel es))
 
--- A desk has its security's book of the complete feed right before packet `next`, or right after its base where that is later, and is
--- marked if the security is due.
+-- A desk has its security's book of the complete feed right before packet `next`, or right after its base where that is
+-- later, and is marked if the security is due.
 pub record HoldsBook (feed : List PacketContent) (next : ℕ) (i : Start) (desk : Desk) : Type 0 where
   pub instrument : desk.instrument ≡ i.instrument
   pub base : desk.base ≡ i.base
@@ -63,23 +65,30 @@ pub record HoldsBook (feed : List PacketContent) (next : ℕ) (i : Start) (desk 
 
 -- and so has each desk of the listed securities, after the moves of the events
 abbrev pub LawOfOwedBooks : Type 0
-LawOfOwedBooks = (listed : List Instrument) (feed : List PacketContent) (es : List Event) (drained : List ℕ) (v : View) → IsHonest listed feed es
-    → Stands listed es drained v → AllZip (HoldsBook feed v.arbiter.next) (standing_after listed (trace v.arbiter.channel es)).starts v.desks
+LawOfOwedBooks =
+    (listed : List Instrument) (feed : List PacketContent) (es : List Event) (drained : List ℕ) (v : View)
+    → IsHonest listed feed es
+    → Stands listed es drained v → AllZip (HoldsBook feed v.arbiter.next)
+    (standing_after listed (trace v.arbiter.channel es)).starts v.desks
 
 -- ---- moves one after another
 
 -- an engine has taken in these events and shown these moves, and may make more
-pub record IsUnderWay (listed : List Instrument) (es : List Event) (moves : List Move) (drained : List ℕ) (v : View) : Type 0 where
+pub record IsUnderWay (listed : List Instrument) (es : List Event) (moves : List Move) (drained : List ℕ)
+    (v : View) : Type 0 where
   pub stands : StandsAt es v.arbiter
   pub ids : v.arbiter.channel.ids ≡ ids_of listed
   pub shows : Shows listed moves v.desks (drained ++ v.held)
 
 -- from one view to another the moves that are possible were made, until none is, and shown
-pub record HasMoved (listed : List Instrument) (es : List Event) (moves : List Move) (drained : List ℕ) (old new : View) : Type 0 where
+pub record HasMoved (listed : List Instrument) (es : List Event) (moves : List Move) (drained : List ℕ)
+    (old new : View) : Type 0 where
   pub made : List Move
   pub settles : Settles old.arbiter.channel es (state old.arbiter) made
   pub state : state new.arbiter ≡ after_all (state old.arbiter) made
   pub under_way : IsUnderWay listed es (moves ++ made) drained new
 
 abbrev pub Advances : View → View → Type 0
-Advances old new = (listed : List Instrument) (es : List Event) (moves : List Move) (drained : List ℕ) → IsUnderWay listed es moves drained old → HasMoved listed es moves drained old new
+Advances old new =
+    (listed : List Instrument) (es : List Event) (moves : List Move) (drained : List ℕ)
+    → IsUnderWay listed es moves drained old → HasMoved listed es moves drained old new

@@ -29,6 +29,7 @@ pub record IsSnapshotOf (feed : List PacketContent) (i : Instrument) (snapshot :
   pub book : book_of_snapshot i.depth snapshot ≡ book_at i (sent_by (take snapshot.last feed))
 
 -- a snapshot of the feed that leaves out no packet behind a jump to this number
-pub record IsJumpedTo (feed : List PacketContent) (next : ℕ) (i : Instrument) (snapshot : SnapshotContent) : Type 0 where
+pub record IsJumpedTo (feed : List PacketContent) (next : ℕ) (i : Instrument)
+    (snapshot : SnapshotContent) : Type 0 where
   pub covers : next ≤ snapshot.last + 1
   pub is : IsSnapshotOf feed i snapshot

@@ -1,4 +1,5 @@
--- A recovery written out: of two packets the first is lost on both feeds, and a snapshot that includes it comes after the second.
+-- A recovery written out: of two packets the first is lost on both feeds, and a snapshot that includes it comes after
+-- the second.
 use Rattle.std.specs.Prelude.{◌≡◌, ℕ, pos, true, List, [], ◌∷◌, codes}
 use Rattle.mdp_templates.specs.Packet.{PacketContent}
 use Rattle.mdp_templates.specs.Snapshot.{SnapshotContent}
@@ -23,7 +24,8 @@ packet_with number kind price size = record {
   number = number;
   messages =
       record {
-        entries = record { security = pos 1; kind = kind; action = New; level = 1; price = pos price; size = pos size } ∷ [];
+        entries = record { security = pos 1; kind = kind; action = New; level = 1; price = pos price; size = pos size }
+            ∷ [];
         end = true;
       }
       ∷ [];
@@ -51,4 +53,5 @@ first_is_lost = came (packet_with 2 Offer 103 4) ∷ recovered snapshot_of_first
 -- The feed is one that these events agree with, recovery jumps over packet 1, and packet 2 passes.
 abbrev pub LawOfARecovery : Type 0
 LawOfARecovery = IsHonest (near ∷ []) two_packets first_is_lost
-    × (moves_of (record { listed = near ∷ []; room = 1; start = FromOne }) first_is_lost ≡ jumped 1 2 (snapshot_of_first ∷ []) ∷ passed (packet_with 2 Offer 103 4) ∷ [])
+    × (moves_of (record { listed = near ∷ []; room = 1; start = FromOne }) first_is_lost
+    ≡ jumped 1 2 (snapshot_of_first ∷ []) ∷ passed (packet_with 2 Offer 103 4) ∷ [])

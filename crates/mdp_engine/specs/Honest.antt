@@ -15,7 +15,8 @@ use Rattle.mdp_arbiter.specs.Machine.{moves_of}
 pub record IsHonest (listed : List Instrument) (feed : List PacketContent) (es : List Event) : Type 0 where
   pub complete : IsFeed feed
   pub packets : (k : ℕ) → IfSome (first_of k (accepted_packets es)) (IsIn feed)
-  pub snapshots : (front rest : List Event) → es ≡ front ++ rest → AllByRecursion (λ (i : Instrument). IfSome (newest_snapshot i.id front) (IsSnapshotOf feed i)) listed
+  pub snapshots : (front rest : List Event) → es ≡ front ++ rest
+      → AllByRecursion (λ (i : Instrument). IfSome (newest_snapshot i.id front) (IsSnapshotOf feed i)) listed
 
 -- the moves of honest events are the complete feed's
 abbrev pub HonestMovesAgree : Type 0

@@ -1,4 +1,5 @@
--- The laws of moments: the moves of honest events have exactly the moments that the complete feed owes, from which text and board alike follow.
+-- The laws of moments: the moves of honest events have exactly the moments that the complete feed owes, from which text
+-- and board alike follow.
 use Rattle.std.specs.Prelude.{◌≡◌, ℕ, List}
 use Rattle.mdp_templates.specs.Packet.{PacketContent}
 use Rattle.mdp_templates.specs.declared.instrument.Instrument.{Instrument}
@@ -13,7 +14,8 @@ use Rattle.mdp_engine.specs.Owed.{steps_of, owed_moments}
 
 -- moves that are a complete feed's have the moments that the feed owes
 abbrev pub LawOfOwedMoments : Type 0
-LawOfOwedMoments = (listed : List Instrument) (feed : List PacketContent) (moves : List Move) → IsFeed feed → AreOf listed feed 1 moves
+LawOfOwedMoments =
+    (listed : List Instrument) (feed : List PacketContent) (moves : List Move) → IsFeed feed → AreOf listed feed 1 moves
     → moments listed moves ≡ owed_moments listed feed (steps_of moves)
 
 -- and so have the moves of events that agree with a complete feed

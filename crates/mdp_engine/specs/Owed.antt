@@ -1,5 +1,5 @@
--- Which moments a run owes, read off the complete feed: at each event end what it shows of each listed security, and each jump;
--- and the lines of these.
+-- Which moments a run owes, read off the complete feed: at each event end what it shows of each listed security, and
+-- each jump; and the lines of these.
 use Rattle.std.specs.Prelude.{ℕ, ◌-◌, List, [], ◌∷◌, ◌++◌, Bool, true, false, ◌&&◌, if◌then◌else◌, map, take, drop, nat_lt, Option, Some, None}
 use Rattle.mdp_templates.specs.Packet.{PacketContent}
 use Rattle.mdp_templates.specs.Snapshot.{SnapshotContent}
@@ -11,7 +11,8 @@ use Rattle.mdp_desks.specs.Lines.{Seen}
 use Rattle.mdp_desks.specs.Moments.{Moment, leapt, moments_through, and_then, text_of_moments}
 use Rattle.mdp_desks.specs.Due.{is_printed}
 
--- a step of a run: a packet passes, or recovery jumps from one number to a later one and sets each listed security's base
+-- a step of a run: a packet passes, or recovery jumps from one number to a later one and sets each listed security's
+-- base
 pub data Step : Type 0 where
   pass : ℕ → Step
   jump : ℕ → ℕ → List ℕ → Step
@@ -25,7 +26,8 @@ pub record Footing : Type 0 where
 abbrev pub footings_at_jump : List Instrument → List ℕ → List Footing
 footings_at_jump [] bases = []
 footings_at_jump (i ∷ is) [] = []
-footings_at_jump (i ∷ is) (base ∷ bases) = record { instrument = i; base = base; jumped = true } ∷ footings_at_jump is bases
+footings_at_jump (i ∷ is) (base ∷ bases) =
+    record { instrument = i; base = base; jumped = true } ∷ footings_at_jump is bases
 
 abbrev pub footings_before_jump : List Instrument → List Footing
 footings_before_jump listed = map (λ (i : Instrument). record { instrument = i; base = 0; jumped = false }) listed
@@ -34,10 +36,16 @@ abbrev pub footings_through : List Instrument → List Footing → Step → List
 footings_through listed so_far (pass k) = so_far
 footings_through listed so_far (jump old new bases) = footings_at_jump listed bases
 
--- What message m, which comes after the messages `before`, shows of a security, which hears what stands behind its base:
--- none where m ends no event, or doesn't stand behind that base.
+-- What message m, which comes after the messages `before`, shows of a security, which hears what stands behind its
+-- base: none where m ends no event, or doesn't stand behind that base.
 abbrev pub seen_at : List Sent → Sent → Footing → Option Seen
-seen_at before m i = if m.end && nat_lt i.base m.packet then Some (record { instrument = i.instrument; printed = is_printed i.instrument.id i.jumped (behind i.base before) m; book = book_at i.instrument (before ++ m ∷ []) }) else None
+seen_at before m i =
+    if m.end && nat_lt i.base m.packet then Some
+    (record {
+      instrument = i.instrument;
+      printed = is_printed i.instrument.id i.jumped (behind i.base before) m;
+      book = book_at i.instrument (before ++ m ∷ []);
+    }) else None
 
 -- at each message in turn, behind these ones
 abbrev pub owed_moments_from : List Footing → List Sent → List Sent → List Moment
@@ -45,12 +53,14 @@ owed_moments_from fs before ms = moments_through (λ m so_far. map (seen_at so_f
 
 -- those of a step, and of steps one after another, where the listed securities have these bases
 abbrev pub owed_moments_of : List PacketContent → List Footing → Step → List Moment
-owed_moments_of feed fs (pass k) = owed_moments_from fs (sent_by (take (k - 1) feed)) (sent_by (take 1 (drop (k - 1) feed)))
+owed_moments_of feed fs (pass k) =
+    owed_moments_from fs (sent_by (take (k - 1) feed)) (sent_by (take 1 (drop (k - 1) feed)))
 owed_moments_of feed fs (jump old new bases) = leapt old new ∷ []
 
 abbrev pub owed_moments_on : List Instrument → List PacketContent → List Footing → List Step → List Moment
 owed_moments_on listed feed fs [] = []
-owed_moments_on listed feed fs (s ∷ steps) = owed_moments_of feed fs s ++ owed_moments_on listed feed (footings_through listed fs s) steps
+owed_moments_on listed feed fs (s ∷ steps) =
+    owed_moments_of feed fs s ++ owed_moments_on listed feed (footings_through listed fs s) steps
 
 -- the moments that these steps owe under a complete feed
 abbrev pub owed_moments : List Instrument → List PacketContent → List Step → List Moment

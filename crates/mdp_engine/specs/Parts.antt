@@ -45,10 +45,12 @@ pub record IsQuiet (marks : List Bool) (spread : Spread) : Type 0 where
 
 -- of the spreads that are not marked, all are quiet
 abbrev pub AreQuiet : List Bool → List Spread → List Bool → Type 0
-AreQuiet marks spreads due = (n : ℕ) (d : Spread) → n < length spreads → get_or due n false ≡ false → IsQuiet marks (get_or spreads n d)
+AreQuiet marks spreads due =
+    (n : ℕ) (d : Spread) → n < length spreads → get_or due n false ≡ false → IsQuiet marks (get_or spreads n d)
 
 -- what stands beside the desks of listed securities: the spreads among them, their parts, and a mark for each spread
-pub record AreAudited (listed : List Instrument) (spreads : List Spread) (parts : List (List ℕ)) (due : List Bool) : Type 0 where
+pub record AreAudited (listed : List Instrument) (spreads : List Spread) (parts : List (List ℕ))
+    (due : List Bool) : Type 0 where
   pub spreads_are : AreSpreadsOf listed spreads
   pub parts_are : AreParts (length listed) (length spreads) spreads parts
   pub many : length due ≡ length spreads

@@ -23,7 +23,9 @@ Ascend listed next (jumped old new snapshots ∷ moves) = (length snapshots ≡ 
 
 -- whatever the number of workers, their reports give what the moves show
 abbrev pub LawOfWorkers : Type 0
-LawOfWorkers = (n : ℕ) (listed : List Instrument) (moves : List Move) → 1 ≤ n → AllPairs (λ a b. a ≢ b) (ids_of listed) → Ascend listed 1 moves
+LawOfWorkers =
+    (n : ℕ) (listed : List Instrument) (moves : List Move) → 1 ≤ n → AllPairs (λ a b. a ≢ b) (ids_of listed)
+    → Ascend listed 1 moves
     → collected_text listed (map (round_of n) (moments listed moves)) ≡ shown_lines listed moves
 
 -- the recovery machine's moves ascend, whatever came
@@ -32,20 +34,29 @@ LawOfAscent = (channel : ListedChannel) (es : List Event) → Ascend channel.lis
 
 -- batches of reports are the rounds of all their moments, however the moments are cut into batches
 abbrev pub LawOfBatches : Type 0
-LawOfBatches = (n : ℕ) (batches : List (List Moment)) → 1 ≤ n → all_rounds_in (map (batch_of n) batches) ≡ map (round_of n) (flat_map (λ (ms : List Moment). ms) batches)
+LawOfBatches =
+    (n : ℕ) (batches : List (List Moment)) → 1 ≤ n
+    → all_rounds_in (map (batch_of n) batches) ≡ map (round_of n) (flat_map (λ (ms : List Moment). ms) batches)
 
 -- what is made of the first rounds begins what is made of all
 abbrev pub LawOfFirstRounds : Type 0
-LawOfFirstRounds = (listed : List Instrument) (rounds more : List (List Report)) → (rest : List ℕ) × (collected_text listed (rounds ++ more) ≡ collected_text listed rounds ++ rest)
+LawOfFirstRounds =
+    (listed : List Instrument) (rounds more : List (List Report)) → (rest : List ℕ)
+    × (collected_text listed (rounds ++ more) ≡ collected_text listed rounds ++ rest)
 
 -- Whatever the number of workers and however their reports are cut into batches, of events that agree with a complete
 -- feed the text is that which the feed owes.
 abbrev pub LawOfRuns : Type 0
-LawOfRuns = (n : ℕ) (channel : ListedChannel) (feed : List PacketContent) (es : List Event) (batches : List (List Moment))
+LawOfRuns =
+    (n : ℕ) (channel : ListedChannel) (feed : List PacketContent) (es : List Event) (batches : List (List Moment))
     → 1 ≤ n → AllPairs (λ a b. a ≢ b) (ids_of channel.listed) → IsHonest channel.listed feed es
     → moments channel.listed (moves_of channel es) ≡ flat_map (λ (ms : List Moment). ms) batches
-    → collected_text channel.listed (all_rounds_in (map (batch_of n) batches)) ≡ lines channel.listed feed (steps_of (moves_of channel es))
+    → collected_text channel.listed (all_rounds_in (map (batch_of n) batches))
+    ≡ lines channel.listed feed (steps_of (moves_of channel es))
 
 -- the moments of moves that come batch by batch are those of all of them
 abbrev pub LawOfCuts : Type 0
-LawOfCuts = (listed : List Instrument) (batches : List (List Move)) → flat_map (λ (ms : List Moment). ms) (moments_by listed [] batches) ≡ moments listed (flat_map (λ (ms : List Move). ms) batches)
+LawOfCuts =
+    (listed : List Instrument) (batches : List (List Move))
+    → flat_map (λ (ms : List Moment). ms) (moments_by listed [] batches)
+    ≡ moments listed (flat_map (λ (ms : List Move). ms) batches)

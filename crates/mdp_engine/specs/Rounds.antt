@@ -31,8 +31,8 @@ abbrev pub told_in : Report → List Told
 told_in (tells packet message ts) = ts
 told_in (leaps old new) = []
 
--- ---- the values of the last audit, by slot: the best levels of the security where it was last printed; none of a fault,
--- and none from a jump on until it is printed
+-- ---- the values of the last audit, by slot: the best levels of the security where it was last printed; none of a
+-- fault, and none from a jump on until it is printed
 
 abbrev pub kept_with : List (Option Best) → Told → List (Option Best)
 kept_with kept t = set kept t.slot t.best
@@ -58,19 +58,22 @@ name_of (Some i) = i.name
 abbrev pub kept_line : ℕ → ℕ → List Instrument → List Told → List (Option Best) → Spread → List ℕ
 kept_line packet message listed ts kept spread =
     if is_told ts spread.slot || is_told ts spread.leg1 || is_told ts spread.leg2 then
-    verdicts_text packet message (name_of (slice_get listed spread.slot)) (best_kept (slice_get kept spread.slot)) (best_kept (slice_get kept spread.leg1)) (best_kept (slice_get kept spread.leg2))
+    verdicts_text packet message (name_of (slice_get listed spread.slot)) (best_kept (slice_get kept spread.slot))
+    (best_kept (slice_get kept spread.leg1)) (best_kept (slice_get kept spread.leg2))
     else []
 
 abbrev pub told_text : ℕ → ℕ → List Instrument → List Told → List (Option Best) → List ℕ
 told_text packet message listed ts kept =
-    flat_map (λ (t : Told). t.lines) ts ++ flat_map (kept_line packet message listed ts kept) (spreads_from 0 (ids_of listed) listed)
+    flat_map (λ (t : Told). t.lines) ts ++ flat_map (kept_line packet message listed ts kept)
+    (spreads_from 0 (ids_of listed) listed)
 
 -- ---- a round: one report of each worker
 
 abbrev pub round_text : List Instrument → List (Option Best) → List Report → List ℕ
 round_text listed kept [] = []
 round_text listed kept (tells packet message ts ∷ rest) =
-    told_text packet message listed (all_by_slot (ts ∷ map told_in rest)) (kept_after (all_by_slot (ts ∷ map told_in rest)) kept)
+    told_text packet message listed (all_by_slot (ts ∷ map told_in rest))
+    (kept_after (all_by_slot (ts ∷ map told_in rest)) kept)
 round_text listed kept (leaps old new ∷ rest) = jump_line old new
 
 abbrev pub kept_after_round : List (Option Best) → List Report → List (Option Best)
@@ -80,7 +83,8 @@ kept_after_round kept (leaps old new ∷ rest) = map (λ _. None) kept
 
 abbrev pub text_from : List Instrument → List (Option Best) → List (List Report) → List ℕ
 text_from listed kept [] = []
-text_from listed kept (round ∷ rounds) = round_text listed kept round ++ text_from listed (kept_after_round kept round) rounds
+text_from listed kept (round ∷ rounds) =
+    round_text listed kept round ++ text_from listed (kept_after_round kept round) rounds
 
 abbrev pub collected_text : List Instrument → List (List Report) → List ℕ
 collected_text listed rounds = text_from listed (kept_at_start listed) rounds

@@ -55,4 +55,5 @@ seen_there packet (Some d) = desk_standing packet d
 -- the line of the calendar spread at these places, where an event ends
 abbrev pub spread_line : ℕ → ℕ → List Desk → Spread → List ℕ
 spread_line packet message desks spread =
-    spread_text packet message (seen_there packet (slice_get desks spread.slot)) (seen_there packet (slice_get desks spread.leg1)) (seen_there packet (slice_get desks spread.leg2))
+    spread_text packet message (seen_there packet (slice_get desks spread.slot))
+    (seen_there packet (slice_get desks spread.leg1)) (seen_there packet (slice_get desks spread.leg2))

@@ -19,8 +19,8 @@ use mdp_templates::{Entry, Instrument, Memory, Message, Packet, Snapshot};
 use std::alloc::Allocator;
 use std::marker::Model;
 
-/// The desks of the listed securities and the places of the calendar spreads among them, seen as the list of desks. Between event
-/// ends no spread's mark in `due` is set.
+/// The desks of the listed securities and the places of the calendar spreads among them, seen as the list of desks.
+/// Between event ends no spread's mark in `due` is set.
 #[derive(Drop)]
 pub struct AuditedDesks<A: Allocator> {
     desks: Desks<A>,
@@ -71,7 +71,9 @@ impl<A: Allocator + Copy> AuditedDesks<A> {
     // Appends the lines of the calendar spreads that an event end audits.
     fn put_spreads(&mut self, out: &mut Vec<u8, A>, packet: u32, message: u64) -> Result<(), Memory>
         ensures same { self.new ≡ self.old }
-        ensures text { OnOk result (out.new.items ≡ out.old.items ++ flat_map (audit_text packet message (map (desk_standing packet) self.old)) (map (desk_standing packet) self.old)) }
+        ensures text { OnOk result (out.new.items ≡ out.old.items
+            ++ flat_map (audit_text packet message (map (desk_standing packet) self.old))
+            (map (desk_standing packet) self.old)) }
         ensures err { OnErr result (BeginsWith out.new.items out.old.items) }
     {
         mark_spreads(&mut self.due, self.desks.marked(), &self.parts);
@@ -90,7 +92,8 @@ impl<A: Allocator + Copy> AuditedDesks<A> {
     #[tactic(auto, unfolding(mdp_desks::specs::Lines::lines_as))]
     fn put(&mut self, out: &mut Vec<u8, A>, packet: u32, message: u64) -> Result<(), Memory>
         ensures same { self.new ≡ self.old }
-        ensures text { OnOk result (out.new.items ≡ out.old.items ++ lines_as packet message (map (desk_standing packet) self.old)) }
+        ensures text { OnOk result (out.new.items ≡ out.old.items
+            ++ lines_as packet message (map (desk_standing packet) self.old)) }
         ensures err { OnErr result (BeginsWith out.new.items out.old.items) }
     {
         self.desks.put_books(out, packet, message)?;
@@ -112,8 +115,10 @@ impl<A: Allocator + Copy> AuditedDesks<A> {
         message: u64,
         taken: &Message<'_>,
     ) -> Result<(), Memory>
-        ensures desks { OnOk result (self.new ≡ desks_after (sent_as packet message taken.now) self.old) }
-        ensures text { OnOk result (out.new.items ≡ out.old.items ++ text_of_moments (desks_moment (sent_as packet message taken.now) self.old)) }
+        ensures desks { OnOk result (self.new
+            ≡ desks_after (sent_as packet message taken.now) self.old) }
+        ensures text { OnOk result (out.new.items ≡ out.old.items
+            ++ text_of_moments (desks_moment (sent_as packet message taken.now) self.old)) }
         ensures err { OnErr result (BeginsWith out.new.items out.old.items) }
     {
         self.hear(packet, message, taken.entries());
@@ -128,7 +133,8 @@ impl<A: Allocator + Copy> AuditedDesks<A> {
     /// desks are of no more use, and what the text had before stands in front of it.
     pub fn pass(&mut self, out: &mut Vec<u8, A>, packet: &Packet<A>) -> Result<(), Memory>
         ensures desks { OnOk result (self.new ≡ passed_desks (sent_in packet.now) self.old) }
-        ensures text { OnOk result (out.new.items ≡ out.old.items ++ text_of_moments (passed_moments (sent_in packet.now) self.old)) }
+        ensures text { OnOk result (out.new.items ≡ out.old.items
+            ++ text_of_moments (passed_moments (sent_in packet.now) self.old)) }
         ensures err { OnErr result (BeginsWith out.new.items out.old.items) }
     {
         let number = packet.number();
@@ -146,8 +152,8 @@ impl<A: Allocator + Copy> AuditedDesks<A> {
     }
 
     /// Jumps from packet number `old` to `new`: appends the line of the jump, and replaces each book by its security's
-    /// snapshot, listed side by side, where there is one. After want of memory the desks are of no more use, and what the text had before stands
-    /// in front of it.
+    /// snapshot, listed side by side, where there is one. After want of memory the desks are of no more use, and what
+    /// the text had before stands in front of it.
     pub fn jump(
         &mut self,
         out: &mut Vec<u8, A>,

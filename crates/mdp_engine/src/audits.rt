@@ -27,7 +27,8 @@ pub fn put_verdicts<A: Allocator>(
     leg1: Option<Best>,
     leg2: Option<Best>,
 ) -> Result<(), Memory>
-    ensures ok { OnOk result (out.new.items ≡ out.old.items ++ verdicts_text packet message name.now spread leg1 leg2) }
+    ensures ok { OnOk result (out.new.items ≡ out.old.items
+        ++ verdicts_text packet message name.now spread leg1 leg2) }
     ensures err { OnErr result (BeginsWith out.new.items out.old.items) }
 {
     match (spread, leg1, leg2) {
@@ -42,7 +43,8 @@ pub fn put_verdicts<A: Allocator>(
 /// Tells whether one of the marks of a spread and its legs is set.
 pub fn is_one_marked<A: Allocator>(marked: &Marked<A>, spread: &Spread) -> bool
     requires { IsUnder (length marked.now) spread.now }
-    ensures { result ≡ (get_or marked.now spread.now.slot false || get_or marked.now spread.now.leg1 false || get_or marked.now spread.now.leg2 false) }
+    ensures { result ≡ (get_or marked.now spread.now.slot false
+        || get_or marked.now spread.now.leg1 false || get_or marked.now spread.now.leg2 false) }
 {
     is_one_set(
         marked.is_set(spread.slot),
@@ -60,7 +62,8 @@ fn is_one_set(spread: bool, leg1: bool, leg2: bool) -> bool
 
 // Tells whether the packet stands behind the bases of all three.
 fn are_current(packet: u32, spread: &Desk, leg1: &Desk, leg2: &Desk) -> bool
-    ensures { result ≡ (nat_lt spread.now.base packet && nat_lt leg1.now.base packet && nat_lt leg2.now.base packet) }
+    ensures { result ≡ (nat_lt spread.now.base packet && nat_lt leg1.now.base packet
+        && nat_lt leg2.now.base packet) }
 {
     packet > spread.base && packet > leg1.base && packet > leg2.base
 }
@@ -78,7 +81,9 @@ fn put_spread<A: Allocator>(
     is_one_marked: bool,
 ) -> Result<(), Memory>
     requires { is_one_marked ≡ (spread.now.marked || leg1.now.marked || leg2.now.marked) }
-    ensures ok { OnOk result (out.new.items ≡ out.old.items ++ spread_text packet message (desk_standing packet spread.now) (desk_standing packet leg1.now) (desk_standing packet leg2.now)) }
+    ensures ok { OnOk result (out.new.items ≡ out.old.items
+        ++ spread_text packet message (desk_standing packet spread.now)
+        (desk_standing packet leg1.now) (desk_standing packet leg2.now)) }
     ensures err { OnErr result (BeginsWith out.new.items out.old.items) }
 {
     if !is_one_marked {
@@ -109,7 +114,8 @@ fn put_audit_at<A: Allocator>(
 ) -> Result<(), Memory>
     requires marks { marked.now ≡ marks_of desks.now }
     requires under { IsUnder (length desks.now) spread.now }
-    ensures ok { OnOk result (out.new.items ≡ out.old.items ++ spread_line packet message desks.now spread.now) }
+    ensures ok { OnOk result (out.new.items ≡ out.old.items
+        ++ spread_line packet message desks.now spread.now) }
     ensures err { OnErr result (BeginsWith out.new.items out.old.items) }
 {
     put_spread(
@@ -127,8 +133,8 @@ fn put_audit_at<A: Allocator>(
     )
 }
 
-/// Appends the lines that an event end owes of the calendar spreads among these securities. Only spreads that are marked in `due`
-/// are looked at, and their marks go.
+/// Appends the lines that an event end owes of the calendar spreads among these securities. Only spreads that are
+/// marked in `due` are looked at, and their marks go.
 pub(crate) fn put_audits<A: Allocator>(
     out: &mut Vec<u8, A>,
     packet: u32,
@@ -143,7 +149,9 @@ pub(crate) fn put_audits<A: Allocator>(
     requires many { length due.old ≡ length spreads.now }
     requires quiet { AreQuiet marked.now spreads.now due.old }
     ensures long { length due.new ≡ length due.old }
-    ensures text { OnOk result (out.new.items ≡ out.old.items ++ flat_map (audit_text packet message (map (desk_standing packet) desks.now)) (map (desk_standing packet) desks.now)) }
+    ensures text { OnOk result (out.new.items ≡ out.old.items
+        ++ flat_map (audit_text packet message (map (desk_standing packet) desks.now))
+        (map (desk_standing packet) desks.now)) }
     ensures err { OnErr result (BeginsWith out.new.items out.old.items) }
 {
     let mut from = 0;

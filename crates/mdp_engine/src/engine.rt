@@ -85,7 +85,8 @@ impl<A: Allocator + Copy, W: Window<Packet<A>> + Drop> Engine<A, W> {
         ensures next { result ≡ self.now.arbiter.next }
         ensures least { 1 ≤ result }
         ensures most { result ≤ 4294967296 }
-        ensures stands { (listed : List Instrument) (es : List Accepted) (drained : List ℕ) → Stands listed es drained self.now
+        ensures stands { (listed : List Instrument) (es : List Accepted) (drained : List ℕ)
+            → Stands listed es drained self.now
             → result ≡ (state_at self.now.arbiter.channel es).next }
     {
         self.arbiter.next()
@@ -95,17 +96,21 @@ impl<A: Allocator + Copy, W: Window<Packet<A>> + Drop> Engine<A, W> {
     /// the next one is given up.
     pub fn lost(&self) -> bool
         ensures now { result ≡ is_lost_now self.now.arbiter }
-        ensures stands { (listed : List Instrument) (es : List Accepted) (drained : List ℕ) → Stands listed es drained self.now
+        ensures stands { (listed : List Instrument) (es : List Accepted) (drained : List ℕ)
+            → Stands listed es drained self.now
             → result ≡ is_lost self.now.arbiter.channel es (state_at self.now.arbiter.channel es) }
     {
         self.arbiter.lost()
     }
 
-    /// Tells whether a packet of this number would change nothing, whatever it says: its number has passed or was given up.
+    /// Tells whether a packet of this number would change nothing, whatever it says: its number has passed or was given
+    /// up.
     pub fn is_past(&self, number: u32) -> bool
         ensures now { result ≡ nat_lt number self.now.arbiter.next }
-        ensures stands { result ≡ true → (listed : List Instrument) (es : List Accepted) (drained : List ℕ) (packet : PacketContent)
-            → packet.number ≡ number → Stands listed es drained self.now → Stands listed (es ++ came packet ∷ []) drained self.now }
+        ensures stands { result ≡ true → (listed : List Instrument) (es : List Accepted)
+            (drained : List ℕ) (packet : PacketContent)
+            → packet.number ≡ number → Stands listed es drained self.now
+            → Stands listed (es ++ came packet ∷ []) drained self.now }
     {
         u64::from(number) < self.next()
     }
@@ -116,7 +121,8 @@ impl<A: Allocator + Copy, W: Window<Packet<A>> + Drop> Engine<A, W> {
     ///
     /// Memory ran out, now or in an earlier call.
     pub fn on(&mut self, event: Event<A>) -> Result<(), Memory>
-        ensures stands { OnOk result ((listed : List Instrument) (es : List Accepted) (drained : List ℕ) → Stands listed es drained self.old
+        ensures stands { OnOk result ((listed : List Instrument) (es : List Accepted)
+            (drained : List ℕ) → Stands listed es drained self.old
             → Stands listed (es ++ event_of event ∷ []) drained self.new) }
         ensures channel { OnOk result (self.new.arbiter.channel ≡ self.old.arbiter.channel) }
         ensures sound { OnOk result (self.new.has_failed ≡ false) }
@@ -140,7 +146,8 @@ impl<A: Allocator + Copy, W: Window<Packet<A>> + Drop> Engine<A, W> {
     pub fn drain_lines(&mut self, out: &mut Vec<u8, A>) -> Result<(), Memory>
         ensures text { OnOk result (out.new.items ≡ out.old.items ++ self.old.held) }
         ensures drained { OnOk result (self.new ≡ record self.old { held = [] }) }
-        ensures stands { OnOk result ((listed : List Instrument) (es : List Accepted) (drained : List ℕ) → Stands listed es drained self.old
+        ensures stands { OnOk result ((listed : List Instrument) (es : List Accepted)
+            (drained : List ℕ) → Stands listed es drained self.old
             → Stands listed es (drained ++ self.old.held) self.new) }
         ensures kept { IfErr result (λ _. out.new.items ≡ out.old.items) }
         ensures fails { IfErr result (λ _. self.new.has_failed ≡ true) }
@@ -162,10 +169,12 @@ impl<A: Allocator + Copy, W: Window<Packet<A>> + Drop> Engine<A, W> {
         self.held.as_slice()
     }
 
-    /// Forgets the lines that are held, since they were handed on, and keeps the room that they took for those that come.
+    /// Forgets the lines that are held, since they were handed on, and keeps the room that they took for those that
+    /// come.
     pub fn clear_lines(&mut self)
         ensures drained { self.new ≡ record self.old { held = [] } }
-        ensures stands { (listed : List Instrument) (es : List Accepted) (drained : List ℕ) → Stands listed es drained self.old
+        ensures stands { (listed : List Instrument) (es : List Accepted) (drained : List ℕ)
+            → Stands listed es drained self.old
             → Stands listed es (drained ++ self.old.held) self.new }
     {
         self.held.clear();
@@ -184,7 +193,8 @@ impl<A: Allocator + Copy, W: Window<Packet<A>> + Drop> Engine<A, W> {
 
     // Takes in an event, and makes moves until none is possible.
     fn advance(&mut self, event: Event<A>) -> Result<(), Memory>
-        ensures stands { OnOk result ((listed : List Instrument) (es : List Accepted) (drained : List ℕ) → Stands listed es drained self.old
+        ensures stands { OnOk result ((listed : List Instrument) (es : List Accepted)
+            (drained : List ℕ) → Stands listed es drained self.old
             → Stands listed (es ++ event_of event ∷ []) drained self.new) }
         ensures channel { OnOk result (self.new.arbiter.channel ≡ self.old.arbiter.channel) }
         ensures sound { OnOk result (self.new.has_failed ≡ self.old.has_failed) }
@@ -200,7 +210,8 @@ impl<A: Allocator + Copy, W: Window<Packet<A>> + Drop> Engine<A, W> {
 
     // Takes in a packet that passes at once and shows it, where the event is one, and tells whether it is.
     fn pass_at_once(&mut self, event: &Event<A>) -> Result<bool, Memory>
-        ensures passed { IfOk result (λ passed. passed ≡ true → (listed : List Instrument) (es : List Accepted) (drained : List ℕ)
+        ensures passed { IfOk result (λ passed. passed ≡ true
+            → (listed : List Instrument) (es : List Accepted) (drained : List ℕ)
             → Stands listed es drained self.old → Stands listed (es ++ event_of event.now ∷ []) drained self.new) }
         ensures kept { IfOk result (λ passed. passed ≡ false → self.new ≡ self.old) }
         ensures channel { OnOk result (self.new.arbiter.channel ≡ self.old.arbiter.channel) }
@@ -219,7 +230,8 @@ impl<A: Allocator + Copy, W: Window<Packet<A>> + Drop> Engine<A, W> {
 
     // Takes in an event, and makes no move.
     fn take_in(&mut self, event: Event<A>) -> Result<(), Memory>
-        ensures stands { OnOk result ((es : List Accepted) → StandsAt es self.old.arbiter → StandsAt (es ++ event_of event ∷ []) self.new.arbiter) }
+        ensures stands { OnOk result ((es : List Accepted) → StandsAt es self.old.arbiter
+            → StandsAt (es ++ event_of event ∷ []) self.new.arbiter) }
         ensures keeps { OnOk result (state self.new.arbiter ≡ state self.old.arbiter) }
         ensures channel { OnOk result (self.new.arbiter.channel ≡ self.old.arbiter.channel) }
         ensures rest { OnOk result (self.new ≡ record self.old { arbiter = self.new.arbiter }) }
@@ -243,8 +255,10 @@ impl<A: Allocator + Copy, W: Window<Packet<A>> + Drop> Engine<A, W> {
 
     // Shows a step: a packet that passes, or a jump to the newest snapshots, which the arbiter took.
     fn take_step(&mut self, step: Step<A>) -> Result<(), Memory>
-        ensures desks { OnOk result (self.new.desks ≡ stepped_desks step self.old.arbiter.newest self.old.desks) }
-        ensures text { OnOk result (self.new.held ≡ self.old.held ++ stepped_text step self.old.desks) }
+        ensures desks { OnOk result (self.new.desks
+            ≡ stepped_desks step self.old.arbiter.newest self.old.desks) }
+        ensures text { OnOk result (self.new.held ≡ self.old.held
+            ++ stepped_text step self.old.desks) }
         ensures arbiter { OnOk result (self.new.arbiter ≡ self.old.arbiter) }
         ensures sound { OnOk result (self.new.has_failed ≡ self.old.has_failed) }
         ensures err { OnErr result (BeginsWith self.new.held self.old.held) }
@@ -263,8 +277,8 @@ impl<A: Allocator + Copy, W: Window<Packet<A>> + Drop> Engine<A, W> {
     }
 }
 
-/// Gives the lines that the moves of these events show, which are those that each complete feed owes that agrees with them, from an
-/// engine of its own. The conditions are those of [`Engine::new`].
+/// Gives the lines that the moves of these events show, which are those that each complete feed owes that agrees with
+/// them, from an engine of its own. The conditions are those of [`Engine::new`].
 ///
 /// # Errors
 ///
@@ -281,10 +295,13 @@ pub fn replay<A: Allocator + Copy, W: Window<Packet<A>> + Drop>(
     requires empty { (W.view window).held ≡ map.empty }
     ensures shown { IfOk result (λ text. text.items
         ≡ shown_lines instruments.now
-        (moves_of (record { listed = instruments.now; room = (W.view window).room; start = start }) (map event_of events.now))) }
-    ensures owed { IfOk result (λ text. (feed : List PacketContent) → IsHonest instruments.now feed (map event_of events.now)
+        (moves_of (record { listed = instruments.now; room = (W.view window).room; start = start })
+        (map event_of events.now))) }
+    ensures owed { IfOk result (λ text. (feed : List PacketContent)
+        → IsHonest instruments.now feed (map event_of events.now)
         → text.items ≡ lines instruments.now feed (steps_of
-        (moves_of (record { listed = instruments.now; room = (W.view window).room; start = start }) (map event_of events.now)))) }
+        (moves_of (record { listed = instruments.now; room = (W.view window).room; start = start })
+        (map event_of events.now)))) }
 {
     let mut engine = Engine::new(alloc, instruments, window, start)?;
     for event in events {

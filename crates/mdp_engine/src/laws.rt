@@ -13,13 +13,14 @@ pub fn honest_moves_agree()
     ensures { HonestMovesAgree }
 {}
 
-/// Proves that what an engine has given out and holds, whose events agree with a complete feed, is the lines that the feed owes.
+/// Proves that what an engine has given out and holds, whose events agree with a complete feed, is the lines that the
+/// feed owes.
 pub fn law_of_owed_text()
     ensures { LawOfOwedText }
 {}
 
-/// Proves that the desks of an engine whose events agree with a complete feed hold that feed's books: each right before the packet
-/// that comes next, or right after its snapshot's packet where that is later.
+/// Proves that the desks of an engine whose events agree with a complete feed hold that feed's books: each right before
+/// the packet that comes next, or right after its snapshot's packet where that is later.
 pub fn law_of_owed_books()
     ensures { LawOfOwedBooks }
 {}
@@ -30,8 +31,8 @@ pub fn honest_feeds_exist()
     ensures { LawOfHonestFeeds }
 {}
 
-/// Proves that there are events which agree with a complete feed, and of which recovery jumps: packet 1 is lost, a snapshot that
-/// includes it comes, and packet 2 passes behind it.
+/// Proves that there are events which agree with a complete feed, and of which recovery jumps: packet 1 is lost, a
+/// snapshot that includes it comes, and packet 2 passes behind it.
 pub fn law_of_a_recovery()
     ensures { LawOfARecovery }
 {}

@@ -54,7 +54,8 @@ pub fn parts_of<A: Allocator + Copy>(
     spreads: &[Spread],
 ) -> Result<Vec<Vec<usize, A>, A>, Memory>
     requires { All (IsUnder count) spreads.now }
-    ensures { IfOk result (λ parts. AreParts count (length spreads.now) spreads.now (lists_in parts.items)) }
+    ensures { IfOk result (λ parts. AreParts count (length spreads.now) spreads.now
+        (lists_in parts.items)) }
 {
     let mut parts = no_parts(alloc, count)?;
     for n in 0..spreads.len() {

@@ -21,7 +21,8 @@ pub fn take_in<A: Allocator + Copy, W: Window<Packet<A>> + Drop>(
     arbiter: &mut Arbiter<A, W>,
     event: Event<A>,
 ) -> Result<(), Memory>
-    ensures stands { OnOk result ((before : List Accepted) → StandsAt before arbiter.old → StandsAt (before ++ event_of event ∷ []) arbiter.new) }
+    ensures stands { OnOk result ((before : List Accepted) → StandsAt before arbiter.old
+        → StandsAt (before ++ event_of event ∷ []) arbiter.new) }
     ensures keeps { OnOk result (state arbiter.new ≡ state arbiter.old) }
     ensures channel { OnOk result (arbiter.new.channel ≡ arbiter.old.channel) }
 {

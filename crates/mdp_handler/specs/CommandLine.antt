@@ -76,7 +76,8 @@ IsSetting name most default words n =
 abbrev pub IsFlag : Text → List Text → Bool → Type 0
 IsFlag name words given =
     let read = one_of name (matches_of options words) in
-    (read ≡ Some (codes "true") → given ≡ true) × (read ≡ Some (codes "false") → given ≡ false) × (read ≡ None → given ≡ false)
+    (read ≡ Some (codes "true") → given ≡ true) × (read ≡ Some (codes "false") → given ≡ false)
+    × (read ≡ None → given ≡ false)
 
 -- where a run starts that joins a running channel, or doesn't
 abbrev pub start_asked : Bool → Start

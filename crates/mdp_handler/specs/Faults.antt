@@ -30,7 +30,8 @@ skipped_line skipped =
 abbrev pub skipped_lines : List SkippedLine → List ℕ
 skipped_lines = flat_map skipped_line
 
--- Of a text all is sent, but for at most so many stretches that are left out. Nothing is sent twice or in another order.
+-- Of a text all is sent, but for at most so many stretches that are left out. Nothing is sent twice or in another
+-- order.
 abbrev pub LeavesOut : ℕ → List ℕ → List ℕ → Type 0
 LeavesOut zero text sent = sent ≡ text
 LeavesOut (suc most) text sent =
@@ -41,4 +42,5 @@ LeavesOut (suc most) text sent =
 -- many writes failed as can be counted, nothing is known.
 pub record Tells {W : Type 0} (failed : W → ℕ) (taken : W → List ℕ) (old new : W) (text : List ℕ) : Type 0 where
   pub failures : failed old ≤ failed new
-  pub told : failed new < 2 ^ 64 - 1 → (sent : List ℕ) × (taken new ≡ taken old ++ sent) × LeavesOut (failed new - failed old) text sent
+  pub told : failed new < 2 ^ 64 - 1 → (sent : List ℕ) × (taken new ≡ taken old ++ sent)
+      × LeavesOut (failed new - failed old) text sent

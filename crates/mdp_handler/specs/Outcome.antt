@@ -20,7 +20,8 @@ HasCapture input capture = IfSome input (λ text. capture_of text ≡ Ok capture
 -- A run to its end has printed its text, and told each skipped line.
 abbrev pub HasRun : Option (List ℕ) → Settings → List ℕ → List ℕ → (List ℕ → Type 0) → Type 0
 HasRun input settings before after Told =
-    (capture : CaptureContent) × HasCapture input capture × HasPrinted capture settings before after × Told (skipped_lines capture.skipped)
+    (capture : CaptureContent) × HasCapture input capture × HasPrinted capture settings before after
+    × Told (skipped_lines capture.skipped)
 
 -- Status 0: a run to its end; or the help or the version was shown, and nothing told.
 abbrev pub HasDone : List Text → Option (List ℕ) → List ℕ → List ℕ → (List ℕ → Type 0) → Type 0
@@ -46,23 +47,28 @@ HasStopped capture settings FailedWrites before after Told =
     × ((FailedWrites 0 × Told (lines ++ memory_line)) ⊎ HasFailedWrite lines FailedWrites before after Told)
 
 -- A read failed before anything was printed, and that alone is told; or a run over the capture ended early.
-abbrev pub HasFailedRun : Option (List ℕ) → Settings → (ℕ → Type 0) → (ℕ → Type 0) → List ℕ → List ℕ → (List ℕ → Type 0) → Type 0
+abbrev pub HasFailedRun : Option (List ℕ) → Settings → (ℕ → Type 0) → (ℕ → Type 0) → List ℕ → List ℕ → (List ℕ → Type 0)
+    → Type 0
 HasFailedRun input settings FailedReads FailedWrites before after Told =
     (FailedReads 1 × FailedWrites 0 × (after ≡ before) × Told input_line)
-    ⊎ (FailedReads 0 × ((capture : CaptureContent) × HasCapture input capture × HasStopped capture settings FailedWrites before after Told))
+    ⊎ (FailedReads 0 × ((capture : CaptureContent) × HasCapture input capture
+    × HasStopped capture settings FailedWrites before after Told))
 
 -- Status 1: memory ran out while the words or the capture were read; a run failed; or not all of the help or the
 -- version went out.
-abbrev pub HasFailed : List Text → Option (List ℕ) → (ℕ → Type 0) → (ℕ → Type 0) → List ℕ → List ℕ → (List ℕ → Type 0) → Type 0
+abbrev pub HasFailed : List Text → Option (List ℕ) → (ℕ → Type 0) → (ℕ → Type 0) → List ℕ → List ℕ → (List ℕ → Type 0)
+    → Type 0
 HasFailed words input FailedReads FailedWrites before after Told =
     (FailedReads 0 × HasNoMemory FailedWrites before after Told)
-    ⊎ ((AsksToRun words × ((settings : Settings) × AreSettings words settings × HasFailedRun input settings FailedReads FailedWrites before after Told))
+    ⊎ ((AsksToRun words × ((settings : Settings) × AreSettings words settings
+    × HasFailedRun input settings FailedReads FailedWrites before after Told))
     ⊎ (AsksToShow words × HasFailedWrite [] FailedWrites before after Told))
 
 -- The capture is refused, at its first refusal where the reader tells its text, and that is told.
 abbrev pub HasRefusedCapture : Option (List ℕ) → (List ℕ → Type 0) → Type 0
 HasRefusedCapture input Told =
-    (line : ℕ) × (refusal : CaptureRefusal) × IfSome input (λ text. capture_of text ≡ Err (record { line = line; refusal = refusal })) × Told (refused_line line refusal)
+    (line : ℕ) × (refusal : CaptureRefusal) × IfSome input
+    (λ text. capture_of text ≡ Err (record { line = line; refusal = refusal })) × Told (refused_line line refusal)
 
 -- Status 2: the words have a fault, of which a text was told; or they ask for a run, and the capture is refused.
 abbrev pub HasRefused : List Text → Option (List ℕ) → (List ℕ → Type 0) → Type 0

@@ -16,11 +16,12 @@ IsAskedFor capture in_order merge = in_order ≡ true → IsByLine (records_of c
 abbrev pub channel_asked : CaptureContent → Settings → ListedChannel
 channel_asked capture settings = record { listed = capture.instruments; room = settings.window; start = settings.start }
 
--- After a run over this capture with these settings, a writer holds, after what it held before, the text of the run: that of
--- some merge of what the feeds brought.
+-- After a run over this capture with these settings, a writer holds, after what it held before, the text of the run:
+-- that of some merge of what the feeds brought.
 abbrev pub HasPrinted : CaptureContent → Settings → List ℕ → List ℕ → Type 0
 HasPrinted capture settings before after =
-    (text : List ℕ) × (standing : Standing) × (merge : List Tagged) × (after ≡ before ++ text) × IsAskedFor capture settings.in_order merge
+    (text : List ℕ) × (standing : Standing) × (merge : List Tagged) × (after ≡ before ++ text)
+    × IsAskedFor capture settings.in_order merge
     × Prints (channel_asked capture settings) (records_of capture) merge text standing
 
 -- The same where the run ended early, of a front of its text.

@@ -7,7 +7,8 @@ ghost use Rattle.mdp_handler.specs.Faults.{Tells, input_line, memory_line, outpu
 use mdp_capture::{CaptureRefusal, SkippedLine};
 use mdp_print::{CountedWrite, ShortText, write_all_counted};
 
-/// Tells a text, or a beginning of it where a write fails. Once as many writes failed as can be counted, nothing more is told.
+/// Tells a text, or a beginning of it where a write fails. Once as many writes failed as can be counted, nothing more
+/// is told.
 pub fn tell<F: CountedWrite>(faults: &mut F, text: &[u8])
     ensures { Tells F.failed F.taken faults.old faults.new text.now }
 {

@@ -62,7 +62,8 @@ fn main(rt: HostRuntime) -> ExitCode {
 
 // Gives the words as borrowed texts.
 fn words_of<'a>(alloc: Global, texts: &'a [String]) -> Result<Vec<&'a str>, AllocError>
-    ensures { IfOk result (λ words. map (λ word. word.now) words.items ≡ map string_bytes texts.now) }
+    ensures { IfOk result (λ words. map (λ word. word.now) words.items
+        ≡ map string_bytes texts.now) }
 {
     let mut words = Vec::with_capacity(alloc, texts.len())?;
     for text in texts {

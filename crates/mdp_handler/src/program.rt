@@ -197,7 +197,8 @@ where
         HasPrinted capture.now settings (O.taken output.old) (O.taken output.new) }
     ensures told { result ≡ 0 →
         Tells F.failed F.taken faults.old faults.new (skipped_lines capture.now.skipped) }
-    ensures failed { result ≡ 1 → HasStopped capture.now settings (Fails O.failed output.old output.new)
+    ensures failed { result ≡ 1 → HasStopped capture.now settings
+        (Fails O.failed output.old output.new)
         (O.taken output.old) (O.taken output.new) (Tells F.failed F.taken faults.old faults.new) }
     ensures writes { result ≢ 1 → O.failed output.new ≡ O.failed output.old }
 {

@@ -28,7 +28,8 @@ pub record ToldView : Type 0 where
   pub board : Book
   pub steps : List Step
 
--- a reader: its board, how many slots that has, and the longest front of its steps that this reader has read or was told of
+-- a reader: its board, how many slots that has, and the longest front of its steps that this reader has read or was
+-- told of
 pub record ReaderView : Type 0 where
   pub board : Book
   pub slots : ℕ
@@ -48,7 +49,12 @@ AreRowsAfter rows steps = (slot : ℕ) → slot < length rows → slice_index_or
 abbrev pub newcomer : Known
 newcomer = record {
   slots = 0;
-  front = record { marker = record {}; book = record { number = 0; log_name = 0; cells_name = 0 }; names = []; log = [] };
+  front = record {
+    marker = record {};
+    book = record { number = 0; log_name = 0; cells_name = 0 };
+    names = [];
+    log = [];
+  };
 }
 
 -- an end that knows of so many slots of this board
@@ -60,8 +66,8 @@ module _ {A : Type 0} where
   abbrev pub IsSheet : Sheet A → Type 0
   IsSheet s = AreRowsAfter s.rows.items s.front.log × (s.length ≡ length s.front.log)
 
-  -- what an end knows is so of this copy: it has the slots, where the end knows of any it shows the same board, and it goes on from
-  -- the steps that the end has seen
+  -- what an end knows is so of this copy: it has the slots, where the end knows of any it shows the same board, and it
+  -- goes on from the steps that the end has seen
   abbrev pub FitsSheet : Sheet A → Known → Type 0
   FitsSheet s v =
       (v.slots ≤ length s.rows.items)

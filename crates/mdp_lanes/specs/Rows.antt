@@ -33,7 +33,8 @@ abbrev pub last_row : Row → List Row → Row
 last_row other [] = other
 last_row other (row ∷ rows) = last_row row rows
 
--- a slot's row: the last one given for it since the last jump; where there is none, `Stale` after a jump, and else `Never`
+-- a slot's row: the last one given for it since the last jump; where there is none, `Stale` after a jump, and else
+-- `Never`
 abbrev pub row_after : ℕ → List Step → Row
 row_after slot steps =
     last_row (if has_jump steps then Stale else Never) (rows_given slot (flat_map pairs_of (since_jump steps)))

@@ -22,7 +22,8 @@ use std::sync::Wait;
 pub struct Board;
 
 impl Board {
-    /// Makes a board of so many slots, 1 to 512, on which nothing was published, with its publisher and so many readers, 1 to 16.
+    /// Makes a board of so many slots, 1 to 512, on which nothing was published, with its publisher and so many
+    /// readers, 1 to 16.
     ///
     /// # Errors
     ///
@@ -38,7 +39,8 @@ impl Board {
         ensures publisher { IfOk result (λ ends. ends.0.steps ≡ []) }
         ensures slots { IfOk result (λ ends. ends.0.slots ≡ slots) }
         ensures many { IfOk result (λ ends. vec_len ends.1 ≡ readers) }
-        ensures readers { IfOk result (λ ends. All (IsFreshReader ends.0.board slots) ends.1.items) }
+        ensures readers { IfOk result (λ ends. All
+            (IsFreshReader ends.0.board slots) ends.1.items) }
     {
         let (head, front) = history::open();
         let first = blank(alloc, slots, &front)?;
@@ -69,7 +71,8 @@ impl Board {
 
 // Makes a copy on which nothing was published.
 fn blank<A: Allocator + Copy>(alloc: A, slots: usize, front: &Front) -> Result<Sheet<A>, Memory>
-    ensures { IfOk result (λ sheet. (sheet.rows.items ≡ replicate slots Never) × (sheet.length ≡ 0) × (sheet.front ≡ front.now)) }
+    ensures { IfOk result (λ sheet. (sheet.rows.items ≡ replicate slots Never) × (sheet.length ≡ 0)
+        × (sheet.front ≡ front.now)) }
 {
     let rows = Vec::from_elem(alloc, Row::Never, slots)?;
     Ok(Sheet {
@@ -100,7 +103,8 @@ fn settle<R: Wait, A: Allocator + Copy>(
     slots: usize,
 ) -> (BoardWriter<A>, Result<(), Memory>)
     requires front { (writer.desk.shown.value.front ≡ front.now) × (front.now.log ≡ []) }
-    requires shown { (writer.desk.shown.value.length ≡ 0) × (length writer.desk.shown.value.rows.items ≡ slots) }
+    requires shown { (writer.desk.shown.value.length ≡ 0)
+        × (length writer.desk.shown.value.rows.items ≡ slots) }
     requires pending { drop writer.behind writer.log.items ≡ [] }
     ensures { OnOk result.1 (
         (result.0.desk.shown.value.front ≡ front.now)

@@ -1,5 +1,5 @@
-//! The history of a board: all steps that were published, in order. It stands in proofs alone; at run time it is one word, its
-//! length.
+//! The history of a board: all steps that were published, in order. It stands in proofs alone; at run time it is one
+//! word, its length.
 
 ghost use Rattle.std.specs.Prelude.{◌≡◌, ◌+◌, ◌<◌, ◌^◌, [], ◌∷◌, ◌++◌, length, IsTrue};
 ghost use Rattle.mdp_lanes.specs.History.{head_of};
@@ -72,8 +72,8 @@ pub(crate) fn open() -> (Head, Front)
     (Word::tracked(0, &mut first), front)
 }
 
-/// Adds a step to the history and to `front`, where the history is as long as `front`, whose length is `count`. Answers whether it
-/// was; it always is, since no one else adds steps.
+/// Adds a step to the history and to `front`, where the history is as long as `front`, whose length is `count`. Answers
+/// whether it was; it always is, since no one else adds steps.
 pub(crate) fn add<A: Allocator>(
     head: &Head,
     front: &mut Front,

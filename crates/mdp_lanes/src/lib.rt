@@ -1,5 +1,5 @@
-//! Queues between threads: what is taken of each sender is what it sent, item for item, in order. And a board, whose readers never
-//! wait: what one read shows is so after one front of the published steps, which never falls.
+//! Queues between threads: what is taken of each sender is what it sent, item for item, in order. And a board, whose
+//! readers never wait: what one read shows is so after one front of the published steps, which never falls.
 //!
 //! An [`Intake`] leads from three senders to one receiver, and a [`Lane`] from one sender to one receiver. A contract
 //! sees an end as the queue that it belongs to and the list of what it put or took. While threads run, each knows the
@@ -10,9 +10,9 @@
 //! back is tried again: a put whose receiver is gone does not return, and no more does a take whose senders are gone
 //! and whose queue is empty. So keep every end of a queue until it is settled.
 //!
-//! A [`Board`] leads from one [`Publisher`] to several readers. A contract sees the publisher as the list of steps that it has
-//! published, and a [`Reader`] as the longest front of them that it has read or was told of. Neither `read` nor `learn` takes memory or
-//! a handle to wait by.
+//! A [`Board`] leads from one [`Publisher`] to several readers. A contract sees the publisher as the list of steps that
+//! it has published, and a [`Reader`] as the longest front of them that it has read or was told of. Neither `read` nor
+//! `learn` takes memory or a handle to wait by.
 #![tactic(auto)]
 
 mod board;

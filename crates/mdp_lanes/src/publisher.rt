@@ -22,7 +22,8 @@ use std::sync::Wait;
 
 pub(crate) type BoardWriter<A> = Writer<Sheet<A>, Update<A>, Known, IsShown, A>;
 
-/// Publishes steps, one after the other. A contract sees its board, the number of slots, and the steps that were published. End it by
+/// Publishes steps, one after the other. A contract sees its board, the number of slots, and the steps that were
+/// published. End it by
 /// `end`.
 pub struct Publisher<A: Allocator + Copy>
 where
@@ -87,35 +88,39 @@ pub(crate) fn send<R: Wait, A: Allocator + Copy>(
 }
 
 impl<A: Allocator + Copy> Publisher<A> {
-    /// Publishes an event's rows, all at once: each pair gives its slot, from 0, its row, and of several for one slot the last
-    /// stands. With no pair it's a step too. A row for a slot that the board hasn't is never shown. It waits for readers that are
-    /// inside a read.
+    /// Publishes an event's rows, all at once: each pair gives its slot, from 0, its row, and of several for one slot
+    /// the last stands. With no pair it's a step too. A row for a slot that the board hasn't is never shown. It waits
+    /// for readers that are inside a read.
     ///
     /// # Errors
     ///
     /// Memory ran out, or 2^64 - 1 steps were published. Then nothing was published.
     pub fn event<R: Wait>(&mut self, rt: &R, rows: &[(u16, Row)]) -> Result<(), Memory>
-        ensures { MatchResult result (λ _. self.new ≡ with_step self.old (Event rows.now)) (λ _. self.new ≡ self.old) }
+        ensures { MatchResult result (λ _. self.new ≡ with_step self.old (Event rows.now))
+            (λ _. self.new ≡ self.old) }
     {
         let mut pairs = Vec::new(self.alloc);
         pairs.extend_from_slice(rows)?;
         self.publish(rt, Change::Give(pairs))
     }
 
-    /// Publishes a jump: each row is stale until a later event gives another. It waits for readers that are inside a read.
+    /// Publishes a jump: each row is stale until a later event gives another. It waits for readers that are inside a
+    /// read.
     ///
     /// # Errors
     ///
     /// As `event`.
     pub fn jump<R: Wait>(&mut self, rt: &R) -> Result<(), Memory>
-        ensures { MatchResult result (λ _. self.new ≡ with_step self.old Jump) (λ _. self.new ≡ self.old) }
+        ensures { MatchResult result (λ _. self.new ≡ with_step self.old Jump)
+            (λ _. self.new ≡ self.old) }
     {
         self.publish(rt, Change::Wipe)
     }
 
     // Publishes a step. The history has it before readers see it.
     fn publish<R: Wait>(&mut self, rt: &R, change: Change<A>) -> Result<(), Memory>
-        ensures { MatchResult result (λ _. self.new ≡ with_step self.old (step_of change)) (λ _. self.new ≡ self.old) }
+        ensures { MatchResult result (λ _. self.new ≡ with_step self.old (step_of change))
+            (λ _. self.new ≡ self.old) }
     {
         let Some(count) = self.count.checked_add(1) else {
             return Err(Memory);
@@ -164,8 +169,8 @@ impl<A: Allocator + Copy> Publisher<A> {
         }
     }
 
-    /// Lets the board go, and hands back the row of each slot as all steps left it, which is what readers saw last. It waits for readers
-    /// that are inside a read; a later read answers none.
+    /// Lets the board go, and hands back the row of each slot as all steps left it, which is what readers saw last. It
+    /// waits for readers that are inside a read; a later read answers none.
     pub fn end<R: Wait>(self, rt: &R) -> Vec<Row, A>
         ensures many { vec_len result ≡ self.slots }
         ensures rows { AreRowsAfter result.items self.steps }

@@ -19,8 +19,8 @@ use std::marker::Model;
 
 pub(crate) type BoardSide<A> = Side<Sheet<A>, Known, IsShown, A>;
 
-/// Reads rows. A contract sees its board, the number of slots, and the longest front of the published steps that it has read or was
-/// told of.
+/// Reads rows. A contract sees its board, the number of slots, and the longest front of the published steps that it has
+/// read or was told of.
 #[derive(Drop)]
 pub struct Reader<A: Allocator + Copy>
 where
@@ -68,17 +68,18 @@ impl<A: Allocator + Copy> Reader<A> {
         }
     }
 
-    /// Reads the rows of these slots, all as one front of the published steps leaves them, and answers how many steps that front has.
-    /// It begins with what this reader has read and was told of. The condition is as many places for rows as slots, each slot being
-    /// one of the board's.
+    /// Reads the rows of these slots, all as one front of the published steps leaves them, and answers how many steps
+    /// that front has. It begins with what this reader has read and was told of. The condition is as many places for
+    /// rows as slots, each slot being one of the board's.
     ///
-    /// None where the publisher has ended, or where the copy that is shown lies behind what this reader was told of, which the order of
-    /// the publisher's steps rules out. Then no row was read.
+    /// None where the publisher has ended, or where the copy that is shown lies behind what this reader was told of,
+    /// which the order of the publisher's steps rules out. Then no row was read.
     pub fn read(&mut self, slots: &[u16], out: &mut [Row]) -> Option<u64>
         requires slots { All (λ slot. slot < self.old.slots) slots.now }
         requires out { length out.old ≡ length slots.now }
         ensures same { (self.new.board ≡ self.old.board) × (self.new.slots ≡ self.old.slots) }
-        ensures front { IfSome result (λ n. (n ≡ length self.new.front) × IsPrefix self.old.front self.new.front) }
+        ensures front { IfSome result (λ n. (n ≡ length self.new.front)
+            × IsPrefix self.old.front self.new.front) }
         ensures rows { IfSome result (λ _. out.new ≡ rows_after slots.now self.new.front) }
         ensures none { IfNone result ((self.new ≡ self.old) × (out.new ≡ out.old)) }
     {
@@ -92,8 +93,8 @@ impl<A: Allocator + Copy> Reader<A> {
     }
 }
 
-// Copies rows from the copy that is shown, and answers its front, whose length is beside it. Where that is shorter than `front`, whose
-// length is `count`, nothing is copied.
+// Copies rows from the copy that is shown, and answers its front, whose length is beside it. Where that is shorter than
+// `front`, whose length is `count`, nothing is copied.
 fn look<A: Allocator + Copy>(
     side: BoardSide<A>,
     front: &Front,
@@ -107,7 +108,8 @@ fn look<A: Allocator + Copy>(
     requires slots { All (λ slot. slot < (view side.place).slots) slots.now }
     requires out { length out.old ≡ length slots.now }
     ensures known { Knows (view result.0.place) front.now.book (view side.place).slots }
-    ensures front { IfSome result.1 (λ f. (f.0.book ≡ front.now.book) × (f.1 ≡ length f.0.log) × IsPrefix front.now.log f.0.log) }
+    ensures front { IfSome result.1 (λ f. (f.0.book ≡ front.now.book) × (f.1 ≡ length f.0.log)
+        × IsPrefix front.now.log f.0.log) }
     ensures rows { IfSome result.1 (λ f. out.new ≡ rows_after slots.now f.0.log) }
     ensures none { IfNone result.1 (out.new ≡ out.old) }
 {

@@ -9,8 +9,8 @@ pub enum Row {
     Never,
     /// Recovery jumped, and no row was published for the slot since.
     Stale,
-    /// The first total of each side of the consolidated book, where the side has one, as message `message` of packet `packet` left
-    /// it. Packets and messages count from 1.
+    /// The first total of each side of the consolidated book, where the side has one, as message `message` of packet
+    /// `packet` left it. Packets and messages count from 1.
     Top {
         packet: u32,
         message: u64,

@@ -6,7 +6,8 @@ use atomic_table::{Join, Split};
 use crossbeam_utils::rule::{Outcome, Protocol};
 use std::alloc::Allocator;
 
-/// What an end knows of its board: that there are so many slots at least, and which board it is. No value of it is made.
+/// What an end knows of its board: that there are so many slots at least, and which board it is. No value of it is
+/// made.
 pub struct Known {
     pub slots: u64,
     pub front: Front,

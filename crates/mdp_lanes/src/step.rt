@@ -6,6 +6,7 @@ use crate::row::Row;
 pub enum Step {
     /// Recovery jumped: each row that was given before is stale.
     Jump,
-    /// An event ended: each pair gives its slot its row, one after the other. In a clause the array is a list of any length.
+    /// An event ended: each pair gives its slot its row, one after the other. In a clause the array is a list of any
+    /// length.
     Event([(u16, Row); 0]),
 }

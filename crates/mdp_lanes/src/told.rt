@@ -8,7 +8,8 @@ use crate::reader::Reader;
 use std::alloc::Allocator;
 use std::marker::Model;
 
-/// A token of all that was published when it was made. A contract sees it as its board and those steps; it has their number alone.
+/// A token of all that was published when it was made. A contract sees it as its board and those steps; it has their
+/// number alone.
 #[derive(Drop)]
 pub struct Told {
     pub(crate) count: u64,
@@ -27,8 +28,9 @@ impl Model for Told {
 }
 
 impl Told {
-    /// Tells whether all that this reader has read and was told of is among these steps, of which it is then a beginning. A token that
-    /// the publisher made after the reader's last read covers it, but no clause knows which of two calls came first.
+    /// Tells whether all that this reader has read and was told of is among these steps, of which it is then a
+    /// beginning. A token that the publisher made after the reader's last read covers it, but no clause knows which of
+    /// two calls came first.
     pub fn covers<A: Allocator + Copy>(&self, reader: &Reader<A>) -> bool
         requires { reader.now.board ≡ self.now.board }
         ensures { IsTrue result ↔ IsPrefix reader.now.front self.now.steps }

@@ -13,8 +13,8 @@ pub enum PcapFault {
     NotPcap,
     /// A frame has a link type that is not read.
     LinkType,
-    /// A frame has more than 262,144 captured bytes, a block more than 16 MiB or lengths that contradict one another; or
-    /// it names an interface that no description has; or a later section has no known byte order or version.
+    /// A frame has more than 262,144 captured bytes, a block more than 16 MiB or lengths that contradict one another;
+    /// or it names an interface that no description has; or a later section has no known byte order or version.
     RecordSize,
     /// The input ends inside a header, a record or a block.
     CutShort,

@@ -30,11 +30,13 @@ arrivals feed records = map (λ (entry : RecordContent). record { feed = feed; e
 abbrev pub by_line : List Arrival → List Arrival → List Arrival
 by_line [] ys = ys
 by_line (x ∷ xs) [] = x ∷ xs
-by_line (x ∷ xs) (y ∷ ys) = if nat_le x.entry.line y.entry.line then x ∷ by_line xs (y ∷ ys) else y ∷ by_line (x ∷ xs) ys
+by_line (x ∷ xs) (y ∷ ys) =
+    if nat_le x.entry.line y.entry.line then x ∷ by_line xs (y ∷ ys) else y ∷ by_line (x ∷ xs) ys
 
 -- of equal lines feed A's record, then B's, then S's
 abbrev pub in_order : FeedRecords → List Arrival
-in_order records = by_line (by_line (arrivals feeds.A records.a) (arrivals feeds.B records.b)) (arrivals feeds.S records.s)
+in_order records =
+    by_line (by_line (arrivals feeds.A records.a) (arrivals feeds.B records.b)) (arrivals feeds.S records.s)
 
 -- ---- which list goes first
 
@@ -49,7 +51,8 @@ is_first (Some line) (Some other) = nat_le line other
 
 -- the feed whose first record is the next, S where there is none
 abbrev pub first_of_lines : Option ℕ → Option ℕ → Option ℕ → Feed
-first_of_lines a b s = if is_first a b then (if is_first a s then feeds.A else feeds.S) else (if is_first b s then feeds.B else feeds.S)
+first_of_lines a b s =
+    if is_first a b then (if is_first a s then feeds.A else feeds.S) else (if is_first b s then feeds.B else feeds.S)
 
 abbrev pub first_feed : FeedRecords → Feed
 first_feed records = first_of_lines (head_line records.a) (head_line records.b) (head_line records.s)

@@ -37,4 +37,5 @@ tagged_by r = map (λ (e : Event). record { feed = r.arrival.feed; event = e }) 
 
 -- Record by record in the order of the capture's lines; of equal lines feed A's goes before B's, and B's before S's.
 abbrev pub IsByLine : FeedRecords → List Tagged → Type 0
-IsByLine records merge = (readings : List Reading) × AreReadings (in_order records) readings × (merge ≡ flat_map tagged_by readings)
+IsByLine records merge =
+    (readings : List Reading) × AreReadings (in_order records) readings × (merge ≡ flat_map tagged_by readings)

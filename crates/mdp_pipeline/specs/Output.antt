@@ -1,4 +1,5 @@
--- What a run over the records of a channel's feeds prints and publishes, and what a complete feed that agrees with them has to do with it.
+-- What a run over the records of a channel's feeds prints and publishes, and what a complete feed that agrees with them
+-- has to do with it.
 use Rattle.std.specs.Prelude.{◌≡◌, ℕ, List, ◌++◌, Option, Result, IfOk, IfErr}
 use Rattle.mdp_templates.specs.Packet.{PacketContent}
 use Rattle.mdp_print.specs.Texts.{last_line}
@@ -48,8 +49,8 @@ output channel feed refusals events =
 
 -- ---- a run
 
--- What a run over these records prints, where this is the merge of what they brought: the text that the merge's moves show. It
--- is the text of every complete feed that agrees with the merge.
+-- What a run over these records prints, where this is the merge of what they brought: the text that the merge's moves
+-- show. It is the text of every complete feed that agrees with the merge.
 pub record Prints (channel : ListedChannel) (records : FeedRecords) (merge : List Tagged) (text : List ℕ)
     (standing : Standing) : Type 0 where
   pub readings : Readings
@@ -89,14 +90,15 @@ BeginsByLine channel records start taken =
 
 -- ---- a run that publishes on a board
 
--- The steps for these events: those that the moves themselves show. They are those of every complete feed that agrees with the events.
+-- The steps for these events: those that the moves themselves show. They are those of every complete feed that agrees
+-- with the events.
 pub record Publishes (channel : ListedChannel) (events : List Event) (steps : List Step) : Type 0 where
   pub shown : steps ≡ board_steps channel.listed (moves_of channel events)
   pub owed : (feed : List PacketContent) → IsHonest channel.listed feed events
       → steps ≡ owed_board_steps channel.listed feed (steps_of (moves_of channel events))
 
--- What went out before an early end, as text and on the board: both are read off one list of moments, those that the moves show. They are
--- those of every complete feed that agrees with the events.
+-- What went out before an early end, as text and on the board: both are read off one list of moments, those that the
+-- moves show. They are those of every complete feed that agrees with the events.
 pub record BeginsToPublish (channel : ListedChannel) (events : List Event) (end sent : List ℕ)
     (steps : List Step) : Type 0 where
   pub shown : List Moment
@@ -139,8 +141,10 @@ SaysSome channel records old new =
     (steps : List Step) × (new.board ≡ published_on old.board steps)
     × BeginsToPublishMerge channel records old.taken new.taken steps
 
--- What became of a run: all went out, and it tells where the channel stands; or beginnings did. It tells how many bytes.
-pub record Ends (channel : ListedChannel) (records : FeedRecords) (old new : Outlet) (result : Result Summary RunFault) : Type 0 where
+-- What became of a run: all went out, and it tells where the channel stands; or beginnings did. It tells how many
+-- bytes.
+pub record Ends (channel : ListedChannel) (records : FeedRecords) (old new : Outlet)
+    (result : Result Summary RunFault) : Type 0 where
   pub text : IfOk result (λ summary. SaysAll channel records old new (standing_in summary))
   pub begins : IfErr result (λ _. SaysSome channel records old new)
   pub written : IfOk result (λ summary. HasCounted old.taken new.taken summary.written)

@@ -25,7 +25,8 @@ HasPut before batches after = after ≡ record before { sent = before.sent ++ ba
 abbrev pub events_held : {A : Type 0} → Reader A → List Event
 events_held reader = map event_of reader.events.items
 
--- One record was read: its events are held behind the others, but for those that were handed over, or its refusal is told.
+-- One record was read: its events are held behind the others, but for those that were handed over, or its refusal is
+-- told.
 pub record HasReadOne {A : Type 0} (feed : Feed) (entry : RecordContent) (old new : Reader A) : Type 0 where
   pub said : Said
   pub says : Says (kind_of feed) entry.received said
@@ -34,8 +35,10 @@ pub record HasReadOne {A : Type 0} (feed : Feed) (entry : RecordContent) (old ne
   pub events : events_held old ++ brought_by said ≡ all_events batches ++ events_held new
   pub refusals : new.refusals.items ≡ old.refusals.items ++ refusal_text feed entry.line said
 
--- These records were read: their events are handed over, but for the last ones, which are held, and their refusals are told.
-pub record HasReadSoFar {A : Type 0} (feed : Feed) (records : List RecordContent) (before : IntakeSenderView (Batch A)) (reader : Reader A) : Type 0 where
+-- These records were read: their events are handed over, but for the last ones, which are held, and their refusals are
+-- told.
+pub record HasReadSoFar {A : Type 0} (feed : Feed) (records : List RecordContent) (before : IntakeSenderView (Batch A))
+    (reader : Reader A) : Type 0 where
   pub batches : List (Batch A)
   pub put : HasPut before batches reader.sender
   pub readings : List Reading
@@ -44,7 +47,8 @@ pub record HasReadSoFar {A : Type 0} (feed : Feed) (records : List RecordContent
   pub refusals : reader.refusals.items ≡ refusal_lines readings
 
 -- Of these records' events a front was handed over.
-pub record HasHandedOver {A : Type 0} (feed : Feed) (records : List RecordContent) (before after : IntakeSenderView (Batch A)) : Type 0 where
+pub record HasHandedOver {A : Type 0} (feed : Feed) (records : List RecordContent)
+    (before after : IntakeSenderView (Batch A)) : Type 0 where
   pub batches : List (Batch A)
   pub put : HasPut before batches after
   pub readings : List Reading
@@ -52,9 +56,10 @@ pub record HasHandedOver {A : Type 0} (feed : Feed) (records : List RecordConten
   pub rest : List Event
   pub front : events_of readings ≡ all_events batches ++ rest
 
--- A reader has put its last batch. A front of its records' events was handed over; all of them where memory sufficed, and then
--- the lines of the refused datagrams are told.
-pub record HasRead {A : Type 0} (feed : Feed) (records : List RecordContent) (before : IntakeSenderView (Batch A)) (outcome : ReaderOutcome A) : Type 0 where
+-- A reader has put its last batch. A front of its records' events was handed over; all of them where memory sufficed,
+-- and then the lines of the refused datagrams are told.
+pub record HasRead {A : Type 0} (feed : Feed) (records : List RecordContent) (before : IntakeSenderView (Batch A))
+    (outcome : ReaderOutcome A) : Type 0 where
   pub over : HasHandedOver feed records before outcome.sender
   pub ended : has_ended outcome.sender ≡ true
   pub whole : OnOk outcome.refusals (over.rest ≡ [])

@@ -23,8 +23,10 @@ pub data Said : Type 0 where
 
 -- A datagram of feed A or B brings its packet, one of feed S its snapshots; and feed S can close the channel.
 abbrev pub Says : Kind → Received → Said → Type 0
-Says incremental (Datagram bytes) (brings events) = (packet : PacketContent) × IsPacket bytes packet × (events ≡ came packet ∷ [])
-Says recovery (Datagram bytes) (brings events) = (snapshots : List SnapshotContent) × AreSnapshots bytes snapshots × (events ≡ map recovered snapshots)
+Says incremental (Datagram bytes) (brings events) =
+    (packet : PacketContent) × IsPacket bytes packet × (events ≡ came packet ∷ [])
+Says recovery (Datagram bytes) (brings events) =
+    (snapshots : List SnapshotContent) × AreSnapshots bytes snapshots × (events ≡ map recovered snapshots)
 Says kind (Datagram bytes) (refused refusal) = IsRefusedAs kind bytes refusal
 Says incremental Close said = said ≡ brings []
 Says recovery Close said = said ≡ brings (closed ∷ [])
@@ -91,4 +93,5 @@ abbrev pub readings_on : Feed → List Reading → List Reading
 readings_on feed readings = filter (λ (r : Reading). is_on feed r.arrival) readings
 
 abbrev pub by_feed : List Reading → Readings
-by_feed readings = record { a = readings_on feeds.A readings; b = readings_on feeds.B readings; s = readings_on feeds.S readings }
+by_feed readings =
+    record { a = readings_on feeds.A readings; b = readings_on feeds.B readings; s = readings_on feeds.S readings }

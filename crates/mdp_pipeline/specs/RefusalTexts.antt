@@ -13,7 +13,8 @@ pub record RefusalTexts : Type 0 where
 
 abbrev pub refusal_texts_code : Coded RefusalTexts
 refusal_texts_code =
-    code_by (List ℕ × (List ℕ × List ℕ)) (coded× (coded_list coded_ℕ) (coded× (coded_list coded_ℕ) (coded_list coded_ℕ)))
+    code_by (List ℕ × (List ℕ × List ℕ)) (coded× (coded_list coded_ℕ)
+    (coded× (coded_list coded_ℕ) (coded_list coded_ℕ)))
     (λ t. (t.a, (t.b, t.s))) (λ t. record { a = t.0; b = t.1.0; s = t.1.1 }) (λ _. refl)
 
 abbrev pub no_refusals : RefusalTexts
@@ -21,6 +22,9 @@ no_refusals = record { a = []; b = []; s = [] }
 
 -- one more
 abbrev pub with_refusal : Feed → ℕ → Refusal → RefusalTexts → RefusalTexts
-with_refusal feeds.A line refusal texts = record { a = texts.a ++ refusal_line feeds.A line refusal; b = texts.b; s = texts.s }
-with_refusal feeds.B line refusal texts = record { a = texts.a; b = texts.b ++ refusal_line feeds.B line refusal; s = texts.s }
-with_refusal feeds.S line refusal texts = record { a = texts.a; b = texts.b; s = texts.s ++ refusal_line feeds.S line refusal }
+with_refusal feeds.A line refusal texts =
+    record { a = texts.a ++ refusal_line feeds.A line refusal; b = texts.b; s = texts.s }
+with_refusal feeds.B line refusal texts =
+    record { a = texts.a; b = texts.b ++ refusal_line feeds.B line refusal; s = texts.s }
+with_refusal feeds.S line refusal texts =
+    record { a = texts.a; b = texts.b; s = texts.s ++ refusal_line feeds.S line refusal }

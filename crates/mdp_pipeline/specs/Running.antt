@@ -18,7 +18,12 @@ use Rattle.mdp_arbiter.specs.declared.arbiter.Standing.{Standing}
 
 -- the lines of those that these readings refuse
 abbrev pub refusals_of : List Reading → RefusalTexts
-refusals_of readings = record { a = refusal_lines (readings_on feeds.A readings); b = refusal_lines (readings_on feeds.B readings); s = refusal_lines (readings_on feeds.S readings) }
+refusals_of readings =
+    record {
+      a = refusal_lines (readings_on feeds.A readings);
+      b = refusal_lines (readings_on feeds.B readings);
+      s = refusal_lines (readings_on feeds.S readings);
+    }
 
 abbrev pub after_said : Feed → ℕ → Said → RefusalTexts → RefusalTexts
 after_said feed line (brings events) texts = texts
@@ -27,7 +32,8 @@ after_said feed line (refused refusal) texts = with_refusal feed line refusal te
 -- Events were taken in, and the engine holds the lines that they owe: wherever it stood, after whatever text was sent
 -- before, it stands at these events more.
 pub record GoesOn (events : List Event) (engine engine' : View) : Type 0 where
-  pub stands : (listed : List Instrument) (before : List Event) (sent : List ℕ) → Stands listed before sent engine → Stands listed (before ++ events) sent engine'
+  pub stands : (listed : List Instrument) (before : List Event) (sent : List ℕ) → Stands listed before sent engine
+      → Stands listed (before ++ events) sent engine'
   pub channel : engine'.arbiter.channel ≡ engine.arbiter.channel
 
 -- a run has taken in what a record says
@@ -36,7 +42,8 @@ pub record TakesSaid {A : Type 0} (feed : Feed) (line : ℕ) (said : Said) (old 
   pub refusals : new.refusals ≡ after_said feed line said old.refusals
 
 -- a run has taken in what came on a feed of this kind, as it says
-pub record TakesAs {A : Type 0} (kind : Kind) (feed : Feed) (line : ℕ) (received : Received) (old new : Run A) : Type 0 where
+pub record TakesAs {A : Type 0} (kind : Kind) (feed : Feed) (line : ℕ) (received : Received)
+    (old new : Run A) : Type 0 where
   pub said : Said
   pub says : Says kind received said
   pub takes : TakesSaid feed line said old new
@@ -72,11 +79,13 @@ pub record HasShown (channel : ListedChannel) (events : List Event) (start taken
   pub stands : Stands channel.listed events sent engine
   pub channel_is : engine.arbiter.channel ≡ channel_of channel
 
--- lines that the engine held went out: wherever it stood, after whatever text was sent before, it stands there still after these lines too
+-- lines that the engine held went out: wherever it stood, after whatever text was sent before, it stands there still
+-- after these lines too
 pub record HandsOn {A : Type 0} (taken taken' : List ℕ) (old new : Run A) : Type 0 where
   pub sent : List ℕ
   pub went : taken' ≡ taken ++ sent
-  pub stands : (listed : List Instrument) (events : List Event) (before : List ℕ) → Stands listed events before old.engine → Stands listed events (before ++ sent) new.engine
+  pub stands : (listed : List Instrument) (events : List Event) (before : List ℕ)
+      → Stands listed events before old.engine → Stands listed events (before ++ sent) new.engine
   pub channel : new.engine.arbiter.channel ≡ old.engine.arbiter.channel
   pub refusals : new.refusals ≡ old.refusals
 
@@ -103,7 +112,8 @@ pub record EndsEarly (channel : ListedChannel) (events : List Event)
 -- ---- runs over records of all feeds in one list
 
 -- the text of these records, in this order: what their moves show
-pub record PrintsAll (channel : ListedChannel) (arrivals : List Arrival) (text : List ℕ) (standing : Standing) : Type 0 where
+pub record PrintsAll (channel : ListedChannel) (arrivals : List Arrival) (text : List ℕ)
+    (standing : Standing) : Type 0 where
   pub readings : List Reading
   pub are : AreReadings arrivals readings
   pub standing_is : standing ≡ stands_after channel (events_of readings)

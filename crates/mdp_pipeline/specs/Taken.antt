@@ -20,5 +20,7 @@ abbrev pub tagged_taken : {A : Type 0} → List (Feed × Batch A) → List Tagge
 tagged_taken taken = flat_map (λ m. tagged_as m.0 (batch_events m.1)) taken
 
 -- a reader of this receiver's intake has read these records of its feed
-abbrev pub HasReadFor : {A : Type 0} → IntakeReceiverView (Batch A) → Feed → List RecordContent → ReaderOutcome A → Type 0
-HasReadFor {A} receiver feed records outcome = (before : IntakeSenderView (Batch A)) × IsFreshSenderOf receiver feed before × HasRead feed records before outcome
+abbrev pub HasReadFor : {A : Type 0} → IntakeReceiverView (Batch A) → Feed → List RecordContent → ReaderOutcome A
+    → Type 0
+HasReadFor {A} receiver feed records outcome =
+    (before : IntakeSenderView (Batch A)) × IsFreshSenderOf receiver feed before × HasRead feed records before outcome

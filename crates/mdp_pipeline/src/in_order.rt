@@ -28,10 +28,15 @@ const PIECE: usize = 1 << 16;
 fn hand_on<W: CountedWrite>(writer: &mut W, text: &[u8], written: &mut u64) -> Result<(), RunFault>
     requires { W.failed writer.old < 2 ^ 64 - 1 }
     ensures taken { OnOk result (W.taken writer.new ≡ W.taken writer.old ++ text.now) }
-    ensures begins { IfErr result (λ _. (n : ℕ) × (W.taken writer.new ≡ W.taken writer.old ++ take n text.now)) }
+    ensures begins { IfErr result (λ _. (n : ℕ)
+        × (W.taken writer.new ≡ W.taken writer.old ++ take n text.now)) }
     ensures failed { FailsBy result (W.failed writer.old) (W.failed writer.new) }
-    ensures counts { OnOk result ((start : List ℕ) → HasCounted start (W.taken writer.old) written.old → HasCounted start (W.taken writer.new) written.new) }
-    ensures told { IfErr result (λ fault. (start : List ℕ) → HasCounted start (W.taken writer.old) written.old → HasCounted start (W.taken writer.new) (written_before fault)) }
+    ensures counts { OnOk result ((start : List ℕ)
+        → HasCounted start (W.taken writer.old) written.old
+        → HasCounted start (W.taken writer.new) written.new) }
+    ensures told { IfErr result (λ fault. (start : List ℕ)
+        → HasCounted start (W.taken writer.old) written.old
+        → HasCounted start (W.taken writer.new) (written_before fault)) }
 {
     match write_all_counted(writer, text) {
         Ok(()) => {
@@ -51,10 +56,16 @@ fn hand_on_pieces<W: CountedWrite, A: Allocator + Copy>(
     written: &mut u64,
 ) -> Result<(), RunFault>
     requires { W.failed writer.old < 2 ^ 64 - 1 }
-    ensures hands_on { OnOk result (HandsOn (W.taken writer.old) (W.taken writer.new) run.old run.new) }
-    ensures begins { IfErr result (λ _. (n : ℕ) × (W.taken writer.new ≡ W.taken writer.old ++ take n run.old.engine.held)) }
-    ensures counts { OnOk result ((start : List ℕ) → HasCounted start (W.taken writer.old) written.old → HasCounted start (W.taken writer.new) written.new) }
-    ensures told { IfErr result (λ fault. (start : List ℕ) → HasCounted start (W.taken writer.old) written.old → HasCounted start (W.taken writer.new) (written_before fault)) }
+    ensures hands_on { OnOk result (HandsOn (W.taken writer.old)
+        (W.taken writer.new) run.old run.new) }
+    ensures begins { IfErr result (λ _. (n : ℕ)
+        × (W.taken writer.new ≡ W.taken writer.old ++ take n run.old.engine.held)) }
+    ensures counts { OnOk result ((start : List ℕ)
+        → HasCounted start (W.taken writer.old) written.old
+        → HasCounted start (W.taken writer.new) written.new) }
+    ensures told { IfErr result (λ fault. (start : List ℕ)
+        → HasCounted start (W.taken writer.old) written.old
+        → HasCounted start (W.taken writer.new) (written_before fault)) }
     ensures failed { FailsBy result (W.failed writer.old) (W.failed writer.new) }
 {
     if run.engine.lines().len() < PIECE {
@@ -66,7 +77,8 @@ fn hand_on_pieces<W: CountedWrite, A: Allocator + Copy>(
 }
 
 /// Runs over the records of the feeds on one thread, in the order of the capture's lines, and writes what is owed; of
-/// equal lines feed A's record goes before B's, and B's before S's. It works on the caller's thread, whatever the plan's number of workers.
+/// equal lines feed A's record goes before B's, and B's before S's. It works on the caller's thread, whatever the
+/// plan's number of workers.
 ///
 /// # Errors
 ///
@@ -80,12 +92,16 @@ pub fn run_in_order<W: CountedWrite, A: Allocator + Copy>(
 ) -> Result<Summary, RunFault>
     requires sound { W.failed writer.old < 2 ^ 64 - 1 }
     requires lawful { IsLawful plan }
-    ensures text { IfOk result (λ summary. (text : List ℕ) × (W.taken writer.new ≡ W.taken writer.old ++ text)
+    ensures text { IfOk result (λ summary. (text : List ℕ)
+        × (W.taken writer.new ≡ W.taken writer.old ++ text)
         × PrintsByLine (channel_in plan.entry) (records_in feeds.entry) text (standing_in summary)) }
-    ensures begins { IfErr result (λ _. BeginsByLine (channel_in plan.entry) (records_in feeds.entry)
+    ensures begins { IfErr result (λ _. BeginsByLine (channel_in plan.entry)
+        (records_in feeds.entry)
         (W.taken writer.old) (W.taken writer.new)) }
-    ensures written { IfOk result (λ summary. HasCounted (W.taken writer.old) (W.taken writer.new) summary.written) }
-    ensures told { IfErr result (λ fault. HasCounted (W.taken writer.old) (W.taken writer.new) (written_before fault)) }
+    ensures written { IfOk result (λ summary. HasCounted (W.taken writer.old)
+        (W.taken writer.new) summary.written) }
+    ensures told { IfErr result (λ fault. HasCounted (W.taken writer.old) (W.taken writer.new)
+        (written_before fault)) }
     ensures range { IfOk result (λ summary. IsNextNumber summary.next) }
     ensures failed { FailsBy result (W.failed writer.old) (W.failed writer.new) }
 {
@@ -109,14 +125,20 @@ fn finish<W: CountedWrite, A: Allocator + Copy>(
     mut written: u64,
 ) -> Result<Summary, RunFault>
     requires { W.failed writer.old < 2 ^ 64 - 1 }
-    ensures text { IfOk result (λ summary. (channel : ListedChannel) (events : List Event) (start : List ℕ) →
+    ensures text { IfOk result (λ summary. (channel : ListedChannel) (events : List Event)
+        (start : List ℕ) →
         HasShown channel events start (W.taken writer.old) run.engine →
         EndsAs channel events (joined_texts run.refusals) start (W.taken writer.new) (standing_in summary)) }
-    ensures begins { IfErr result (λ _. (channel : ListedChannel) (events : List Event) (start : List ℕ) →
+    ensures begins { IfErr result (λ _. (channel : ListedChannel) (events : List Event)
+        (start : List ℕ) →
         HasShown channel events start (W.taken writer.old) run.engine →
         EndsEarly channel events (joined_texts run.refusals) start (W.taken writer.new)) }
-    ensures counts { IfOk result (λ summary. (start : List ℕ) → HasCounted start (W.taken writer.old) written → HasCounted start (W.taken writer.new) summary.written) }
-    ensures told { IfErr result (λ fault. (start : List ℕ) → HasCounted start (W.taken writer.old) written → HasCounted start (W.taken writer.new) (written_before fault)) }
+    ensures counts { IfOk result (λ summary. (start : List ℕ)
+        → HasCounted start (W.taken writer.old) written
+        → HasCounted start (W.taken writer.new) summary.written) }
+    ensures told { IfErr result (λ fault. (start : List ℕ)
+        → HasCounted start (W.taken writer.old) written
+        → HasCounted start (W.taken writer.new) (written_before fault)) }
     ensures range { IfOk result (λ summary. IsNextNumber summary.next) }
     ensures failed { FailsBy result (W.failed writer.old) (W.failed writer.new) }
 {
@@ -142,11 +164,16 @@ pub fn write_end<W: CountedWrite, A: Allocator + Copy>(
 ) -> Result<Summary, RunFault>
     requires { W.failed writer.old < 2 ^ 64 - 1 }
     ensures stands { IfOk result (λ summary. standing_in summary ≡ standing) }
-    ensures text { OnOk result (W.taken writer.new ≡ W.taken writer.old ++ end_text (joined_texts refusals) standing) }
+    ensures text { OnOk result (W.taken writer.new ≡ W.taken writer.old
+        ++ end_text (joined_texts refusals) standing) }
     ensures begins { IfErr result (λ _. (n : ℕ) × (W.taken writer.new
         ≡ W.taken writer.old ++ take n (end_text (joined_texts refusals) standing))) }
-    ensures counts { IfOk result (λ summary. (start : List ℕ) → HasCounted start (W.taken writer.old) written → HasCounted start (W.taken writer.new) summary.written) }
-    ensures told { IfErr result (λ fault. (start : List ℕ) → HasCounted start (W.taken writer.old) written → HasCounted start (W.taken writer.new) (written_before fault)) }
+    ensures counts { IfOk result (λ summary. (start : List ℕ)
+        → HasCounted start (W.taken writer.old) written
+        → HasCounted start (W.taken writer.new) summary.written) }
+    ensures told { IfErr result (λ fault. (start : List ℕ)
+        → HasCounted start (W.taken writer.old) written
+        → HasCounted start (W.taken writer.new) (written_before fault)) }
     ensures failed { FailsBy result (W.failed writer.old) (W.failed writer.new) }
 {
     let Standing { next, lost } = standing;

@@ -1,4 +1,5 @@
-//! The datagram of the newest packet: the second copy of a packet, which mostly comes right behind the first, need not be decoded.
+//! The datagram of the newest packet: the second copy of a packet, which mostly comes right behind the first, need not
+//! be decoded.
 
 ghost use Rattle.std.specs.Prelude.{IfSome};
 ghost use Rattle.mdp_pipeline.specs.Copies.{IsPacketOf};
@@ -7,7 +8,8 @@ use mdp_templates::Memory;
 use std::alloc::Allocator;
 use std::marker::Model;
 
-/// The bytes of the newest datagram that was read as a packet, and the packet's number, seen as that number; none before the first.
+/// The bytes of the newest datagram that was read as a packet, and the packet's number, seen as that number; none
+/// before the first.
 #[derive(Drop)]
 pub struct LastPacket<A: Allocator> {
     bytes: Vec<u8, A>,

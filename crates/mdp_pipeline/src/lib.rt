@@ -1,5 +1,5 @@
-//! Runs over the records of a channel's feeds: what is printed, and what is published on a board, is what the recovery machine's moves
-//! show, and what every complete feed defines that agrees with the records.
+//! Runs over the records of a channel's feeds: what is printed, and what is published on a board, is what the recovery
+//! machine's moves show, and what every complete feed defines that agrees with the records.
 #![tactic(auto)]
 
 mod decoding;

@@ -32,9 +32,10 @@ impl Lines {
     }
 }
 
-/// Lets three readers go, and keeps them side by side: none reads further ahead of the slowest than the lead, however the system shares out its
-/// processors. So a packet that came on one feed alone is not given up because another feed's reader was quicker. And none reads
-/// beyond the line of the first close before all that stands before it was handed over.
+/// Lets three readers go, and keeps them side by side: none reads further ahead of the slowest than the lead, however
+/// the system shares out its processors. So a packet that came on one feed alone is not given up because another feed's
+/// reader was quicker. And none reads beyond the line of the first close before all that stands before it was handed
+/// over.
 #[derive(Drop)]
 pub struct Pace {
     /// Whether the readers are to go; not known before all have begun.
@@ -80,8 +81,8 @@ impl Pace {
         far
     }
 
-    /// Tells that the reader of a feed has handed over all before this line, and waits until it may read the line. It answers the
-    /// last line that the reader may read before it tells again.
+    /// Tells that the reader of a feed has handed over all before this line, and waits until it may read the line. It
+    /// answers the last line that the reader may read before it tells again.
     pub fn keep<R: Wait>(&self, rt: &R, feed: Feed, line: u32) -> u32 {
         let mut lines = self.lines.lock(rt);
         lines.set(feed, line);

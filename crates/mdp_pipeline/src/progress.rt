@@ -21,8 +21,9 @@ use mdp_templates::{Feed, Memory, Packet, Snapshot};
 use mdp_window::RingWindow;
 use std::alloc::Allocator;
 
-/// The engine of a run, which holds what is printed at event ends and jumps as far as it was not handed on, and the lines of
-/// refused datagrams. The newest packet's datagram is kept beside them, whose second copy changes nothing once the packet has passed.
+/// The engine of a run, which holds what is printed at event ends and jumps as far as it was not handed on, and the
+/// lines of refused datagrams. The newest packet's datagram is kept beside them, whose second copy changes nothing once
+/// the packet has passed.
 #[derive(Drop)]
 pub struct Run<A: Allocator + Copy> {
     pub engine: Engine<A, RingWindow<Packet<A>, A>>,
@@ -55,7 +56,8 @@ impl<A: Allocator + Copy> Run<A> {
 
     // Takes snapshots, in their order.
     fn recover(&mut self, alloc: A, snapshots: &[Snapshot]) -> Result<(), Memory>
-        ensures goes { OnOk result (GoesOn (map recovered snapshots.now) self.old.engine self.new.engine) }
+        ensures goes { OnOk result (GoesOn
+            (map recovered snapshots.now) self.old.engine self.new.engine) }
         ensures refusals { OnOk result (self.new.refusals ≡ self.old.refusals) }
     {
         for snapshot in snapshots {
@@ -86,7 +88,8 @@ impl<A: Allocator + Copy> Run<A> {
 
     // Tells whether a datagram of feed A or B is the second copy of a packet that has passed.
     fn is_copy(&self, bytes: &[u8]) -> bool
-        ensures { result ≡ true → (feed : Feed) (line : ℕ) → TakesAs incremental feed line (Datagram bytes.now) self.now self.now }
+        ensures { result ≡ true → (feed : Feed) (line : ℕ)
+            → TakesAs incremental feed line (Datagram bytes.now) self.now self.now }
     {
         match self.last.number_of(bytes) {
             Some(number) => self.engine.is_past(number),
@@ -96,7 +99,8 @@ impl<A: Allocator + Copy> Run<A> {
 
     // Tells whether a record changes nothing, since it is the second copy of a packet that has passed.
     fn is_repeat(&self, feed: Feed, record: &Record<A>) -> bool
-        ensures { result ≡ true → TakesAs (kind_of feed) feed «record».now.line «record».now.received self.now self.now }
+        ensures { result ≡ true → TakesAs
+            (kind_of feed) feed «record».now.line «record».now.received self.now self.now }
     {
         match (feed, record.bytes()) {
             (Feed::A, Some(bytes)) => self.is_copy(bytes),
@@ -121,7 +125,8 @@ impl<A: Allocator + Copy> Run<A> {
 
     /// Takes a record of a feed.
     pub fn take(&mut self, alloc: A, feed: Feed, record: &Record<A>) -> Result<(), Memory>
-        ensures { OnOk result (TakesAs (kind_of feed) feed «record».now.line «record».now.received self.old self.new) }
+        ensures { OnOk result (TakesAs (kind_of feed) feed «record».now.line «record».now.received
+            self.old self.new) }
     {
         if self.is_repeat(feed, record) {
             return Ok(());

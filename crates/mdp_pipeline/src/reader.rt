@@ -23,8 +23,8 @@ use std::alloc::Allocator;
 use std::mem;
 use std::sync::Wait;
 
-/// How many events a batch holds at most. A reader's batches hold 1, 2, 4 events and so on up to this many: so its first event
-/// is handed over at once, and under load a batch costs little.
+/// How many events a batch holds at most. A reader's batches hold 1, 2, 4 events and so on up to this many: so its
+/// first event is handed over at once, and under load a batch costs little.
 const MOST_EVENTS: usize = 64;
 
 /// A reader's sender, and what it has read and not handed over yet.
@@ -53,7 +53,8 @@ fn push_all<A: Allocator + Copy>(
     events: &mut Vec<Event<A>, A>,
     snapshots: &[Snapshot],
 ) -> Result<(), Memory>
-    ensures { OnOk result (map event_of events.new.items ≡ map event_of events.old.items ++ map recovered snapshots.now) }
+    ensures { OnOk result (map event_of events.new.items ≡ map event_of events.old.items
+        ++ map recovered snapshots.now) }
 {
     for snapshot in snapshots {
         events.push(Event::snapshot(alloc, snapshot.copy())?)?;
@@ -73,8 +74,10 @@ fn number_of(feed: Feed) -> usize {
 impl<A: Allocator + Copy> Reader<A> {
     // Holds the events that a record on this line brings, or the line of its refusal.
     fn hold(&mut self, alloc: A, feed: Feed, line: u32, decoded: Decoded<A>) -> Result<(), Memory>
-        ensures events { OnOk result (events_held self.new ≡ events_held self.old ++ brought_by (said_of decoded)) }
-        ensures refusals { OnOk result (self.new.refusals.items ≡ self.old.refusals.items ++ refusal_text feed line (said_of decoded)) }
+        ensures events { OnOk result (events_held self.new ≡ events_held self.old
+            ++ brought_by (said_of decoded)) }
+        ensures refusals { OnOk result (self.new.refusals.items ≡ self.old.refusals.items
+            ++ refusal_text feed line (said_of decoded)) }
         ensures sender { self.new.sender ≡ self.old.sender }
     {
         match decoded {
@@ -90,7 +93,8 @@ impl<A: Allocator + Copy> Reader<A> {
     // Hands over the events that are held, if any.
     fn put_held<R: Wait>(&mut self, rt: &R, alloc: A)
         requires { has_ended self.old.sender ≡ false }
-        ensures put { (batches : List (Batch A)) × HasPut self.old.sender batches self.new.sender × (events_held self.old ≡ all_events batches ++ events_held self.new) }
+        ensures put { (batches : List (Batch A)) × HasPut self.old.sender batches self.new.sender
+            × (events_held self.old ≡ all_events batches ++ events_held self.new) }
         ensures goes_on { has_ended self.new.sender ≡ false }
         ensures refusals { self.new.refusals ≡ self.old.refusals }
     {
@@ -108,7 +112,8 @@ impl<A: Allocator + Copy> Reader<A> {
     // Hands over the events that are held, where they fill a batch.
     fn hand_over<R: Wait>(&mut self, rt: &R, alloc: A)
         requires { has_ended self.old.sender ≡ false }
-        ensures put { (batches : List (Batch A)) × HasPut self.old.sender batches self.new.sender × (events_held self.old ≡ all_events batches ++ events_held self.new) }
+        ensures put { (batches : List (Batch A)) × HasPut self.old.sender batches self.new.sender
+            × (events_held self.old ≡ all_events batches ++ events_held self.new) }
         ensures goes_on { has_ended self.new.sender ≡ false }
         ensures refusals { self.new.refusals ≡ self.old.refusals }
     {
@@ -122,7 +127,8 @@ impl<A: Allocator + Copy> Reader<A> {
     // Hands over the events that are held and waits for the slower readers, where the next record's line asks for it.
     fn keep_pace<R: Wait>(&mut self, rt: &R, alloc: A, pace: &Pace, feed: Feed, line: u32)
         requires { has_ended self.old.sender ≡ false }
-        ensures put { (batches : List (Batch A)) × HasPut self.old.sender batches self.new.sender × (events_held self.old ≡ all_events batches ++ events_held self.new) }
+        ensures put { (batches : List (Batch A)) × HasPut self.old.sender batches self.new.sender
+            × (events_held self.old ≡ all_events batches ++ events_held self.new) }
         ensures goes_on { has_ended self.new.sender ≡ false }
         ensures refusals { self.new.refusals ≡ self.old.refusals }
     {
@@ -166,7 +172,8 @@ impl<A: Allocator + Copy> Reader<A> {
         requires events { self.old.events.items ≡ [] }
         requires refusals { self.old.refusals.items ≡ [] }
         ensures all { OnOk result (HasReadSoFar feed records.now self.old.sender self.new) }
-        ensures some { IfErr result (λ _. HasHandedOver feed records.now self.old.sender self.new.sender) }
+        ensures some { IfErr result (λ _. HasHandedOver feed records.now self.old.sender
+            self.new.sender) }
         ensures goes_on { has_ended self.new.sender ≡ false }
     {
         let mut place = 1u64;
@@ -183,7 +190,8 @@ impl<A: Allocator + Copy> Reader<A> {
     // Hands over what is held as the last batch.
     fn finish<R: Wait>(self, rt: &R) -> ReaderOutcome<A>
         requires { has_ended self.sender ≡ false }
-        ensures { (feed : Feed) (records : List RecordContent) (before : IntakeSenderView (Batch A)) → HasReadSoFar feed records before self → HasRead feed records before result }
+        ensures { (feed : Feed) (records : List RecordContent) (before : IntakeSenderView (Batch A))
+            → HasReadSoFar feed records before self → HasRead feed records before result }
     {
         let Reader {
             mut sender,
@@ -210,7 +218,8 @@ fn stop<R: Wait, A: Allocator + Copy>(
     mut sender: IntakeSender<Batch<A>, A>,
 ) -> ReaderOutcome<A>
     requires { has_ended sender ≡ false }
-    ensures { (feed : Feed) (records : List RecordContent) (before : IntakeSenderView (Batch A)) → HasHandedOver feed records before sender → HasRead feed records before result }
+    ensures { (feed : Feed) (records : List RecordContent) (before : IntakeSenderView (Batch A))
+        → HasHandedOver feed records before sender → HasRead feed records before result }
 {
     let batch = Batch {
         events: Vec::new(alloc),
@@ -255,8 +264,8 @@ fn read_or_stop<R: Wait, G: Gate, A: Allocator + Copy>(
     }
 }
 
-/// Decodes the records of a feed and hands over their events, once it is told to go; told to stop, it hands over none. In either
-/// way it puts its last batch, and tells the others that it waits for nobody and nobody need wait for it.
+/// Decodes the records of a feed and hands over their events, once it is told to go; told to stop, it hands over none.
+/// In either way it puts its last batch, and tells the others that it waits for nobody and nobody need wait for it.
 pub fn read_feed<R: Wait, G: Gate, A: Allocator + Copy>(
     rt: &R,
     pace: &Pace,

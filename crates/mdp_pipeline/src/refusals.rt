@@ -61,7 +61,8 @@ impl<A: Allocator + Copy> Refusals<A> {
 
     /// Gives the lines of feed A, then B's, then S's, and then the last line of the run.
     pub fn into_end(self, next: u64, lost: bool) -> Result<Vec<u8, A>, Memory>
-        ensures { IfOk result (λ text. text.items ≡ (self.a ++ (self.b ++ self.s)) ++ last_line next lost) }
+        ensures { IfOk result (λ text. text.items ≡ (self.a ++ (self.b ++ self.s))
+            ++ last_line next lost) }
     {
         let Refusals { a, b, s } = self;
         let mut text = a;

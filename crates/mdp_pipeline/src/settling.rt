@@ -34,7 +34,8 @@ pub struct Readers<A: Allocator + Copy> {
     pub s: ReaderOutcome<A>,
 }
 
-/// Settles the readers' queue, and writes the end of the text, unless the crew stopped early or memory ran out in a reader.
+/// Settles the readers' queue, and writes the end of the text, unless the crew stopped early or memory ran out in a
+/// reader.
 pub fn settle_and_finish<W: CountedWrite, A: Allocator + Copy>(
     writer: &mut W,
     crew: CrewOutcome<A>,
@@ -50,7 +51,8 @@ pub fn settle_and_finish<W: CountedWrite, A: Allocator + Copy>(
     ensures text { IfOk result (λ summary. (channel : ListedChannel) (start : List ℕ)
         (before after : Option Published)
         → HasShown channel (events_taken crew.receiver.taken) start (W.taken writer.old) before after crew.standing
-        → SaysAll channel (records_in feeds.entry) (out start before) (out (W.taken writer.new) after) (standing_in summary)) }
+        → SaysAll channel (records_in feeds.entry) (out start before) (out (W.taken writer.new) after)
+        (standing_in summary)) }
     ensures begins { IfErr result (λ _. (channel : ListedChannel) (start : List ℕ)
         (before after : Option Published)
         → HasShown channel (events_taken crew.receiver.taken) start (W.taken writer.old) before after crew.standing
@@ -58,9 +60,11 @@ pub fn settle_and_finish<W: CountedWrite, A: Allocator + Copy>(
     ensures counts { IfOk result (λ summary. (start : List ℕ)
         → HasCounted start (W.taken writer.old) crew.written → HasCounted start (W.taken writer.new) summary.written) }
     ensures told { IfErr result (λ fault. (start : List ℕ)
-        → HasCounted start (W.taken writer.old) crew.written → HasCounted start (W.taken writer.new) (written_before fault)) }
+        → HasCounted start (W.taken writer.old) crew.written
+        → HasCounted start (W.taken writer.new) (written_before fault)) }
     ensures range { IfOk result (λ summary. IsNextNumber summary.next) }
-    ensures failed { (before : ℕ) → FailsByStop crew.standing before (W.failed writer.old) → FailsBy result before (W.failed writer.new) }
+    ensures failed { (before : ℕ) → FailsByStop crew.standing before (W.failed writer.old)
+        → FailsBy result before (W.failed writer.new) }
 {
     let CrewOutcome {
         receiver,

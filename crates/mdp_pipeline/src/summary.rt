@@ -7,7 +7,8 @@ use thiserror::Error;
 pub struct Summary {
     /// The number of the packet that comes next, from 1 to 4294967296.
     pub next: u64,
-    /// Whether the receiver is lost: a packet came the window or more past that one, or no jump has joined the channel yet.
+    /// Whether the receiver is lost: a packet came the window or more past that one, or no jump has joined the channel
+    /// yet.
     pub lost: bool,
     /// How many bytes were written.
     pub written: u64,

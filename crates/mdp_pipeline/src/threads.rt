@@ -69,7 +69,8 @@ where
     A: 's,
     requires { has_ended sender ≡ false }
     ensures { MatchResult result
-        (λ h. (h.promise.feed ≡ feed) × (h.promise.records.value.now ≡ records.entry.now) × (h.promise.before.value ≡ sender))
+        (λ h. (h.promise.feed ≡ feed) × (h.promise.records.value.now ≡ records.entry.now)
+        × (h.promise.before.value ≡ sender))
         (λ outcome. HasRead feed records.entry.now sender outcome) }
 {
     if !starts.may_start(thread) {
@@ -186,7 +187,8 @@ where
     settle_and_finish(writer, crew, readers, feeds)
 }
 
-/// Runs as [`run_published`] does where there is a board, and else as [`run`]; a thread that may not start is one that can't be started.
+/// Runs as [`run_published`] does where there is a board, and else as [`run`]; a thread that may not start is one that
+/// can't be started.
 pub(crate) fn run_where<R, S, G, W, A>(
     rt: &R,
     starts: &S,
@@ -217,7 +219,8 @@ where
         rt,
         move |scope| -> (&mut W, &mut Option<Publisher<A>>, Result<Summary, RunFault>)
             requires { (W.failed writer.now < 2 ^ 64 - 1) × IsLawful plan × (1 ≤ plan.workers) }
-            ensures same { (result.0.ghost_name ≡ writer.entry.ghost_name) × (result.1.ghost_name ≡ board.entry.ghost_name) }
+            ensures same { (result.0.ghost_name ≡ writer.entry.ghost_name)
+                × (result.1.ghost_name ≡ board.entry.ghost_name) }
             ensures ends { Ends (channel_in plan.entry) (records_in feeds.entry)
                 (out (W.taken writer.entry.now) board.entry.now) (out (W.taken result.0.now) result.1.now) result.2 }
             ensures failed { FailsBy result.2 (W.failed writer.entry.now) (W.failed result.0.now) }
@@ -233,19 +236,19 @@ where
     outcome
 }
 
-/// Runs over the records of the feeds in threads: one for each feed, which decodes its records, the arbiter's, the plan's workers, each
-/// with the books of its own securities, and the caller's, which writes what is owed. Which merge of the feeds' events comes about, the
-/// threads decide, as far as the readers' pace leaves it to them: none hands over more than a quarter of the window, in lines, ahead of
-/// the slowest, and none passes the line of the first close before all that stands before it was handed over. Of that pace no clause
-/// speaks.
+/// Runs over the records of the feeds in threads: one for each feed, which decodes its records, the arbiter's, the
+/// plan's workers, each with the books of its own securities, and the caller's, which writes what is owed. Which merge
+/// of the feeds' events comes about, the threads decide, as far as the readers' pace leaves it to them: none hands over
+/// more than a quarter of the window, in lines, ahead of the slowest, and none passes the line of the first close
+/// before all that stands before it was handed over. Of that pace no clause speaks.
 ///
-/// The gate is told of each record before its reader reads it, and of each step before a worker works on it. A gate that holds a reader
-/// holds the others too, once they are as far ahead as they may be.
+/// The gate is told of each record before its reader reads it, and of each step before a worker works on it. A gate
+/// that holds a reader holds the others too, once they are as far ahead as they may be.
 ///
 /// # Errors
 ///
-/// `Output` exactly where a write failed, else `Memory`, also where a thread can't be started. The bytes that went out before are
-/// a beginning of what the whole run prints for some merge.
+/// `Output` exactly where a write failed, else `Memory`, also where a thread can't be started. The bytes that went out
+/// before are a beginning of what the whole run prints for some merge.
 pub fn run<R, G, W, A>(
     rt: &R,
     alloc: A,
@@ -262,12 +265,15 @@ where
     requires sound { W.failed writer.old < 2 ^ 64 - 1 }
     requires lawful { IsLawful plan }
     requires some_workers { 1 ≤ plan.workers }
-    ensures text { IfOk result (λ summary. (text : List ℕ) × (W.taken writer.new ≡ W.taken writer.old ++ text)
+    ensures text { IfOk result (λ summary. (text : List ℕ)
+        × (W.taken writer.new ≡ W.taken writer.old ++ text)
         × PrintsMerge (channel_in plan.entry) (records_in feeds.entry) text (standing_in summary)) }
     ensures begins { IfErr result (λ _. BeginsMerge (channel_in plan.entry) (records_in feeds.entry)
         (W.taken writer.old) (W.taken writer.new)) }
-    ensures written { IfOk result (λ summary. HasCounted (W.taken writer.old) (W.taken writer.new) summary.written) }
-    ensures told { IfErr result (λ fault. HasCounted (W.taken writer.old) (W.taken writer.new) (written_before fault)) }
+    ensures written { IfOk result (λ summary. HasCounted (W.taken writer.old)
+        (W.taken writer.new) summary.written) }
+    ensures told { IfErr result (λ fault. HasCounted (W.taken writer.old) (W.taken writer.new)
+        (written_before fault)) }
     ensures range { IfOk result (λ summary. IsNextNumber summary.next) }
     ensures failed { FailsBy result (W.failed writer.old) (W.failed writer.new) }
 {
@@ -277,14 +283,14 @@ where
     outcome
 }
 
-/// Runs as [`run`] does, and publishes on a board with a slot for each listed security, in listed order: one step for each event end,
-/// with the rows of what is printed there, and one for each jump. A step is published after the write of its lines. Hands the
-/// publisher back, also with an error.
+/// Runs as [`run`] does, and publishes on a board with a slot for each listed security, in listed order: one step for
+/// each event end, with the rows of what is printed there, and one for each jump. A step is published after the write
+/// of its lines. Hands the publisher back, also with an error.
 ///
 /// # Errors
 ///
-/// As `run`. What was published before are the steps of a beginning of what the whole run shows, for the same merge, of which each line
-/// had gone out.
+/// As `run`. What was published before are the steps of a beginning of what the whole run shows, for the same merge, of
+/// which each line had gone out.
 pub fn run_published<R, G, W, A>(
     rt: &R,
     alloc: A,
@@ -304,12 +310,17 @@ where
     requires some_workers { 1 ≤ plan.workers }
     ensures board { result.0.board ≡ publisher.board }
     ensures text { IfOk result.1 (λ summary. (text : List ℕ) × (steps : List Step)
-        × (W.taken writer.new ≡ W.taken writer.old ++ text) × (result.0 ≡ record publisher { steps = publisher.steps ++ steps })
+        × (W.taken writer.new ≡ W.taken writer.old ++ text)
+        × (result.0 ≡ record publisher { steps = publisher.steps ++ steps })
         × PublishesMerge (channel_in plan.entry) (records_in feeds.entry) text (standing_in summary) steps) }
-    ensures begins { IfErr result.1 (λ _. (steps : List Step) × (result.0 ≡ record publisher { steps = publisher.steps ++ steps })
-        × BeginsToPublishMerge (channel_in plan.entry) (records_in feeds.entry) (W.taken writer.old) (W.taken writer.new) steps) }
-    ensures written { IfOk result.1 (λ summary. HasCounted (W.taken writer.old) (W.taken writer.new) summary.written) }
-    ensures told { IfErr result.1 (λ fault. HasCounted (W.taken writer.old) (W.taken writer.new) (written_before fault)) }
+    ensures begins { IfErr result.1 (λ _. (steps : List Step)
+        × (result.0 ≡ record publisher { steps = publisher.steps ++ steps })
+        × BeginsToPublishMerge (channel_in plan.entry) (records_in feeds.entry) (W.taken writer.old)
+        (W.taken writer.new) steps) }
+    ensures written { IfOk result.1 (λ summary. HasCounted (W.taken writer.old)
+        (W.taken writer.new) summary.written) }
+    ensures told { IfErr result.1 (λ fault. HasCounted (W.taken writer.old) (W.taken writer.new)
+        (written_before fault)) }
     ensures range { IfOk result.1 (λ summary. IsNextNumber summary.next) }
     ensures failed { FailsBy result.1 (W.failed writer.old) (W.failed writer.new) }
 {

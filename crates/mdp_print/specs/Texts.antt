@@ -68,7 +68,8 @@ verdict_text EqualMore = codes "equal-more"
 -- A PACKET.MESSAGE NAME bid VERDICT offer VERDICT
 unfoldable pub audit_line : ℕ → ℕ → List ℕ → Verdict → Verdict → List ℕ
 audit_line packet message name bid offer =
-    codes "A " ++ event_text packet message name ++ codes " bid " ++ verdict_text bid ++ codes " offer " ++ verdict_text offer ++ codes "\n"
+    codes "A " ++ event_text packet message name ++ codes " bid " ++ verdict_text bid ++ codes " offer "
+    ++ verdict_text offer ++ codes "\n"
 
 -- J OLD NEW, the number of the next packet before and after a jump
 unfoldable pub jump_line : ℕ → ℕ → List ℕ
@@ -77,8 +78,10 @@ jump_line old new = codes "J " ++ decimal old ++ codes " " ++ decimal new ++ cod
 -- X FEED LINE NUMBER NAME, a datagram at a line of the capture, and why it was refused
 unfoldable pub refusal_line : Feed → ℕ → Refusal → List ℕ
 refusal_line feed line refusal =
-    codes "X " ++ (feed_letter feed ∷ []) ++ codes " " ++ decimal line ++ codes " " ++ decimal (refusal_number refusal) ++ codes " " ++ refusal_name refusal ++ codes "\n"
+    codes "X " ++ (feed_letter feed ∷ []) ++ codes " " ++ decimal line ++ codes " " ++ decimal (refusal_number refusal)
+    ++ codes " " ++ refusal_name refusal ++ codes "\n"
 
 -- Z NEXT STATE, the number of the next packet at the end, and whether that packet is given up
 unfoldable pub last_line : ℕ → Bool → List ℕ
-last_line next lost = codes "Z " ++ decimal next ++ codes " " ++ (if lost then codes "lost" else codes "live") ++ codes "\n"
+last_line next lost =
+    codes "Z " ++ decimal next ++ codes " " ++ (if lost then codes "lost" else codes "live") ++ codes "\n"

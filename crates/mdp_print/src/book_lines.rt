@@ -34,9 +34,11 @@ fn put_sides<A: Allocator>(
     bids: &[u8],
     offers: &[u8],
 ) -> Result<(), Memory>
-    ensures ok { OnOk result (out.new.items ≡ out.old.items ++ sides_line (letter ∷ []) head.now bids.now offers.now) }
+    ensures ok { OnOk result (out.new.items ≡ out.old.items
+        ++ sides_line (letter ∷ []) head.now bids.now offers.now) }
     ensures err { OnErr result (BeginsWith out.new.items out.old.items) }
-    ensures full { OnErr result (vec_capacity out.old < vec_len out.old + length (sides_line (letter ∷ []) head.now bids.now offers.now)) }
+    ensures full { OnErr result (vec_capacity out.old < vec_len out.old + length
+        (sides_line (letter ∷ []) head.now bids.now offers.now)) }
 {
     put_head(out, letter, head)?;
     put(out, bids)?;
@@ -53,9 +55,11 @@ fn put_total_sides<A: Allocator>(
     bids: &[Total],
     offers: &[Total],
 ) -> Result<(), Memory>
-    ensures ok { OnOk result (out.new.items ≡ out.old.items ++ consolidated_line head.now bids.now offers.now) }
+    ensures ok { OnOk result (out.new.items ≡ out.old.items
+        ++ consolidated_line head.now bids.now offers.now) }
     ensures err { OnErr result (BeginsWith out.new.items out.old.items) }
-    ensures full { OnErr result (vec_capacity out.old < vec_len out.old + length (consolidated_line head.now bids.now offers.now)) }
+    ensures full { OnErr result (vec_capacity out.old < vec_len out.old + length
+        (consolidated_line head.now bids.now offers.now)) }
 {
     put_head(out, b'C', head)?;
     put_totals(out, bids)?;
@@ -86,16 +90,17 @@ fn put_merged_sides<A: Allocator>(
     put_byte(out, b'\n')
 }
 
-/// Appends the `D` line of a book's direct sides by position, behind the head of the book's lines. [`Memory`] comes only where
-/// the vector has no room for the line and cannot grow, and then the vector is as before; so in each function of this crate that
-/// appends a line.
+/// Appends the `D` line of a book's direct sides by position, behind the head of the book's lines. [`Memory`] comes
+/// only where the vector has no room for the line and cannot grow, and then the vector is as before; so in each
+/// function of this crate that appends a line.
 #[tactic(auto, unfolding(crate::specs::Texts::direct_line))]
 pub fn put_direct<A: Allocator>(
     out: &mut Vec<u8, A>,
     head: &Head,
     sides: &Sides,
 ) -> Result<(), Memory>
-    ensures { Appends (direct_line head.now sides.now.bids.levels sides.now.offers.levels) out.old out.new result }
+    ensures { Appends (direct_line head.now sides.now.bids.levels sides.now.offers.levels) out.old
+        out.new result }
 {
     let start = out.len();
     let bids = sides.bids.printed().text();
@@ -111,7 +116,8 @@ pub fn put_implied<A: Allocator>(
     head: &Head,
     sides: &Sides,
 ) -> Result<(), Memory>
-    ensures { Appends (implied_line head.now sides.now.implied_bids.levels sides.now.implied_offers.levels) out.old out.new result }
+    ensures { Appends (implied_line head.now sides.now.implied_bids.levels
+        sides.now.implied_offers.levels) out.old out.new result }
 {
     let start = out.len();
     let bids = sides.implied_bids.printed().text();
@@ -136,8 +142,8 @@ pub fn put_consolidated<A: Allocator>(
 }
 
 /// Appends the `C` line of a book whose sides are in order, as [`mdp_quotes::are_in_order`] tells; it is the one that
-/// [`put_consolidated`] appends of totals that were added up. The text of levels that stand alone at their price is copied from their
-/// sides.
+/// [`put_consolidated`] appends of totals that were added up. The text of levels that stand alone at their price is
+/// copied from their sides.
 pub fn put_merged<A: Allocator>(
     out: &mut Vec<u8, A>,
     head: &Head,

@@ -11,8 +11,8 @@ use std::marker::Model;
 // Two letters, two spaces, and 62 bytes at most of where an event ends.
 type HeadText = TextFromEnd<72>;
 
-/// What the lines of a book have behind their letter: where the event ends, whose book it is, and the letter of bids. It is put
-/// together once for all of them, and takes no memory.
+/// What the lines of a book have behind their letter: where the event ends, whose book it is, and the letter of bids.
+/// It is put together once for all of them, and takes no memory.
 #[derive(Drop)]
 pub struct Head {
     /// The letter of direct sides, in the place of which another line has its own, and what stands behind it.
@@ -30,7 +30,8 @@ impl Model for Head {
 }
 
 impl Head {
-    /// Puts together what the lines of a book have behind their letter where message `message` of packet `packet` ends an event.
+    /// Puts together what the lines of a book have behind their letter where message `message` of packet `packet` ends
+    /// an event.
     pub fn new(packet: u32, message: u64, name: &Name) -> Head
         ensures { result ≡ head_text packet message name.now }
     {

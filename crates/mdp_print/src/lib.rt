@@ -1,8 +1,8 @@
 //! The lines that the feed handler prints, and writing that tells how much of them went out.
 //!
 //! A function for each kind of line appends the line's bytes to a vector, or leaves the vector as it
-//! was where memory runs out. A [`ShortText`] is put together with no memory. [`write_all_counted`] hands bytes to a [`CountedWrite`], a writer that
-//! counts its failed writes; [`Counting`] makes one of any writer.
+//! was where memory runs out. A [`ShortText`] is put together with no memory. [`write_all_counted`] hands bytes to a
+//! [`CountedWrite`], a writer that counts its failed writes; [`Counting`] makes one of any writer.
 #![tactic(auto)]
 
 mod book_lines;

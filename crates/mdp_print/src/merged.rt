@@ -23,7 +23,8 @@ fn put_levels<A: Allocator>(
 ) -> Result<(), Memory>
     requires order { from ≤ to }
     requires inside { to ≤ length printed.now }
-    ensures { Extends (levels_text (take (to - from) (drop from printed.now))) out.old out.new result }
+    ensures { Extends (levels_text (take (to - from)
+        (drop from printed.now))) out.old out.new result }
 {
     if from < to {
         return put(out, printed.text_of(from, to));
@@ -31,14 +32,17 @@ fn put_levels<A: Allocator>(
     Ok(())
 }
 
-// Appends the text of an implied level that stands so among direct ones: its own, unless one of them stands at its price.
+// Appends the text of an implied level that stands so among direct ones: its own, unless one of them stands at its
+// price.
 fn put_standing<A: Allocator>(
     out: &mut Vec<u8, A>,
     standing: &Standing,
     text: &[u8],
 ) -> Result<(), Memory>
-    requires alone { standing.now.passed ≡ standing.now.ahead → text.now ≡ quote_text standing.now.total.price standing.now.total.size }
-    ensures { Extends (quote_text standing.now.total.price standing.now.total.size) out.old out.new result }
+    requires alone { standing.now.passed ≡ standing.now.ahead
+        → text.now ≡ quote_text standing.now.total.price standing.now.total.size }
+    ensures { Extends (quote_text standing.now.total.price standing.now.total.size) out.old out.new
+        result }
 {
     if standing.passed == standing.ahead {
         return put(out, text);
@@ -46,8 +50,8 @@ fn put_standing<A: Allocator>(
     put_total(out, &standing.total)
 }
 
-// Appends the texts of the totals up to an implied level, of which this is the text, behind the direct levels that were passed, and
-// tells how many of these are passed then.
+// Appends the texts of the totals up to an implied level, of which this is the text, behind the direct levels that were
+// passed, and tells how many of these are passed then.
 fn put_up_to<A: Allocator>(
     out: &mut Vec<u8, A>,
     way: Way,
@@ -58,9 +62,11 @@ fn put_up_to<A: Allocator>(
 ) -> Result<usize, Memory>
     requires passed { passed ≤ length direct.now }
     requires text { text.now ≡ quote_text level.now.price level.now.size }
-    ensures passed { IfOk result (λ n. n ≡ passed + passed_by way level.now (drop passed direct.now)) }
+    ensures passed { IfOk result (λ n. n
+        ≡ passed + passed_by way level.now (drop passed direct.now)) }
     ensures inside { IfOk result (λ n. n ≤ length direct.now) }
-    ensures extends { Extends (totals_text (totals_to way level.now (drop passed direct.now))) out.old out.new result }
+    ensures extends { Extends (totals_text
+        (totals_to way level.now (drop passed direct.now))) out.old out.new result }
 {
     let standing = standing_of(way, &direct.levels()[passed..], level);
     put_levels(out, direct, passed, passed + standing.ahead)?;

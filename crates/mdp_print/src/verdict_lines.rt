@@ -32,7 +32,8 @@ type AuditText = TextFromEnd<104>;
 
 // Gives the end of an `A` line: the verdicts on the bid and the offer.
 fn end_with(bid: Verdict, offer: Verdict) -> AuditText
-    ensures text { result ≡ codes " bid " ++ verdict_text bid ++ codes " offer " ++ verdict_text offer ++ codes "\n" }
+    ensures text { result ≡ codes " bid " ++ verdict_text bid ++ codes " offer "
+        ++ verdict_text offer ++ codes "\n" }
     ensures size { length result ≤ 33 }
 {
     let mut text = AuditText::new();

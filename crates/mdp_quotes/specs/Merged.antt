@@ -40,11 +40,14 @@ total_with x (Some y) = if int_eq y.price x.price then with x (total_of y) else 
 
 -- how many levels come before this one or stand at its price
 abbrev pub passed_by : Way → Level → List Level → ℕ
-passed_by way x levels = if is_at_price x (slice_get levels (ahead_of way x levels)) then suc (ahead_of way x levels) else ahead_of way x levels
+passed_by way x levels =
+    if is_at_price x (slice_get levels (ahead_of way x levels)) then suc (ahead_of way x levels)
+    else ahead_of way x levels
 
 -- the totals up to an implied level, that of its price the last
 abbrev pub totals_to : Way → Level → List Level → List Total
-totals_to way x direct = map total_of (take (ahead_of way x direct) direct) ++ total_with x (slice_get direct (ahead_of way x direct)) ∷ []
+totals_to way x direct =
+    map total_of (take (ahead_of way x direct) direct) ++ total_with x (slice_get direct (ahead_of way x direct)) ∷ []
 
 -- the direct levels with each implied one put in at its price
 abbrev pub merged : Way → List Level → List Level → List Total

@@ -32,8 +32,8 @@ fn is_ordered(levels: &[Level], way: Way) -> bool
     true
 }
 
-/// Tells whether on each of the four sides every level has a better price than the next, as on nearly every book. Then the totals are
-/// the direct levels, with each implied level put in at its price.
+/// Tells whether on each of the four sides every level has a better price than the next, as on nearly every book. Then
+/// the totals are the direct levels, with each implied level put in at its price.
 pub fn are_in_order(sides: &Sides) -> bool
     ensures tells { result ≡ are_in_order sides.now }
     ensures merges { result ≡ true → quotes_of sides.now ≡ merged_quotes sides.now }
@@ -113,7 +113,8 @@ fn with_beside(level: &Level, beside: &Level) -> Total
 
 // Gives the first total of a side with this first implied level.
 fn first_with(way: Way, direct: &[Level], level: &Level) -> Total
-    ensures { (implied : List Level) → slice_get (merged way direct.now (level.now ∷ implied)) 0 ≡ Some result }
+    ensures { (implied : List Level) → slice_get (merged way direct.now (level.now ∷ implied)) 0
+        ≡ Some result }
 {
     let Some(best) = direct.first() else {
         return total_of(level);

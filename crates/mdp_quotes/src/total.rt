@@ -97,7 +97,8 @@ fn with(total: &Total, level: &Level) -> Total
 fn add_at(totals: &mut ArrayVec<Total, MOST_LEVELS>, at: usize, level: &Level)
     requires inside { at < length totals.old.items }
     requires small { IsSmall 1 (slice_index_or totals.old.items at zero_total) }
-    ensures { totals.new.items ≡ slice_set totals.old.items at (with level.now (slice_index_or totals.old.items at zero_total)) }
+    ensures { totals.new.items ≡ slice_set totals.old.items at
+        (with level.now (slice_index_or totals.old.items at zero_total)) }
 {
     let total = totals[at];
     totals[at] = with(&total, level);

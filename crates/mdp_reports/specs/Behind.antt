@@ -9,8 +9,8 @@ abbrev pub next_text : List Moment → List ℕ → List ℕ
 next_text [] end = end
 next_text (m ∷ ms) end = moment_text m
 
--- Of the moments the first ones are written and published, those after them are written alone, and of the text that comes next a part is
--- written. `end` is what stands after the text of all moments.
+-- Of the moments the first ones are written and published, those after them are written alone, and of the text that
+-- comes next a part is written. `end` is what stands after the text of all moments.
 pub record IsBehind (moments : List Moment) (end text : List ℕ) (steps : List Step) : Type 0 where
   pub published : List Moment
   pub written : List Moment
@@ -25,4 +25,5 @@ pub record IsBehind (moments : List Moment) (end text : List ℕ) (steps : List 
 -- The text is a beginning of the whole one, and the steps are a beginning of all.
 abbrev pub LawOfEarlyEnds : Type 0
 LawOfEarlyEnds = (moments : List Moment) (end text : List ℕ) (steps : List Step) → IsBehind moments end text steps
-    → ((rest : List ℕ) × (text_of_moments moments ++ end ≡ text ++ rest)) × ((rest : List Step) × (map step_of_moment moments ≡ steps ++ rest))
+    → ((rest : List ℕ) × (text_of_moments moments ++ end ≡ text ++ rest))
+    × ((rest : List Step) × (map step_of_moment moments ≡ steps ++ rest))

@@ -11,7 +11,8 @@ use Rattle.mdp_desks.specs.Reports.{Report}
 use Rattle.mdp_engine.specs.Rounds.{all_rounds_in, batch_of}
 use Rattle.mdp_reports.specs.BoardSteps.{board_steps, step_of_moment, steps_in}
 
--- whatever the number of workers, and however their reports are cut into batches, their reports give the steps that the moves show
+-- whatever the number of workers, and however their reports are cut into batches, their reports give the steps that the
+-- moves show
 abbrev pub LawOfBoards : Type 0
 LawOfBoards = (n : ℕ) (listed : List Instrument) (moves : List Move) (batches : List (List Moment)) → 1 ≤ n
     → moments listed moves ≡ flat_map (λ (ms : List Moment). ms) batches
@@ -23,7 +24,10 @@ LawOfFirstSteps = (rounds more : List (List Report)) → steps_in (rounds ++ mor
 
 -- the steps of the first moves come first, and then those of the moments of the moves behind them
 abbrev pub LawOfMoreSteps : Type 0
-LawOfMoreSteps = (listed : List Instrument) (moves more : List Move) → board_steps listed (moves ++ more) ≡ board_steps listed moves ++ map step_of_moment (moments_after listed moves more)
+LawOfMoreSteps =
+    (listed : List Instrument) (moves more : List Move)
+    → board_steps listed (moves ++ more) ≡ board_steps listed moves
+    ++ map step_of_moment (moments_after listed moves more)
 
 -- the steps of a front of the events begin the steps of all
 abbrev pub LawOfStepFronts : Type 0

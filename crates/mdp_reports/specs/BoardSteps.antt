@@ -1,5 +1,5 @@
--- What is published on a board of all listed securities, step by step: each event end with the rows of what it tells, also where
--- that is nothing, and each jump.
+-- What is published on a board of all listed securities, step by step: each event end with the rows of what it tells,
+-- also where that is nothing, and each jump.
 use Rattle.std.specs.Prelude.{ℕ, List, [], ◌∷◌, ◌++◌, Option, Some, None, map}
 use Rattle.mdp_templates.specs.Packet.{PacketContent}
 use Rattle.mdp_templates.specs.declared.instrument.Instrument.{Instrument}
@@ -14,7 +14,8 @@ use Rattle.mdp_desks.specs.Reports.{Told, Report, tells, leaps, told_from}
 use Rattle.mdp_engine.specs.Owed.{Step as RunStep, owed_moments}
 use Rattle.mdp_engine.specs.Rounds.{all_by_slot, told_in}
 
--- the row of a security whose book has this top where message `message` of packet `packet` ends an event; a fault has none
+-- the row of a security whose book has this top where message `message` of packet `packet` ends an event; a fault has
+-- none
 abbrev pub row_with : ℕ → ℕ → Option TopOfBook → Row
 row_with packet message None = Fault packet message
 row_with packet message (Some top) = Top packet message top.bid top.offer

@@ -1,4 +1,5 @@
--- Reports whose bytes, rows and moments stand in three lists: a row bears places among the bytes, a moment places among the rows.
+-- Reports whose bytes, rows and moments stand in three lists: a row bears places among the bytes, a moment places among
+-- the rows.
 use Rattle.std.specs.Prelude.{◌≡◌, ◌≤◌, ℕ, List, [], ◌∷◌, ◌++◌, length, map, ⊤}
 use Rattle.std.specs.List.{slice_range, AllByRecursion}
 use Rattle.mdp_books.specs.declared.book.Book.{Book}
@@ -37,7 +38,8 @@ ReachesEnd count to (m ∷ marks) = ⊤
 
 abbrev pub AreMarks : ℕ → List Mark → Type 0
 AreMarks count [] = ⊤
-AreMarks count (Ended packet message from to ∷ marks) = (from ≤ to) × (to ≤ count) × ReachesEnd count to marks × AreMarks count marks
+AreMarks count (Ended packet message from to ∷ marks) =
+    (from ≤ to) × (to ≤ count) × ReachesEnd count to marks × AreMarks count marks
 AreMarks count (Leapt old new ∷ marks) = AreMarks count marks
 
 pub record AreFlat (bytes : List ℕ) (rows : List Row) (marks : List Mark) : Type 0 where
@@ -67,4 +69,5 @@ reports_with t (r ∷ s ∷ reports) = r ∷ reports_with t (s ∷ reports)
 
 -- what is told of a security with this book, where message `message` of packet `packet` ends an event
 abbrev pub told_of_book : ℕ → ℕ → ℕ → List ℕ → Book → Told
-told_of_book packet message slot name book = record { slot = slot; lines = book_lines packet message name book; best = best_of book; top = top_of_book book }
+told_of_book packet message slot name book =
+    record { slot = slot; lines = book_lines packet message name book; best = best_of book; top = top_of_book book }

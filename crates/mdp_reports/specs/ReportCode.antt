@@ -11,7 +11,9 @@ use Rattle.mdp_quotes.specs.contracts.top.TopOfBook as top
 -- what is told of a security is stored as the tuple of its fields
 abbrev pub told_code : Coded Told
 told_code =
-    code_by (ℕ × (List ℕ × (Option Best × Option TopOfBook))) (coded× coded_ℕ (coded× (coded_list coded_ℕ) (coded× (coded_option best.the_row.coded) (coded_option top.the_row.coded))))
+    code_by (ℕ × (List ℕ × (Option Best × Option TopOfBook)))
+    (coded× coded_ℕ (coded× (coded_list coded_ℕ)
+    (coded× (coded_option best.the_row.coded) (coded_option top.the_row.coded))))
     (λ t. (t.slot, (t.lines, (t.best, t.top))))
     (λ t. record { slot = t.0; lines = t.1.0; best = t.1.1.0; top = t.1.1.1 })
     (λ _. refl)
@@ -35,4 +37,6 @@ same_report (tells packet message ts) = refl
 same_report (leaps old new) = refl
 
 abbrev pub reports_code : Coded (List Report)
-reports_code = coded_list (code_by Parts (coded⊎ (coded× coded_ℕ (coded× coded_ℕ all_told_code)) (coded× coded_ℕ coded_ℕ)) parts_of report_from same_report)
+reports_code =
+    coded_list (code_by Parts (coded⊎ (coded× coded_ℕ (coded× coded_ℕ all_told_code))
+    (coded× coded_ℕ coded_ℕ)) parts_of report_from same_report)

@@ -22,17 +22,20 @@ AreFull listed (jumped old new snapshots ∷ moves) = (length snapshots ≡ leng
 abbrev pub StandBehind : List Instrument → List Move → List Desk → Type 0
 StandBehind listed moves desks = Shows listed moves desks (shown_lines listed moves)
 
--- Where the desks of one's own securities stand behind the moves before, each with its own securities' snapshots alone, what they
--- report of more moves is one's part of each moment, and they stand behind those too.
+-- Where the desks of one's own securities stand behind the moves before, each with its own securities' snapshots alone,
+-- what they report of more moves is one's part of each moment, and they stand behind those too.
 abbrev pub LawOfReports : Type 0
 LawOfReports = (mine : ℕ → Bool) (listed : List Instrument) (before moves : List Move) (desks : List Desk)
     → AreFull listed moves → StandBehind (own_part mine 0 listed) (own_moves mine before) desks
-    → (reports_of_moves (own_slots mine 0 listed) moves desks ≡ map (report_of mine) (moments_after listed before moves))
-    × StandBehind (own_part mine 0 listed) (own_moves mine (before ++ moves)) (desks_after_moves (own_slots mine 0 listed) moves desks)
+    → (reports_of_moves (own_slots mine 0 listed) moves desks
+    ≡ map (report_of mine) (moments_after listed before moves))
+    × StandBehind (own_part mine 0 listed) (own_moves mine (before ++ moves))
+    (desks_after_moves (own_slots mine 0 listed) moves desks)
 
 -- moves that ascend, as the recovery machine's do, have in each jump a snapshot of each listed security
 abbrev pub LawOfFullJumps : Type 0
-LawOfFullJumps = (listed : List Instrument) (next : ℕ) (moves : List Move) → Ascend listed next moves → AreFull listed moves
+LawOfFullJumps =
+    (listed : List Instrument) (next : ℕ) (moves : List Move) → Ascend listed next moves → AreFull listed moves
 
 -- new desks stand behind no moves
 abbrev pub LawOfFirstDesks : Type 0

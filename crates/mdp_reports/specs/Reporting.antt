@@ -1,5 +1,5 @@
--- What the desks of a worker's securities report of moves: each jump, and at each event end the securities at its slots that are
--- printed there.
+-- What the desks of a worker's securities report of moves: each jump, and at each event end the securities at its slots
+-- that are printed there.
 use Rattle.std.specs.Prelude.{ℕ, List, [], ◌∷◌, ◌++◌, fold, map, slice_get, Option}
 use Rattle.mdp_templates.specs.Snapshot.{SnapshotContent}
 use Rattle.mdp_books.specs.Feed.{Sent, sent_in}
@@ -41,4 +41,5 @@ desks_after_moves slots (m ∷ moves) ds = desks_after_moves slots moves (desks_
 
 abbrev pub reports_of_moves : List ℕ → List Move → List Desk → List Report
 reports_of_moves slots [] ds = []
-reports_of_moves slots (m ∷ moves) ds = reports_of_move slots m ds ++ reports_of_moves slots moves (desks_after_move slots m ds)
+reports_of_moves slots (m ∷ moves) ds =
+    reports_of_move slots m ds ++ reports_of_moves slots moves (desks_after_move slots m ds)

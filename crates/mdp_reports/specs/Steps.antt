@@ -1,4 +1,5 @@
--- The steps of a board as a list that grows: the rows of all steps stand in one list, and each step says where its own begin.
+-- The steps of a board as a list that grows: the rows of all steps stand in one list, and each step says where its own
+-- begin.
 use Rattle.std.specs.Prelude.{◌≤◌, ℕ, List, [], ◌∷◌, ◌++◌, length, fold, if◌then◌else◌, ⊤}
 use Rattle.std.specs.List.{slice_range}
 use Rattle.std.specs.Coded.{Coded, coded_list}
@@ -52,7 +53,8 @@ steps_with pair (s ∷ t ∷ steps) = s ∷ steps_with pair (t ∷ steps)
 
 -- of all that is told at an event end
 abbrev pub steps_with_told : ℕ → ℕ → List Told → List Step → List Step
-steps_with_told packet message ts steps = fold (λ (so_far : List Step) (t : Told). steps_with (pair_told packet message t) so_far) steps ts
+steps_with_told packet message ts steps =
+    fold (λ (so_far : List Step) (t : Told). steps_with (pair_told packet message t) so_far) steps ts
 
 -- ---- a moment by its heading and all that is told at it
 

@@ -23,12 +23,15 @@ pub record View : Type 0 where
 
 abbrev pub view_code : Coded View
 view_code =
-    code_by (List Instrument × List (Option Best)) (coded× (coded_list instrument.the_row.coded) (coded_list (coded_option best.the_row.coded)))
+    code_by (List Instrument × List (Option Best))
+    (coded× (coded_list instrument.the_row.coded) (coded_list (coded_option best.the_row.coded)))
     (λ v. (v.listed, v.kept)) (λ t. record { listed = t.0; kept = t.1 }) (λ _. refl)
 
--- a kept value and a mark for each security, and beside them the calendar spreads with their parts, and a mark for each of these
+-- a kept value and a mark for each security, and beside them the calendar spreads with their parts, and a mark for each
+-- of these
 pub record AreBesideKept
-    (listed : List Instrument) (spreads : List Spread) (parts : List (List ℕ)) (due : List Bool) (kept : List (Option Best)) (marks : List Bool)
+    (listed : List Instrument) (spreads : List Spread) (parts : List (List ℕ)) (due : List Bool)
+    (kept : List (Option Best)) (marks : List Bool)
     : Type 0 where
   pub audited : AreAudited listed spreads parts due
   pub kept_long : length kept ≡ length listed
@@ -50,7 +53,8 @@ marks_after ts marks = fold marks_with marks ts
 abbrev pub marked_line : ℕ → ℕ → List Instrument → List Bool → List (Option Best) → Spread → List ℕ
 marked_line packet message listed marks kept s =
     if get_or marks s.slot false || get_or marks s.leg1 false || get_or marks s.leg2 false then
-    verdicts_text packet message (name_of (slice_get listed s.slot)) (best_kept (slice_get kept s.slot)) (best_kept (slice_get kept s.leg1)) (best_kept (slice_get kept s.leg2))
+    verdicts_text packet message (name_of (slice_get listed s.slot)) (best_kept (slice_get kept s.slot))
+    (best_kept (slice_get kept s.leg1)) (best_kept (slice_get kept s.leg2))
     else []
 
 -- ---- a moment by its heading and all that is told at it

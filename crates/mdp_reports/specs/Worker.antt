@@ -10,4 +10,6 @@ pub record View : Type 0 where
   pub desks : List Desk
 
 abbrev pub view_code : Coded View
-view_code = code_by (List ℕ × List Desk) (coded× (coded_list coded_ℕ) (coded_list desk.the_row.coded)) (λ v. (v.slots, v.desks)) (λ t. record { slots = t.0; desks = t.1 }) (λ _. refl)
+view_code =
+    code_by (List ℕ × List Desk) (coded× (coded_list coded_ℕ) (coded_list desk.the_row.coded)) (λ v. (v.slots, v.desks))
+    (λ t. record { slots = t.0; desks = t.1 }) (λ _. refl)

@@ -45,7 +45,8 @@ fn put_marked<A: Allocator>(
     marks: &Marked<A>,
 ) -> Result<(), Memory>
     requires { IsUnder (length marks.now) spread.now }
-    ensures { OnOk result (out.new.items ≡ out.old.items ++ marked_line packet message listed.now marks.now kept.now spread.now) }
+    ensures { OnOk result (out.new.items ≡ out.old.items
+        ++ marked_line packet message listed.now marks.now kept.now spread.now) }
 {
     if !is_one_marked(marks, spread) {
         return Ok(());
@@ -61,8 +62,8 @@ fn put_marked<A: Allocator>(
     )
 }
 
-/// Appends the lines of the spreads of which one of the three is marked. Only spreads that are marked in `due` are looked at, and
-/// their marks go.
+/// Appends the lines of the spreads of which one of the three is marked. Only spreads that are marked in `due` are
+/// looked at, and their marks go.
 pub(crate) fn put_audits<A: Allocator>(
     out: &mut Vec<u8, A>,
     packet: u32,
@@ -77,7 +78,8 @@ pub(crate) fn put_audits<A: Allocator>(
     requires many { length due.old ≡ length spreads.now }
     requires quiet { AreQuiet marks.now spreads.now due.old }
     ensures long { length due.new ≡ length due.old }
-    ensures text { OnOk result (out.new.items ≡ out.old.items ++ flat_map (marked_line packet message listed.now marks.now kept.now) spreads.now) }
+    ensures text { OnOk result (out.new.items ≡ out.old.items
+        ++ flat_map (marked_line packet message listed.now marks.now kept.now) spreads.now) }
 {
     let mut from = 0;
     while let Some(n) = due.next_from(from) {

@@ -11,8 +11,8 @@ use mdp_templates::Memory;
 use std::alloc::Allocator;
 use std::marker::Model;
 
-/// A step: an event or a jump, and where its rows begin among all rows. They go on to where those of the next step begin; a jump has
-/// none.
+/// A step: an event or a jump, and where its rows begin among all rows. They go on to where those of the next step
+/// begin; a jump has none.
 #[derive(Clone, Copy)]
 pub struct StepMark {
     pub is_jump: bool,
@@ -107,7 +107,8 @@ impl<A: Allocator + Copy> BoardSteps<A> {
     ///
     /// Memory ran out. Then no step was begun.
     pub fn begin(&mut self) -> Result<(), Memory>
-        ensures { MatchResult result (λ _. self.new ≡ self.old ++ Event [] ∷ []) (λ _. self.new ≡ self.old) }
+        ensures { MatchResult result (λ _. self.new ≡ self.old ++ Event [] ∷ [])
+            (λ _. self.new ≡ self.old) }
     {
         let from = self.rows.len();
         self.marks.push(StepMark {
@@ -123,7 +124,8 @@ impl<A: Allocator + Copy> BoardSteps<A> {
     ///
     /// Memory ran out. Then the steps are as before.
     pub fn put(&mut self, slot: u16, row: Row) -> Result<(), Memory>
-        ensures { MatchResult result (λ _. self.new ≡ steps_with (slot, row) self.old) (λ _. self.new ≡ self.old) }
+        ensures { MatchResult result (λ _. self.new ≡ steps_with (slot, row) self.old)
+            (λ _. self.new ≡ self.old) }
     {
         self.rows.push((slot, row))?;
         Ok(())
@@ -135,7 +137,8 @@ impl<A: Allocator + Copy> BoardSteps<A> {
     ///
     /// Memory ran out. Then the steps are as before.
     pub fn jump(&mut self) -> Result<(), Memory>
-        ensures { MatchResult result (λ _. self.new ≡ self.old ++ Jump ∷ []) (λ _. self.new ≡ self.old) }
+        ensures { MatchResult result (λ _. self.new ≡ self.old ++ Jump ∷ [])
+            (λ _. self.new ≡ self.old) }
     {
         let from = self.rows.len();
         self.marks.push(StepMark {

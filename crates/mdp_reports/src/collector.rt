@@ -27,8 +27,8 @@ use mdp_templates::{DIRECT_DEPTH, Instrument, Memory};
 use std::alloc::Allocator;
 use std::marker::Model;
 
-/// Joins what all workers report, in slot order, and audits the calendar spreads. It is seen as the listed securities and, for each,
-/// the best levels of where it was last printed, none of a fault or from a jump on.
+/// Joins what all workers report, in slot order, and audits the calendar spreads. It is seen as the listed securities
+/// and, for each, the best levels of where it was last printed, none of a fault or from a jump on.
 #[derive(Drop)]
 pub struct Collector<'a, A: Allocator> {
     listed: &'a [Instrument],
@@ -49,7 +49,8 @@ impl<'a, A: Allocator> Model for Collector<'a, A> {
 
     ghost view = { λ c. record { listed = c.listed.now; kept = c.kept.items } };
 
-    ghost invariant = { λ c. AreBesideKept c.listed.now c.spreads.items (lists_in c.parts.items) c.due c.kept.items c.marks };
+    ghost invariant = { λ c. AreBesideKept c.listed.now c.spreads.items
+        (lists_in c.parts.items) c.due c.kept.items c.marks };
 }
 
 // Gives the best levels of each security before any packet.
@@ -85,8 +86,11 @@ fn put_event<A: Allocator + Copy>(
     requires audited { AreAudited listed.now spreads.now (lists_in parts.now) due.old }
     requires kept_beside { length kept.old ≡ length listed.now }
     requires long { length marks.old ≡ length listed.now }
-    ensures text { OnOk result (out.new.items ≡ out.old.items ++ told_text packet message listed.now (all_by_slot left.old) (kept_after (all_by_slot left.old) kept.old)) }
-    ensures steps { OnOk result (steps.new ≡ steps.old ++ step_telling packet message (all_by_slot left.old) ∷ []) }
+    ensures text { OnOk result (out.new.items ≡ out.old.items
+        ++ told_text packet message listed.now (all_by_slot left.old)
+        (kept_after (all_by_slot left.old) kept.old)) }
+    ensures steps { OnOk result (steps.new ≡ steps.old
+        ++ step_telling packet message (all_by_slot left.old) ∷ []) }
     ensures kept { OnOk result (kept.new ≡ kept_after (all_by_slot left.old) kept.old) }
     ensures kept_long { length kept.new ≡ length kept.old }
     ensures due_long { length due.new ≡ length due.old }
@@ -158,7 +162,10 @@ impl<'a, A: Allocator + Copy> Collector<'a, A> {
     /// Memory ran out.
     pub fn new(alloc: A, listed: &'a [Instrument]) -> Result<Collector<'a, A>, Memory>
         requires { AllPairs (λ earlier later. earlier.id ≢ later.id) listed.now }
-        ensures { IfOk result (λ c. c ≡ record { listed = listed.now; kept = kept_at_start listed.now }) }
+        ensures { IfOk result (λ c. c ≡ record {
+          listed = listed.now;
+          kept = kept_at_start listed.now;
+        }) }
     {
         let slots = Slots::of(alloc, listed)?;
         let spreads = spreads_of(alloc, &slots, listed)?;
@@ -184,9 +191,15 @@ impl<'a, A: Allocator + Copy> Collector<'a, A> {
         out: &mut Vec<u8, A>,
         steps: &mut BoardSteps<A>,
     ) -> Result<(), Memory>
-        ensures text { OnOk result (out.new.items ≡ out.old.items ++ text_under heading self.old.listed self.old.kept (all_by_slot left.old)) }
-        ensures steps { OnOk result (steps.new ≡ steps.old ++ step_under heading (all_by_slot left.old) ∷ []) }
-        ensures kept { OnOk result (self.new ≡ record { listed = self.old.listed; kept = kept_under heading self.old.kept (all_by_slot left.old) }) }
+        ensures text { OnOk result (out.new.items ≡ out.old.items
+            ++ text_under heading self.old.listed self.old.kept (all_by_slot left.old)) }
+        ensures steps { OnOk result (steps.new ≡ steps.old
+            ++ step_under heading (all_by_slot left.old) ∷ []) }
+        ensures kept { OnOk result (self.new
+            ≡ record {
+              listed = self.old.listed;
+              kept = kept_under heading self.old.kept (all_by_slot left.old);
+            }) }
     {
         match heading {
             Heading::Event { packet, message } => put_event(
@@ -211,8 +224,9 @@ impl<'a, A: Allocator + Copy> Collector<'a, A> {
         }
     }
 
-    /// Takes one answer of each worker, all to the same batch, and appends the lines of its moments, and for each moment the step
-    /// that is published of it: at an event end the rows of all that is printed there, which may be none.
+    /// Takes one answer of each worker, all to the same batch, and appends the lines of its moments, and for each
+    /// moment the step that is published of it: at an event end the rows of all that is printed there, which may be
+    /// none.
     ///
     /// # Errors
     ///
@@ -224,9 +238,15 @@ impl<'a, A: Allocator + Copy> Collector<'a, A> {
         out: &mut Vec<u8, A>,
         steps: &mut BoardSteps<A>,
     ) -> Result<(), Memory>
-        ensures text { OnOk result (out.new.items ≡ out.old.items ++ text_from self.old.listed self.old.kept (rounds_in (map told_in_answer round.now))) }
-        ensures steps { OnOk result (steps.new ≡ steps.old ++ steps_in (rounds_in (map told_in_answer round.now))) }
-        ensures kept { OnOk result (self.new ≡ record { listed = self.old.listed; kept = kept_after_rounds self.old.kept (rounds_in (map told_in_answer round.now)) }) }
+        ensures text { OnOk result (out.new.items ≡ out.old.items
+            ++ text_from self.old.listed self.old.kept (rounds_in (map told_in_answer round.now))) }
+        ensures steps { OnOk result (steps.new ≡ steps.old
+            ++ steps_in (rounds_in (map told_in_answer round.now))) }
+        ensures kept { OnOk result (self.new
+            ≡ record {
+              listed = self.old.listed;
+              kept = kept_after_rounds self.old.kept (rounds_in (map told_in_answer round.now));
+            }) }
     {
         let mut left = Vec::with_capacity(alloc, round.len())?;
         for n in 0..count_in(round) {

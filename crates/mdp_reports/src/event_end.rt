@@ -20,7 +20,8 @@ fn tell_due<A: Allocator + Copy>(
     desk: &Desk,
 ) -> Result<(), Memory>
     requires { desk.now.marked ≡ true }
-    ensures { OnOk result (out.new ≡ reports_with_all (told_there packet message slot (desk_standing packet desk.now)) out.old) }
+    ensures { OnOk result (out.new ≡ reports_with_all
+        (told_there packet message slot (desk_standing packet desk.now)) out.old) }
 {
     if packet > desk.base {
         let name = &desk.instrument.name;
@@ -40,7 +41,8 @@ fn tell_marked<A: Allocator + Copy>(
 ) -> Result<(), Memory>
     requires marks { marked.now ≡ marks_of desks.now }
     requires many { length slots.now ≡ length desks.now }
-    ensures { OnOk result (out.new ≡ reports_with_all (told_by packet message slots.now (map (desk_standing packet) desks.now)) out.old) }
+    ensures { OnOk result (out.new ≡ reports_with_all
+        (told_by packet message slots.now (map (desk_standing packet) desks.now)) out.old) }
 {
     let mut from = 0;
     while let Some(n) = marked.next_from(from) {
@@ -50,8 +52,8 @@ fn tell_marked<A: Allocator + Copy>(
     Ok(())
 }
 
-/// Reports an event end in message `message` of packet `packet`: of the securities of these desks, which stand at these slots, those
-/// that are printed there. A desk that is not marked is not looked at.
+/// Reports an event end in message `message` of packet `packet`: of the securities of these desks, which stand at these
+/// slots, those that are printed there. A desk that is not marked is not looked at.
 pub(crate) fn report_event_end<A: Allocator + Copy>(
     desks: &Desks<A>,
     slots: &[u16],
@@ -60,7 +62,9 @@ pub(crate) fn report_event_end<A: Allocator + Copy>(
     out: &mut Reports<A>,
 ) -> Result<(), Memory>
     requires { length slots.now ≡ length desks.now }
-    ensures { OnOk result (out.new ≡ out.old ++ tells packet message (told_by packet message slots.now (map (desk_standing packet) desks.now)) ∷ []) }
+    ensures { OnOk result (out.new ≡ out.old
+        ++ tells packet message (told_by packet message slots.now
+        (map (desk_standing packet) desks.now)) ∷ []) }
 {
     out.begin(packet, message)?;
     tell_marked(

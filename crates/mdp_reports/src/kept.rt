@@ -1,4 +1,5 @@
-//! What is made of all that a moment tells: lines, rows of a board, the best levels that are kept, and a mark for each security.
+//! What is made of all that a moment tells: lines, rows of a board, the best levels that are kept, and a mark for each
+//! security.
 
 ghost use Rattle.std.specs.Prelude.{◌≡◌, ◌++◌, OnOk, None, set, map, length, true, false};
 ghost use Rattle.mdp_engine.specs.Rounds.{all_by_slot, kept_after};
@@ -48,7 +49,8 @@ fn row_with(packet: u32, message: u64, top: Option<TopOfBook>) -> Row
     }
 }
 
-/// Appends the lines of all that is told, in slot order, and its rows to the last step, keeps its best levels, and marks its slots.
+/// Appends the lines of all that is told, in slot order, and its rows to the last step, keeps its best levels, and
+/// marks its slots.
 pub(crate) fn put_all_told<A: Allocator + Copy>(
     packet: u32,
     message: u64,
@@ -59,8 +61,10 @@ pub(crate) fn put_all_told<A: Allocator + Copy>(
     marks: &mut Marked<A>,
 ) -> Result<(), Memory>
     requires { length kept.old ≡ length marks.old }
-    ensures text { OnOk result (out.new.items ≡ out.old.items ++ lines_told (all_by_slot left.old)) }
-    ensures steps { OnOk result (steps.new ≡ steps_with_told packet message (all_by_slot left.old) steps.old) }
+    ensures text { OnOk result (out.new.items ≡ out.old.items
+        ++ lines_told (all_by_slot left.old)) }
+    ensures steps { OnOk result (steps.new
+        ≡ steps_with_told packet message (all_by_slot left.old) steps.old) }
     ensures kept { OnOk result (kept.new ≡ kept_after (all_by_slot left.old) kept.old) }
     ensures marks { OnOk result (marks.new ≡ marks_after (all_by_slot left.old) marks.old) }
     ensures kept_long { length kept.new ≡ length kept.old }

@@ -42,8 +42,8 @@ pub fn law_of_step_fronts()
     ensures { LawOfStepFronts }
 {}
 
-/// Proves that where a run ended early, the text that went out is a beginning of the whole text, and the steps that were
-/// published are a beginning of all steps.
+/// Proves that where a run ended early, the text that went out is a beginning of the whole text, and the steps that
+/// were published are a beginning of all steps.
 pub fn law_of_early_ends()
     ensures { LawOfEarlyEnds }
 {}

@@ -1,5 +1,5 @@
-//! What a worker reports of the moves that it took with the books of its own securities, and what the collector makes of the reports
-//! of all workers: the text of all of them, and nothing of threads or queues.
+//! What a worker reports of the moves that it took with the books of its own securities, and what the collector makes
+//! of the reports of all workers: the text of all of them, and nothing of threads or queues.
 #![tactic(auto)]
 
 mod answer;

@@ -50,7 +50,8 @@ fn place_of_next(left: &[Rest]) -> Option<usize>
 
 /// Takes what goes next of all lists, by slot.
 pub(crate) fn take_next<'a>(left: &mut [Rest<'a>]) -> Option<Line<'a>>
-    ensures next { MatchOption result (all_by_slot left.old ≡ []) (λ line. all_by_slot left.old ≡ told_line line ∷ all_by_slot left.new) }
+    ensures next { MatchOption result (all_by_slot left.old ≡ [])
+        (λ line. all_by_slot left.old ≡ told_line line ∷ all_by_slot left.new) }
     ensures stays { IfNone result (left.new ≡ left.old) }
 {
     let Some(n) = place_of_next(left) else {

@@ -24,8 +24,10 @@ fn report_message<A: Allocator + Copy>(
 ) -> Result<(), Memory>
     requires { length slots.now ≡ length desks.old }
     ensures many { length desks.new ≡ length desks.old }
-    ensures desks { OnOk result (desks.new ≡ desks_after (sent_as packet message taken.now) desks.old) }
-    ensures reports { OnOk result (out.new ≡ out.old ++ reports_at slots.now (sent_as packet message taken.now) desks.old) }
+    ensures desks { OnOk result (desks.new
+        ≡ desks_after (sent_as packet message taken.now) desks.old) }
+    ensures reports { OnOk result (out.new ≡ out.old
+        ++ reports_at slots.now (sent_as packet message taken.now) desks.old) }
 {
     desks.hear(packet, message, taken.entries());
     if taken.is_end() {
@@ -45,7 +47,8 @@ fn report_packet<A: Allocator + Copy>(
     requires { length slots.now ≡ length desks.old }
     ensures many { length desks.new ≡ length desks.old }
     ensures desks { OnOk result (desks.new ≡ passed_desks (sent_in packet.now) desks.old) }
-    ensures reports { OnOk result (out.new ≡ out.old ++ reports_passed slots.now (sent_in packet.now) desks.old) }
+    ensures reports { OnOk result (out.new ≡ out.old
+        ++ reports_passed slots.now (sent_in packet.now) desks.old) }
 {
     let number = packet.number();
     for n in 0..packet.len() {
@@ -89,8 +92,10 @@ pub fn report_turn<A: Allocator + Copy>(
 ) -> Result<(), Memory>
     requires { length slots.now ≡ length desks.old }
     ensures many { length desks.new ≡ length desks.old }
-    ensures desks { OnOk result (desks.new ≡ desks_after_move slots.now (move_of turn.now) desks.old) }
-    ensures reports { OnOk result (out.new ≡ out.old ++ reports_of_move slots.now (move_of turn.now) desks.old) }
+    ensures desks { OnOk result (desks.new
+        ≡ desks_after_move slots.now (move_of turn.now) desks.old) }
+    ensures reports { OnOk result (out.new ≡ out.old
+        ++ reports_of_move slots.now (move_of turn.now) desks.old) }
 {
     match turn {
         Turn::Passed(packet) => report_packet(desks, slots, packet, out),

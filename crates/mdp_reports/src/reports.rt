@@ -91,9 +91,18 @@ fn put_told<A: Allocator>(
     name: &Name,
     live: &Live,
 ) -> Result<(), Memory>
-    ensures bytes { OnOk result (bytes.new.items ≡ bytes.old.items ++ (told_of_book packet message slot name.now live.now).lines) }
-    ensures rows { OnOk result (rows.new.items ≡ rows.old.items ++ record { slot = slot; from = length bytes.old.items; to = length bytes.new.items; best = (told_of_book packet message slot name.now live.now).best; top = (told_of_book packet message slot name.now live.now).top } ∷ []) }
-    ensures marks { OnOk result (marks.new.items ≡ marks_to (length rows.new.items) marks.old.items) }
+    ensures bytes { OnOk result (bytes.new.items ≡ bytes.old.items
+        ++ (told_of_book packet message slot name.now live.now).lines) }
+    ensures rows { OnOk result (rows.new.items ≡ rows.old.items
+        ++ record {
+          slot = slot;
+          from = length bytes.old.items;
+          to = length bytes.new.items;
+          best = (told_of_book packet message slot name.now live.now).best;
+          top = (told_of_book packet message slot name.now live.now).top;
+        } ∷ []) }
+    ensures marks { OnOk result (marks.new.items
+        ≡ marks_to (length rows.new.items) marks.old.items) }
 {
     let from = bytes.len();
     let top = put_book(bytes, packet, message, name, live)?;
@@ -172,8 +181,9 @@ impl<A: Allocator + Copy> Reports<A> {
         Ok(())
     }
 
-    /// Tells in the last report, where that is of an event end, of one more security: its slot among all listed ones, the lines of its
-    /// book in message `message` of packet `packet`, its best levels and the top of its consolidated book.
+    /// Tells in the last report, where that is of an event end, of one more security: its slot among all listed ones,
+    /// the lines of its book in message `message` of packet `packet`, its best levels and the top of its consolidated
+    /// book.
     ///
     /// # Errors
     ///
@@ -186,7 +196,8 @@ impl<A: Allocator + Copy> Reports<A> {
         name: &Name,
         live: &Live,
     ) -> Result<(), Memory>
-        ensures told { OnOk result (self.new ≡ reports_with (told_of_book packet message slot name.now live.now) self.old) }
+        ensures told { OnOk result (self.new
+            ≡ reports_with (told_of_book packet message slot name.now live.now) self.old) }
         ensures emptied { IfErr result (λ _. self.new ≡ []) }
     {
         let Ok(()) = put_told(

@@ -62,7 +62,8 @@ impl<'a> Rest<'a> {
 
     /// Takes what is told of the next security, if one is left.
     pub fn take(&mut self) -> Option<Line<'a>>
-        ensures next { MatchOption result (self.old ≡ []) (λ line. self.old ≡ told_line line ∷ self.new) }
+        ensures next { MatchOption result (self.old ≡ [])
+            (λ line. self.old ≡ told_line line ∷ self.new) }
         ensures stays { IfNone result (self.new ≡ self.old) }
     {
         match self.rows.split_first() {

@@ -2,8 +2,8 @@
 
 use mdp_quotes::{Best, TopOfBook};
 
-/// A security that is printed at an event end: its slot, where its lines stand among the bytes (from `from` on and before `to`), its
-/// best levels, and the top of its consolidated book; of a faulty book there is neither.
+/// A security that is printed at an event end: its slot, where its lines stand among the bytes (from `from` on and
+/// before `to`), its best levels, and the top of its consolidated book; of a faulty book there is neither.
 #[derive(Clone, Copy)]
 pub struct Row {
     pub slot: u16,

@@ -15,7 +15,8 @@ use mdp_templates::{Instrument, Memory};
 use std::alloc::Allocator;
 use std::marker::Model;
 
-/// A worker with the books of its own securities alone, seen as the slots of these among all listed ones, from 0, and their desks.
+/// A worker with the books of its own securities alone, seen as the slots of these among all listed ones, from 0, and
+/// their desks.
 #[derive(Drop)]
 pub struct Worker<A: Allocator> {
     slots: Vec<u16, A>,
@@ -59,8 +60,10 @@ fn own_part<A: Allocator + Copy>(
 ) -> Result<Own<A>, Memory>
     requires some { 0 < count }
     requires few { length listed.now ≤ 65536 }
-    ensures slots { IfOk result (λ own. own.slots.items ≡ own_slots (is_kept_by count number) 0 listed.now) }
-    ensures securities { IfOk result (λ own. own.securities.items ≡ own_part (is_kept_by count number) 0 listed.now) }
+    ensures slots { IfOk result (λ own. own.slots.items
+        ≡ own_slots (is_kept_by count number) 0 listed.now) }
+    ensures securities { IfOk result (λ own. own.securities.items
+        ≡ own_part (is_kept_by count number) 0 listed.now) }
 {
     let mut slots = Vec::new(alloc);
     let mut securities = Vec::new(alloc);
@@ -74,8 +77,8 @@ fn own_part<A: Allocator + Copy>(
 }
 
 impl<A: Allocator + Copy> Worker<A> {
-    /// Makes worker `number` of `count` before any packet: its own are the listed securities whose slots are `number` modulo `count`.
-    /// The ids of all differ, and their depths are of their kind.
+    /// Makes worker `number` of `count` before any packet: its own are the listed securities whose slots are `number`
+    /// modulo `count`. The ids of all differ, and their depths are of their kind.
     ///
     /// # Errors
     ///
@@ -114,8 +117,13 @@ impl<A: Allocator + Copy> Worker<A> {
         turn: &Turn<A>,
         out: &mut Reports<A>,
     ) -> Result<(), Memory>
-        ensures worker { OnOk result (self.new ≡ record self.old { desks = desks_after_move self.old.slots (move_of turn.now) self.old.desks }) }
-        ensures reports { OnOk result (out.new ≡ out.old ++ reports_of_move self.old.slots (move_of turn.now) self.old.desks) }
+        ensures worker { OnOk result (self.new
+            ≡ record self.old {
+              desks = desks_after_move self.old.slots
+                  (move_of turn.now) self.old.desks;
+            }) }
+        ensures reports { OnOk result (out.new ≡ out.old
+            ++ reports_of_move self.old.slots (move_of turn.now) self.old.desks) }
     {
         report_turn(alloc, &mut self.desks, &self.slots, turn, out)?;
         Ok(())

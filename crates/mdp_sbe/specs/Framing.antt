@@ -27,11 +27,23 @@ pub record Parts : Type 0 where
   pub body : List ℕ
 
 abbrev pub parts_of : List ℕ → Parts
-parts_of text = record { block_length = number_at 2 2 text; template = number_at 4 2 text; version = number_at 8 2 text; body = drop 10 text }
+parts_of text =
+    record {
+      block_length = number_at 2 2 text;
+      template = number_at 4 2 text;
+      version = number_at 8 2 text;
+      body = drop 10 text;
+    }
 
 -- a lent message, without where its body lies in memory
 abbrev pub parts : Message → Parts
-parts message = record { block_length = message.block_length; template = message.template; version = message.version; body = message.body.now }
+parts message =
+    record {
+      block_length = message.block_length;
+      template = message.template;
+      version = message.version;
+      body = message.body.now;
+    }
 
 -- a text begins with a message of these parts, and this follows it
 pub record BeginsMessage (rest : List ℕ) (message : Parts) (after : List ℕ) : Type 0 where
@@ -45,22 +57,27 @@ abbrev pub IsUnframed : List ℕ → Refusal → Type 0
 IsUnframed rest refusals.SizeCut = length rest ≡ 1
 IsUnframed rest refusals.SizeSmall = (2 ≤ length rest) × (number_at 0 2 rest < 10)
 IsUnframed rest refusals.SizePast = (2 ≤ length rest) × (10 ≤ number_at 0 2 rest) × (length rest < number_at 0 2 rest)
-IsUnframed rest refusals.Schema = (10 ≤ number_at 0 2 rest) × (number_at 0 2 rest ≤ length rest) × (number_at 6 2 rest ≢ 1)
+IsUnframed rest refusals.Schema =
+    (10 ≤ number_at 0 2 rest) × (number_at 0 2 rest ≤ length rest) × (number_at 6 2 rest ≢ 1)
 IsUnframed rest _ = ⊥
 
 -- From `rest` to `after` stand messages of these values, one after the other. What a message's value is
 -- depends on the reader, and is the first argument.
 abbrev pub AreMessages : {V : Type 0} → (Parts → V → Type 0) → List ℕ → List V → List ℕ → Type 0
 AreMessages IsValue rest [] after = rest ≡ after
-AreMessages IsValue rest (v ∷ vs) after = (message : Parts) × (next : List ℕ) × BeginsMessage rest message next × IsValue message v × AreMessages IsValue next vs after
+AreMessages IsValue rest (v ∷ vs) after =
+    (message : Parts) × (next : List ℕ) × BeginsMessage rest message next × IsValue message v
+    × AreMessages IsValue next vs after
 
 -- what stands here begins no message, or begins one that is refused
 pub data IsRefusedHere (IsRefused : Parts → Refusal → Type 0) (here : List ℕ) (r : Refusal) : Type 0 where
   unframed : IsUnframed here r → IsRefusedHere IsRefused here r
-  in_message : (message : Parts) (after : List ℕ) → BeginsMessage here message after → IsRefused message r → IsRefusedHere IsRefused here r
+  in_message : (message : Parts) (after : List ℕ) → BeginsMessage here message after → IsRefused message r
+      → IsRefusedHere IsRefused here r
 
 -- The first fault of a text that should be messages: good ones, and then the fault.
-pub record AreRefused {V : Type 0} (IsValue : Parts → V → Type 0) (IsRefused : Parts → Refusal → Type 0) (rest : List ℕ) (r : Refusal) : Type 0 where
+pub record AreRefused {V : Type 0} (IsValue : Parts → V → Type 0) (IsRefused : Parts → Refusal → Type 0) (rest : List ℕ)
+    (r : Refusal) : Type 0 where
   pub values : List V
   pub here : List ℕ
   pub good : AreMessages IsValue rest values here
@@ -79,5 +96,6 @@ pub record IsRoot (message : Parts) (least : ℕ) (root rest : List ℕ) : Type 
 
 abbrev pub IsRefusedRoot : Parts → ℕ → Refusal → Type 0
 IsRefusedRoot message least refusals.BlockShort = message.block_length < least
-IsRefusedRoot message least refusals.BlockPast = (least ≤ message.block_length) × (length message.body < message.block_length)
+IsRefusedRoot message least refusals.BlockPast =
+    (least ≤ message.block_length) × (length message.body < message.block_length)
 IsRefusedRoot message least _ = ⊥

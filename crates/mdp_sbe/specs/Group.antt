@@ -17,19 +17,24 @@ pub record IsGroup (rest : List ℕ) (least : ℕ) (entries : List (List ℕ)) :
 
 abbrev pub IsRefusedGroup : List ℕ → ℕ → Refusal → Type 0
 IsRefusedGroup rest least refusals.GroupCut = length rest < 3
-IsRefusedGroup rest least refusals.GroupShort = (3 ≤ length rest) × (0 < slice_index rest 2) × (number_at 0 2 rest < least)
-IsRefusedGroup rest least refusals.GroupPast = (3 ≤ length rest) × (0 < slice_index rest 2 → least ≤ number_at 0 2 rest) × (length (drop 3 rest) < slice_index rest 2 * number_at 0 2 rest)
+IsRefusedGroup rest least refusals.GroupShort =
+    (3 ≤ length rest) × (0 < slice_index rest 2) × (number_at 0 2 rest < least)
+IsRefusedGroup rest least refusals.GroupPast =
+    (3 ≤ length rest) × (0 < slice_index rest 2 → least ≤ number_at 0 2 rest)
+    × (length (drop 3 rest) < slice_index rest 2 * number_at 0 2 rest)
 IsRefusedGroup rest least _ = ⊥
 
 -- a root block with a group right behind it
-pub record IsGrouped (message : Parts) (least_root least_entry : ℕ) (root : List ℕ) (entries : List (List ℕ)) : Type 0 where
+pub record IsGrouped (message : Parts) (least_root least_entry : ℕ) (root : List ℕ)
+    (entries : List (List ℕ)) : Type 0 where
   pub rest : List ℕ
   pub block : IsRoot message least_root root rest
   pub group : IsGroup rest least_entry entries
 
 pub data IsRefusedGrouped (message : Parts) (least_root least_entry : ℕ) (r : Refusal) : Type 0 where
   at_root : IsRefusedRoot message least_root r → IsRefusedGrouped message least_root least_entry r
-  at_group : (root rest : List ℕ) → IsRoot message least_root root rest → IsRefusedGroup rest least_entry r → IsRefusedGrouped message least_root least_entry r
+  at_group : (root rest : List ℕ) → IsRoot message least_root root rest → IsRefusedGroup rest least_entry r
+      → IsRefusedGrouped message least_root least_entry r
 
 -- so many pieces of one length, one after the other
 unfoldable pub pieces : ℕ → ℕ → List ℕ → List (List ℕ)

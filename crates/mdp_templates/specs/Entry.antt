@@ -14,10 +14,14 @@ use Rattle.mdp_templates.specs.Answer.{◌>>=◌}
 
 -- the entry types of the four sides, the ASCII characters 0, 1, E and F
 abbrev pub kind_of : ℕ → Result Kind Refusal
-kind_of n = if n == 48 then Ok kinds.Bid else (if n == 49 then Ok kinds.Offer else (if n == 69 then Ok kinds.ImpliedBid else (if n == 70 then Ok kinds.ImpliedOffer else Err refusals.EntryType)))
+kind_of n =
+    if n == 48 then Ok kinds.Bid else (if n == 49 then Ok kinds.Offer
+    else (if n == 69 then Ok kinds.ImpliedBid else (if n == 70 then Ok kinds.ImpliedOffer else Err refusals.EntryType)))
 
 abbrev pub action_of : ℕ → Result Action Refusal
-action_of n = if n == 0 then Ok actions.New else (if n == 1 then Ok actions.Change else (if n == 2 then Ok actions.Delete else Err refusals.Action))
+action_of n =
+    if n == 0 then Ok actions.New else (if n == 1 then Ok actions.Change
+    else (if n == 2 then Ok actions.Delete else Err refusals.Action))
 
 -- how many levels a side has at most, where it is direct and where it is implied
 abbrev pub direct_depth : ℕ
@@ -39,7 +43,8 @@ level_of kind n = if n == 0 then Err refusals.Level else (if nat_lt (depth_of ki
 abbrev pub quote_of : ℤ → ℤ → Result Level Refusal
 quote_of price size =
     if int_eq price (pos 9223372036854775807) then Err refusals.Price
-    else (if int_eq size (pos 2147483647) || int_lt size (pos 0) then Err refusals.Size else Ok (record { price = price; size = size }))
+    else (if int_eq size (pos 2147483647) || int_lt size (pos 0) then Err refusals.Size
+    else Ok (record { price = price; size = size }))
 
 -- with a delete the price and the size are not looked at
 abbrev pub action_quote : Action → ℤ → ℤ → Result Level Refusal
@@ -54,4 +59,11 @@ entry_of text = do
   action ← action_of (slice_index text 25)
   level ← level_of kind (slice_index text 24)
   quote ← action_quote action (int64_at 0 text) (int32_at 8 text)
-  Ok (record { security = int32_at 12 text; kind = kind; action = action; level = level; price = quote.price; size = quote.size })
+  Ok (record {
+    security = int32_at 12 text;
+    kind = kind;
+    action = action;
+    level = level;
+    price = quote.price;
+    size = quote.size;
+  })

@@ -15,7 +15,9 @@ use Rattle.mdp_templates.specs.Packet.{MessageContent, PacketContent}
 
 -- what a template is on the incremental feeds
 abbrev pub template_of : ℕ → Template
-template_of n = if n == 46 then templates.Book else (if n == 4 then templates.ChannelReset else (if n == 37 || (nat_le 47 n && nat_le n 51) then templates.Carrier else templates.Other))
+template_of n =
+    if n == 46 then templates.Book else (if n == 4 then templates.ChannelReset
+    else (if n == 37 || (nat_le 47 n && nat_le n 51) then templates.Carrier else templates.Other))
 
 -- a message ends its event where bit 7 of the match event indicator is set, the root block's byte 8
 abbrev pub EndsEvent : List ℕ → Bool → Type 0
@@ -71,5 +73,7 @@ pub record IsPacket (text : List ℕ) (value : PacketContent) : Type 0 where
 -- the first fault of a text that should be a packet: of its header, or else of its messages
 pub data IsRefusedPacket (text : List ℕ) (r : Refusal) : Type 0 where
   too_short : length text < 12 → r ≡ refusals.TooShort → IsRefusedPacket text r
-  number_zero : (header : Header) → IsHeader text header → header.number ≡ 0 → r ≡ refusals.NumberZero → IsRefusedPacket text r
-  in_messages : (header : Header) → IsHeader text header → 0 < header.number → AreRefused IsIncremental IsRefusedIncremental (drop 12 text) r → IsRefusedPacket text r
+  number_zero : (header : Header) → IsHeader text header → header.number ≡ 0 → r ≡ refusals.NumberZero
+      → IsRefusedPacket text r
+  in_messages : (header : Header) → IsHeader text header → 0 < header.number
+      → AreRefused IsIncremental IsRefusedIncremental (drop 12 text) r → IsRefusedPacket text r

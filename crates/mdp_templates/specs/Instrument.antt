@@ -37,5 +37,6 @@ pub record AreFit (instruments : List Instrument) : Type 0 where
   pub some : 0 < length instruments
   pub few : length instruments ≤ 512
   pub ids_differ : AllPairs (λ earlier later. earlier.id ≢ later.id) instruments
-  pub legs_stand : (place : ℕ) (instrument : Instrument) → slice_get instruments place ≡ Some instrument → HasLegs (take place instruments) instrument.kind
+  pub legs_stand : (place : ℕ) (instrument : Instrument) → slice_get instruments place ≡ Some instrument
+      → HasLegs (take place instruments) instrument.kind
   pub depths : All HasDepth instruments

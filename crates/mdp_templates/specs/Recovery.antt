@@ -42,7 +42,8 @@ same_kind _ _ = false
 
 abbrev pub level_at : Kind → ℕ → Option Quote → Option Level
 level_at kind position None = None
-level_at kind position (Some quote) = if same_kind quote.kind kind && quote.position == position then Some quote.level else None
+level_at kind position (Some quote) =
+    if same_kind quote.kind kind && quote.position == position then Some quote.level else None
 
 -- the levels that these entries give at a position of a side
 abbrev pub levels_at : Kind → ℕ → List (Option Quote) → List Level
@@ -77,7 +78,8 @@ pub record IsSnapshot (message : Parts) (value : SnapshotContent) : Type 0 where
 -- the first fault of a snapshot message: of its layout, or else of its sides
 pub data IsRefusedSnapshot (message : Parts) (r : Refusal) : Type 0 where
   in_layout : IsRefusedLayout quote_in 16 22 message r → IsRefusedSnapshot message r
-  in_sides : (root : List ℕ) (quotes : List (Option Quote)) → IsLaidOut quote_in 16 22 message root quotes → HasBadSide quotes → r ≡ refusals.SnapshotLevels → IsRefusedSnapshot message r
+  in_sides : (root : List ℕ) (quotes : List (Option Quote)) → IsLaidOut quote_in 16 22 message root quotes
+      → HasBadSide quotes → r ≡ refusals.SnapshotLevels → IsRefusedSnapshot message r
 
 -- what a message of this feed gives: a snapshot where its template is 52, else nothing
 abbrev pub IsRecovery : Parts → Option SnapshotContent → Type 0
@@ -102,4 +104,5 @@ pub record AreSnapshots (text : List ℕ) (values : List SnapshotContent) : Type
 -- the first fault of a text that should be such a datagram: of its header, or else of its messages
 pub data AreRefusedSnapshots (text : List ℕ) (r : Refusal) : Type 0 where
   too_short : length text < 12 → r ≡ refusals.TooShort → AreRefusedSnapshots text r
-  in_messages : (header : Header) → IsHeader text header → AreRefused IsRecovery IsRefusedRecovery (drop 12 text) r → AreRefusedSnapshots text r
+  in_messages : (header : Header) → IsHeader text header → AreRefused IsRecovery IsRefusedRecovery (drop 12 text) r
+      → AreRefusedSnapshots text r

@@ -23,11 +23,13 @@ found_and Many (Some level) = Many
 
 -- to what was found at each position of a side, from 1 on, the level that an entry gives there was added
 abbrev pub Notes : Kind → Option Quote → List Found → List Found → Type 0
-Notes kind quote old new = (k : ℕ) → slice_get new k ≡ option_map (λ found. found_and found (level_at kind (k + 1) quote)) (slice_get old k)
+Notes kind quote old new =
+    (k : ℕ) → slice_get new k ≡ option_map (λ found. found_and found (level_at kind (k + 1) quote)) (slice_get old k)
 
 -- what these entries give at each position of a side, from 1 on, as far as the list goes
 abbrev pub AreFound : Kind → List (Option Quote) → List Found → Type 0
-AreFound kind quotes found = (k : ℕ) → k < length found → slice_get found k ≡ Some (found_of (levels_at kind (k + 1) quotes))
+AreFound kind quotes found =
+    (k : ℕ) → k < length found → slice_get found k ≡ Some (found_of (levels_at kind (k + 1) quotes))
 
 -- no entry of this kind stands at a position past the depth
 abbrev pub AreShallow : Kind → ℕ → List (Option Quote) → Type 0

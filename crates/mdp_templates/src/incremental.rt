@@ -23,8 +23,8 @@ use std::alloc::Allocator;
 /// The length of a root block up to its match event indicator, which ends it, in bytes.
 const ROOT_LENGTH: u16 = 9;
 
-/// How many entries room is taken for at first, of all messages: few packets have more, and a list of so many is small enough for the
-/// C library to take it back from another thread without a lock.
+/// How many entries room is taken for at first, of all messages: few packets have more, and a list of so many is small
+/// enough for the C library to take it back from another thread without a lock.
 const USUAL_ENTRIES: usize = 5;
 
 /// Bit 7 of the match event indicator: the message is the last of its event.
@@ -54,7 +54,8 @@ fn read_book<A: Allocator + Copy>(
     message: &mdp_sbe::Message<'_>,
     entries: &mut Vec<Entry, A>,
 ) -> Result<Span, Fault>
-    ensures ok { IfOk result (AddsMessage (IsBook (parts message.now)) entries.old.items entries.new.items) }
+    ensures ok { IfOk result (AddsMessage
+        (IsBook (parts message.now)) entries.old.items entries.new.items) }
     ensures refused { IfErr result (OnRefusal (IsRefusedLayout entry_of 9 27 (parts message.now))) }
 {
     let start = entries.len();
@@ -65,7 +66,8 @@ fn read_book<A: Allocator + Copy>(
 
 // Reads a message of which nothing counts but whether it ends its event, which it tells.
 fn read_carrier(message: &mdp_sbe::Message<'_>) -> Result<bool, Refusal>
-    ensures ok { IfOk result (λ end. IsCarrier (parts message.now) (record { entries = []; end = end })) }
+    ensures ok { IfOk result (λ end. IsCarrier (parts message.now)
+        (record { entries = []; end = end })) }
     ensures refused { IfErr result (IsRefusedRoot (parts message.now) 9) }
 {
     let (root, _) = message.root(ROOT_LENGTH)?;
@@ -77,7 +79,8 @@ fn read_message<A: Allocator + Copy>(
     message: &mdp_sbe::Message<'_>,
     entries: &mut Vec<Entry, A>,
 ) -> Result<Span, Fault>
-    ensures ok { IfOk result (AddsMessage (IsIncremental (parts message.now)) entries.old.items entries.new.items) }
+    ensures ok { IfOk result (AddsMessage
+        (IsIncremental (parts message.now)) entries.old.items entries.new.items) }
     ensures refused { IfErr result (OnRefusal (IsRefusedIncremental (parts message.now))) }
 {
     match Template::of(message.template) {
@@ -96,7 +99,8 @@ fn read_messages<A: Allocator + Copy>(
 ) -> Result<Packet<A>, Fault>
     ensures number { IfOk result (λ p. p.number ≡ number) }
     ensures ok { IfOk result (λ p. AreMessages IsIncremental rest.now p.messages []) }
-    ensures refused { IfErr result (OnRefusal (AreRefused IsIncremental IsRefusedIncremental rest.now)) }
+    ensures refused { IfErr result (OnRefusal
+        (AreRefused IsIncremental IsRefusedIncremental rest.now)) }
 {
     let mut entries = Vec::with_capacity(alloc, USUAL_ENTRIES)?;
     let mut spans = Spans::new();

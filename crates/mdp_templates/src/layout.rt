@@ -33,7 +33,8 @@ fn read_blocks<'a>(
     least_root: u16,
     least_entry: u16,
 ) -> Result<(&'a [u8], Group<'a>), Refusal>
-    ensures ok { IfOk result (λ p. IsGrouped (parts message.now) least_root least_entry p.0.now p.1) }
+    ensures ok { IfOk result (λ p. IsGrouped
+        (parts message.now) least_root least_entry p.0.now p.1) }
     ensures refused { IfErr result (IsRefusedGrouped (parts message.now) least_root least_entry) }
 {
     let (root, rest) = message.root(least_root)?;
@@ -64,9 +65,11 @@ pub(crate) fn read_layout<'a, A: Allocator + Copy, E: GroupEntry>(
     least_root: u16,
     list: &mut Vec<E, A>,
 ) -> Result<(&'a [u8], u8), Fault>
-    ensures ok { IfOk result (λ p. Adds (IsLaidOut E.reads least_root E.LENGTH (parts message.now) p.0.now) list.old.items list.new.items) }
+    ensures ok { IfOk result (λ p. Adds (IsLaidOut E.reads least_root E.LENGTH
+        (parts message.now) p.0.now) list.old.items list.new.items) }
     ensures count { IfOk result (λ p. length list.new.items ≡ length list.old.items + p.1) }
-    ensures refused { IfErr result (OnRefusal (IsRefusedLayout E.reads least_root E.LENGTH (parts message.now))) }
+    ensures refused { IfErr result (OnRefusal
+        (IsRefusedLayout E.reads least_root E.LENGTH (parts message.now))) }
 {
     let (root, group) = read_blocks(message, least_root, E::LENGTH)?;
     let count = group.len() as u8;

@@ -132,7 +132,8 @@ impl<A: Allocator + Copy> Packet<A> {
     /// Memory ran out. Then the packet is as before.
     pub fn push(&mut self, entries: &[Entry], end: bool) -> Result<(), Memory>
         requires { length entries.now ≤ 255 }
-        ensures ok { OnOk result (self.new ≡ packet_with (record { entries = entries.now; end = end }) self.old) }
+        ensures ok { OnOk result (self.new
+            ≡ packet_with (record { entries = entries.now; end = end }) self.old) }
         ensures err { OnErr result (self.new ≡ self.old) }
     {
         let alloc = *self.entries.allocator();

@@ -37,7 +37,8 @@ fn is_for(quote: &Quote, kind: Kind) -> bool
     quote.kind == kind
 }
 
-// Adds the level of an entry to what was found at its position, where the entry is for this side and its position among these.
+// Adds the level of an entry to what was found at its position, where the entry is for this side and its position among
+// these.
 fn note(found: &mut [Found], quote: &Option<Quote>, kind: Kind)
     ensures { Notes kind quote.now found.old found.new }
 {

@@ -15,7 +15,8 @@ levels_text levels = flat_map (λ level. quote_text level.price level.size) leve
 -- where the text of each level ends, if that of the first begins here
 abbrev pub ends_from : ℕ → List Level → List ℕ
 ends_from start [] = []
-ends_from start (level ∷ below) = let end = start + length (quote_text level.price level.size) in end ∷ ends_from end below
+ends_from start (level ∷ below) =
+    let end = start + length (quote_text level.price level.size) in end ∷ ends_from end below
 
 -- at most so many levels, of which this is the text, and where each one's ends
 pub record ArePrinted (capacity : ℕ) (levels : List Level) (ends text : List ℕ) : Type 0 where

@@ -13,8 +13,9 @@ use std::marker::Model;
 /// The text of one level: a space, a price of at most 20 bytes, `x`, and a size of at most 11.
 type LevelText = TextFromEnd<44>;
 
-/// At most `CAPACITY` levels, the best first, and beside them the text that they are printed as, and where each one's ends in it.
-/// A level that comes, changes or goes moves the text behind it and puts together no other level's. It takes no memory.
+/// At most `CAPACITY` levels, the best first, and beside them the text that they are printed as, and where each one's
+/// ends in it. A level that comes, changes or goes moves the text behind it and puts together no other level's. It
+/// takes no memory.
 #[derive(Drop)]
 pub struct PrintedLevels<const CAPACITY: usize> {
     levels: ArrayVec<Level, CAPACITY>,
@@ -45,7 +46,8 @@ fn move_ends<const CAPACITY: usize>(
     requires inside { from ≤ length ends.old.items }
     requires enough { All (λ end. less ≤ end) (drop from ends.old.items) }
     requires room { All (λ end. end + more < 65536) (drop from ends.old.items) }
-    ensures { ends.new.items ≡ take from ends.old.items ++ map (λ end. end - less + more) (drop from ends.old.items) }
+    ensures { ends.new.items ≡ take from ends.old.items
+        ++ map (λ end. end - less + more) (drop from ends.old.items) }
 {
     if less == more {
         return;

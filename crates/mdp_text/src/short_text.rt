@@ -87,7 +87,8 @@ impl<const MOST: usize> TextFromEnd<MOST> {
         }
     }
 
-    // Puts a number in front as the last digits of 10,000 and the number: in the same steps, however many digits it has.
+    // Puts a number in front as the last digits of 10,000 and the number: in the same steps, however many digits it
+    // has.
     #[inline]
     fn put_small(&mut self, number: u64)
         requires below { number < 10_000 }

@@ -33,12 +33,17 @@ impl<T: Drop, A: Allocator> Model for MapWindow<T, A> {
       held = map.from_entries w.items.entries;
     } };
 
-    ghost invariant = { λ w. IsInRange (record { first = w.first; room = w.room; held = map.from_entries w.items.entries }) };
+    ghost invariant = { λ w. IsInRange (record {
+      first = w.first;
+      room = w.room;
+      held = map.from_entries w.items.entries;
+    }) };
 }
 
 // Drops what lies below a number.
 fn drop_lower<T: Drop, A: Allocator>(items: &mut BTreeMap<u32, T, A>, first: u64)
-    ensures { (k : ℕ) → tree.get nat_cmp items.new k ≡ (if nat_lt k first then None else tree.get nat_cmp items.old k) }
+    ensures { (k : ℕ) → tree.get nat_cmp items.new k
+        ≡ (if nat_lt k first then None else tree.get nat_cmp items.old k) }
 {
     while let Some((number, _)) = items.first_key_value() {
         if u64::from(*number) >= first {

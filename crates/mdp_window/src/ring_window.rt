@@ -15,8 +15,8 @@ use std::marker::Model;
 /// to 65536, and a place is empty or holds an item.
 ///
 /// To put an item at the first number and to take it out takes constant time, with no search. A call that moves the
-/// window up takes a step for each number that it moves by, and at most as many steps as the room; where nothing is held,
-/// it takes one.
+/// window up takes a step for each number that it moves by, and at most as many steps as the room; where nothing is
+/// held, it takes one.
 #[derive(Drop)]
 pub struct RingWindow<T: Drop, A: Allocator> {
     first: u64,
@@ -50,7 +50,8 @@ impl<T: Drop, A: Allocator> Model for RingWindow<T, A> {
 // Puts this many empty places behind the others. Each takes the place of the first one, where the ring is full.
 fn push_empty<T: Drop, A: Allocator>(places: &mut HeapCircularBuffer<Option<T>, A>, count: usize)
     requires { length places.old.items ≤ places.old.capacity }
-    ensures { places.new ≡ buffer (keep_last places.old.capacity (places.old.items ++ replicate count None)) places.old.capacity }
+    ensures { places.new ≡ buffer (keep_last places.old.capacity
+        (places.old.items ++ replicate count None)) places.old.capacity }
 {
     for _ in 0..count {
         places.push_back(None);
@@ -64,7 +65,8 @@ fn fill_place<T: Drop, A: Allocator>(
     item: T,
 )
     requires { index < length places.old.items }
-    ensures { places.new ≡ buffer (slice_set places.old.items index (Some item)) places.old.capacity }
+    ensures { places.new ≡ buffer (slice_set places.old.items index
+        (Some item)) places.old.capacity }
 {
     if let Some(place) = places.get_mut(index) {
         *place = Some(item);
