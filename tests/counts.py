@@ -2,16 +2,16 @@
 """Tells how long and how wide the repository's code is: tests/counts.py [COMMIT]
 
 Prints lines of source, of definitions and of proofs; functions with more than 7 parameters; lines past 100 and past 120 columns;
-clauses past 100 columns; definitions with more than 5 arguments; and the longest chain of crates. Tests and imports are left out of
-the counts of columns, and the crates that serve tests and measurements out of all but the lines. Of COMMIT, where one is given, else
-of the files as they lie here.
+clauses past 100 columns; definitions with more than 5 arguments, the implicit ones aside; and the longest chain of crates. Tests and
+imports are left out of the counts of columns, and the crates that serve tests and measurements out of all but the lines. Of COMMIT,
+where one is given, else of the files as they lie here.
 """
 import re
 import subprocess
 import sys
 
 # The crates that serve tests and measurements alone.
-BESIDE = {"refusing", "worked_runs", "datagram_rows", "queue_times", "board_times", "board_demo"}
+BESIDE = {"refusing", "worked_runs", "layer_tests", "datagram_rows", "lane_times", "board_demo"}
 CLAUSE = re.compile(r"\s*(ensures|requires)\b")
 
 
@@ -31,7 +31,7 @@ def files(commit):
 def part_of(path):
     """Returns the crate of a file, and which part of it the file is."""
     crate, part = path.split("/")[1:3]
-    is_test = re.search(r"/tests(/|\.rt)", path)
+    is_test = crate == "layer_tests" or re.search(r"/tests(/|\.rt)", path)
     return crate, "tests" if part == "src" and is_test else part
 
 
@@ -48,11 +48,29 @@ def parameters(text):
         yield 0 if is_empty else count + (not re.search(r",\s*\)$", text[found.end() : at]))
 
 
+def groups(head):
+    """Returns the outermost groups in brackets of a definition's head, and what is left between them."""
+    found, left, depth, start = [], "", 0, 0
+    for at, char in enumerate(head):
+        if char in "({":
+            start = start if depth else at
+            depth += 1
+        left += "" if depth else char
+        if char in ")}":
+            depth -= 1
+            found += [] if depth else [head[start : at + 1]]
+    return found, left
+
+
 def arguments(text):
-    """Returns how many arguments each public definition of a file of specs/ has."""
+    """Returns how many arguments a use of each public definition of a file of specs/ writes; implicit ones are not written."""
     for head in re.findall(r"^(?:abbrev |unfoldable |opaque )*pub (?:record |data )?\w+ ?(.*?)(?: where|\n\w)", text, re.M | re.S):
-        named = sum(len(group.split(":")[0].split()) for group in re.findall(r"[({]([^(){}]*:)", head.split("→")[0]))
-        yield named + re.sub(r"\([^()]*\)|\{[^{}]*\}", "", re.sub(r"\([^()]*\)|\{[^{}]*\}", "", head)).count("→")
+        found, left = groups(head)
+        named = [len(it[1:].split(":")[0].split()) for it in found if re.match(r"\([\w\s]+:", it)]
+        if "→" in left:
+            yield left.count("→") - sum(it.startswith("{") for it in found) + sum(named) - len(named)
+        else:
+            yield sum(named)
 
 
 def longest_chain(text):

@@ -31,7 +31,7 @@ joins_on : (channel : Channel) (es : List Event) (ms rest : List Move) (s : Stat
 joins_on channel es [] rest s waits one is later = later refl
 joins_on channel es (passed p ∷ ms) rest s waits one is later = absurd (none_passes channel es s p waits is.0)
 joins_on channel es (jumped old new snapshots ∷ ms) rest s waits one is later =
-    ((law_of_jumps channel es s old new snapshots is.0).from ∙ one, λ still. absurd (let has = joined_stays (ms ++ rest) (after s (jumped old new snapshots)) refl in cc))
+    ((law_of_jumps channel es s old new snapshots is.0).0 ∙ one, λ still. absurd (let has = joined_stays (ms ++ rest) (after s (jumped old new snapshots)) refl in cc))
 
 joins : (channel : Channel) (es past : List Event) (s : State) → s.joined ≡ false → s.next ≡ 1 → Joins s (go_on channel past s es)
 joins channel [] past s waits one = (tt, λ still. refl)

@@ -107,15 +107,16 @@ law_of_jumps channel es s old new snapshots is =
           let by = jump_is s.next (snapshots_of newest) (least_last (snapshots_of newest)) (jumped old new snapshots) t.2 in
           let same = same_jump old s.next new (by.0 + 1) snapshots (snapshots_of newest) by.2 in
           let past : highest es ≤ by.0 + channel.room = fresh_least channel.room (highest es) by.0 newest t.1 by.1 in
-          let at = least_is (snapshots_of newest) by.0 by.1 in
-          rw same.2 (record {
-            from = same.0;
-            on = λ has. let lost : s.next + channel.room ≤ highest es = run_ahead s.joined (s.next + channel.room) (highest es) has t.0 in omega (arith, same.0, same.1, lost, past);
-            begun = omega (arith, same.1);
-            newest = all_there channel.room (highest es) newest t.1;
-            fresh = all_fresh channel.room (highest es) newest t.1;
-            covered = λ k d within. omega (arith, same.1, least_covers (snapshots_of newest) by.0 by.1 k d within);
-            least = (at.0, at.1, at.2, at.3, omega (arith, same.1, at.4));
-          })
+          let at = least_is (snapshots_of newest) by.0 by.1 in (
+            same.0,
+            rw same.2 (record {
+              on = λ has. let lost : s.next + channel.room ≤ highest es = run_ahead s.joined (s.next + channel.room) (highest es) has t.0 in omega (arith, same.1, lost, past);
+              begun = omega (arith, same.1);
+              newest = all_there channel.room (highest es) newest t.1;
+              fresh = all_fresh channel.room (highest es) newest t.1;
+              covered = λ k d within. omega (arith, same.1, least_covers (snapshots_of newest) by.0 by.1 k d within);
+              least = (at.0, at.1, at.2, at.3, omega (arith, same.1, at.4));
+            }),
+          )
       | inr t ↦ let apart : jumped old new snapshots ≡ passed t.0 = t.2 in absurd cc
     ]

@@ -1,6 +1,5 @@
 pub mod Appended
 pub mod Runs
-pub mod Places
 pub mod Standings
 pub mod Bases
 pub mod Renewals
@@ -8,3 +7,4 @@ pub mod Jumps
 pub mod NoLoss
 pub mod Joining
 pub mod Passing
+pub mod Fates

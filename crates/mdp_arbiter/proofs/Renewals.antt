@@ -7,7 +7,7 @@ use Rattle.std.proofs.lemmas.Bool.Decides.{Decides-int_eq}
 use Rattle.mdp_templates.specs.Snapshot.{SnapshotContent}
 use Rattle.mdp_arbiter.specs.Accepted.{is_newer, newer_of}
 use Rattle.mdp_templates.specs.declared.instrument.Instrument.{Instrument}
-use Rattle.mdp_arbiter.specs.Channel.{ids_of}
+use Rattle.mdp_templates.specs.Instrument.{ids_of}
 use Rattle.std.proofs.lemmas.List.{length-map}
 use Rattle.mdp_arbiter.specs.Snapshots.{newest_after}
 use Rattle.mdp_arbiter.proofs.Standings.{no_news, same_newest}

@@ -1,6 +1,7 @@
 -- What a channel is to those who put its packets in order.
-use Rattle.std.specs.Prelude.{ℕ, ℤ, List, map}
+use Rattle.std.specs.Prelude.{ℕ, ℤ, List}
 use Rattle.mdp_templates.specs.declared.instrument.Instrument.{Instrument}
+use Rattle.mdp_templates.specs.Instrument.{ids_of}
 use Rattle.mdp_arbiter.specs.declared.start.Start.{Start}
 
 -- a packet that comes the room or more past the next one gives the next one up; the ids are the listed securities';
@@ -9,10 +10,6 @@ pub record Channel : Type 0 where
   pub room : ℕ
   pub ids : List ℤ
   pub start : Start
-
--- the ids of instruments, in listed order
-abbrev pub ids_of : List Instrument → List ℤ
-ids_of instruments = map (λ instrument. instrument.id) instruments
 
 -- a channel as its receiver is set up: the listed securities, the room and the start
 pub record ListedChannel : Type 0 where

@@ -9,3 +9,4 @@ pub mod Moves
 pub mod Standing
 pub mod Bases
 pub mod Turns
+pub mod Fates

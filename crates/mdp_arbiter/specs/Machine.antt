@@ -155,10 +155,9 @@ LawOfPasses = (channel : Channel) (es : List Event) (s : State) (packet : Packet
 
 -- A jump takes the newest snapshot of each listed security, none of which leaves out a packet that is given up, and
 -- goes on right after the one that reaches least far. One that joins may leave the number that passes next.
-pub record IsRecovery (channel : Channel) (es : List Event) (s : State) (old new : ℕ)
+pub record IsRecovery (channel : Channel) (es : List Event) (s : State) (new : ℕ)
     (snapshots : List SnapshotContent) : Type 0 where
-  pub from : old ≡ s.next
-  pub on : s.joined ≡ true → old < new
+  pub on : s.joined ≡ true → s.next < new
   pub begun : 1 ≤ new
   pub newest : newest_snapshots channel.ids es ≡ map (λ snapshot. Some snapshot) snapshots
   pub fresh : All (λ snapshot. highest es ≤ snapshot.last + channel.room) snapshots
@@ -167,7 +166,8 @@ pub record IsRecovery (channel : Channel) (es : List Event) (s : State) (old new
 
 abbrev pub LawOfJumps : Type 0
 LawOfJumps = (channel : Channel) (es : List Event) (s : State) (old new : ℕ) (snapshots : List SnapshotContent)
-    → next_move channel es s ≡ Some (jumped old new snapshots) → IsRecovery channel es s old new snapshots
+    → next_move channel es s ≡ Some (jumped old new snapshots)
+    → (old ≡ s.next) × IsRecovery channel es s new snapshots
 
 -- nothing has moved, or the first move is a jump from number 1
 abbrev pub BeginWithJump : List Move → Type 0

@@ -1,24 +1,26 @@
 //! The arbiter of a channel's feeds.
 
-ghost use Rattle.std.specs.Prelude.{◌≡◌, ◌≤◌, ◌<◌, ℕ, List, [], ◌∷◌, ◌++◌, length, true, false, IfOk, IfSome, Some, None, slice_get, option_copied};
+ghost use Rattle.std.specs.Prelude.{◌≡◌, ◌≤◌, ◌<◌, ℕ, List, [], ◌∷◌, ◌++◌, length, true, false, IfOk, IfSome, Some, None, slice_get, option_copied, if◌then◌else◌};
 ghost use Rattle.std.specs.FinMap as map;
+ghost use Rattle.std.specs.FinMap.{contains_key};
 ghost use Rattle.mdp_templates.specs.Instrument.{AreFit};
 ghost use Rattle.mdp_arbiter.specs.Channel.{channel_of};
 ghost use Rattle.mdp_arbiter.specs.Accepted.{Event};
 ghost use Rattle.mdp_arbiter.specs.Accepted.Event.{came, recovered, closed};
 ghost use Rattle.mdp_arbiter.specs.Machine.{first_state, is_lost};
-ghost use Rattle.mdp_arbiter.specs.Arbiter.{is_lost_now, state, steps_left};
+ghost use Rattle.mdp_arbiter.specs.Arbiter.{is_lost_now, least_held, state, steps_left};
+ghost use Rattle.mdp_arbiter.specs.Fates.{fate_of, fate_of_snapshot, first_stale, packet_fate, snapshot_fate, waiting};
 ghost use Rattle.mdp_arbiter.specs.Packets.{LetsPass, Receives, is_taken_in, passes_at_once};
 ghost use Rattle.mdp_arbiter.specs.Snapshots.{Renews};
 ghost use Rattle.mdp_arbiter.specs.Moves.{Answers, Moves, seen_move};
 ghost use Rattle.mdp_arbiter.specs.Standing.{HasPassed, StandsAt, StepsAs};
 
 use crate::base::{Base, no_bases, take_newest};
-use crate::newest::{are_all_fresh, least_number, none_for, renews};
-use crate::slots::Slots;
+use crate::fate::{PacketFate, SnapshotFate};
+use crate::newest::{are_all_fresh, first_stale, least_number, none_for, renews};
 use crate::start::Start;
 use crate::step::Step;
-use mdp_templates::{Instrument, Memory, Packet, Snapshot};
+use mdp_templates::{Instrument, Memory, Packet, Slots, Snapshot};
 use mdp_window::{Put, Window};
 use std::alloc::Allocator;
 use std::marker::Model;
@@ -150,6 +152,63 @@ impl<A: Allocator + Copy, W: Window<Packet<A>> + Drop> Arbiter<A, W> {
         &self.newest
     }
 
+    /// Tells the highest number of a packet that came, or the one before the next, if that is greater.
+    pub fn highest(&self) -> u64
+        ensures { result ≡ self.now.top }
+    {
+        self.top
+    }
+
+    /// Tells what becomes of a packet of this number, if it comes now.
+    pub fn fate_of(&self, number: u32) -> PacketFate
+        ensures now { result ≡ fate_of self.now number }
+        ensures stands { (es : List Event) → StandsAt es self.now
+            → result ≡ packet_fate self.now.channel es (state self.now) number }
+    {
+        if self.is_closed {
+            return PacketFate::AfterClose;
+        }
+        let number = u64::from(number);
+        if number < self.next {
+            return PacketFate::Past;
+        }
+        if number < self.least_held() {
+            return PacketFate::Late;
+        }
+        if self.window.holds(number) {
+            return PacketFate::Repeat;
+        }
+        PacketFate::First
+    }
+
+    /// Tells what becomes of a snapshot, if it comes now.
+    pub fn fate_of_snapshot(&self, snapshot: &Snapshot) -> SnapshotFate
+        ensures now { result ≡ fate_of_snapshot self.now snapshot.now }
+        ensures stands { (es : List Event) → StandsAt es self.now
+            → result ≡ snapshot_fate self.now.channel.ids es snapshot.now }
+    {
+        self.see_fate(snapshot)
+    }
+
+    /// Tells how many packets wait for one before them.
+    pub fn waiting(&self) -> u64
+        ensures { result ≡ waiting self.now }
+    {
+        let first = self.least_held();
+        let mut count = 0;
+        for n in 0..(self.top + 1).saturating_sub(first) {
+            count += self.held_at(first + n);
+        }
+        count
+    }
+
+    /// Tells the first listed place, from 0, whose newest snapshot is missing, or leaves out a packet that is given up.
+    pub fn first_stale(&self) -> Option<usize>
+        ensures { result ≡ first_stale self.now.channel.room self.now.top self.now.newest }
+    {
+        first_stale(&self.newest, self.top, self.room)
+    }
+
     /// Closes the channel. From now on `step` is `None`, and every packet and snapshot is handed back.
     pub fn close(&mut self)
         ensures closes { self.new ≡ record self.old { is_closed = true } }
@@ -211,6 +270,36 @@ impl<A: Allocator + Copy, W: Window<Packet<A>> + Drop> Arbiter<A, W> {
             → StepsAs es self.old self.new result }
     {
         self.take_step()
+    }
+
+    // Tells what becomes of a snapshot, by what is held.
+    fn see_fate(&self, snapshot: &Snapshot) -> SnapshotFate
+        ensures { result ≡ fate_of_snapshot self.now snapshot.now }
+    {
+        if self.is_closed {
+            return SnapshotFate::AfterClose;
+        }
+        let Some(slot) = self.slots.slot_of(snapshot.security()) else {
+            return SnapshotFate::Unlisted;
+        };
+        if renews(&self.newest[slot], snapshot) {
+            return SnapshotFate::News;
+        }
+        SnapshotFate::Older
+    }
+
+    // Tells the least number of which packets are held: lower ones have passed or are given up.
+    fn least_held(&self) -> u64
+        ensures { result ≡ least_held self.now }
+    {
+        self.next.max((self.top + 1).saturating_sub(self.room))
+    }
+
+    // Counts the packet of a number, where one is held.
+    fn held_at(&self, number: u64) -> u64
+        ensures { result ≡ (if contains_key self.now.held number then 1 else 0) }
+    {
+        if self.window.holds(number) { 1 } else { 0 }
     }
 
     // Tells whether a packet of this number passes at once.

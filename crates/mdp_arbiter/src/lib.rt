@@ -3,21 +3,19 @@
 
 mod arbiter;
 mod base;
+mod fate;
 mod laws;
 mod newest;
-mod slots;
 mod start;
 mod step;
-#[cfg(test)]
-mod tests;
 mod turn;
 
 pub use arbiter::{Arbiter, Standing};
+pub use fate::{PacketFate, SnapshotFate};
 pub use laws::{
     all_pass_without_loss, events_add, fronts_begin, joining_begins_with_a_jump, jumps_recover,
     moves_are_settled, passes_are_first,
 };
-pub use slots::Slots;
 pub use start::Start;
 pub use step::Step;
 pub use turn::Turn;

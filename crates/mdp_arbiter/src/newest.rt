@@ -2,6 +2,7 @@
 
 ghost use Rattle.std.specs.Prelude.{◌≡◌, ◌≤◌, IfOk, Some, None, map};
 ghost use Rattle.mdp_arbiter.specs.Accepted.{is_newer};
+ghost use Rattle.mdp_arbiter.specs.Fates.{first_stale};
 ghost use Rattle.mdp_arbiter.specs.Machine.{is_fresh, are_fresh, lesser, least_last, snapshots_of};
 
 use mdp_templates::{Instrument, Memory, Snapshot};
@@ -53,6 +54,19 @@ pub(crate) fn are_all_fresh(newest: &[Option<Snapshot>], top: u64, room: u64) ->
         }
     }
     true
+}
+
+/// Tells the first place whose snapshot is missing, or leaves out a packet that is given up.
+pub(crate) fn first_stale(newest: &[Option<Snapshot>], top: u64, room: u64) -> Option<usize>
+    requires { room ≤ 65536 }
+    ensures { result ≡ first_stale room top newest.now }
+{
+    for slot in 0..newest.len() {
+        if !is_fresh_enough(&newest[slot], top, room) {
+            return Some(slot);
+        }
+    }
+    None
 }
 
 // Tells the lesser of the number so far and that of a snapshot.

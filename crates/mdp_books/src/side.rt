@@ -4,8 +4,8 @@ ghost use Rattle.std.specs.Prelude.{◌≡◌, ◌<◌, ◌≤◌, [], ◌∷◌
 ghost use Rattle.std.specs.Bool.{OnFalse};
 ghost use Rattle.mdp_books.specs.Side.{after_new, after_change, after_delete, side_after, HaveSizes};
 
+use crate::printed_levels::PrintedLevels;
 use mdp_templates::{Action, Level};
-use mdp_text::PrintedLevels;
 use std::marker::Model;
 
 /// The levels of one side with their printed text, the best first, with room for `CAPACITY` of them, and how many it

@@ -1,18 +1,17 @@
 -- The instrument of a line has a depth of its kind.
-use Rattle.std.proofs.Common.{◌≡◌, ◌≤◌, ℕ, ℤ, Bool, true, false, cond, eqb, List, [], ◌∷◌, length, leb, pos, Option, None, Some, Result, Ok, Err, refl, sym, ap, ◌∙◌, arith, inl, inr, subst}
+use Rattle.std.proofs.Common.{◌≡◌, ◌≤◌, ℕ, ℤ, Bool, true, false, cond, eqb, List, [], ◌∷◌, length, leb, Option, None, Some, Result, Ok, Err, refl, arith}
 use Rattle.std.specs.Prelude.{◌&&◌, codes, IfSome}
 use Rattle.std.specs.Str.{bytes_eq}
-use Rattle.std.proofs.lemmas.Bool.{cases_Bool, and_parts, leb-true}
+use Rattle.std.proofs.lemmas.Bool.{and_parts, leb-true}
 use Rattle.mdp_templates.specs.Entry.{direct_depth}
-use Rattle.mdp_templates.specs.Instrument.{IsDepthOf, HasDepth}
-use Rattle.mdp_templates.specs.declared.instrument.Instrument.{Instrument}
+use Rattle.mdp_templates.specs.Instrument.{IsDepthOf}
 use Rattle.mdp_templates.specs.declared.feed.Feed.{Feed}
 use Rattle.mdp_templates.specs.declared.feed.Feed.TheVariants as feeds
 use Rattle.hex.specs.Hex.{decode_of}
 use Rattle.hex.specs.declared.error.FromHexError.{FromHexError}
 use Rattle.mdp_capture.specs.declared.skip.Skip.TheVariants.{LineForm, TooLong}
 use Rattle.mdp_capture.specs.Parsed.{ListsDepth}
-use Rattle.mdp_capture.specs.Line.{LineContent, Blank, Packet, Skipped, KindAndDepth, is_number, decimal, id_of, name_of, depth_of, outright_of, outright_of_fields, calendar_of, calendar_of_fields, kind_of, instrument, instrument_of, listing, packet, packet_of, closing_of, fields, line_of_fields, line_of}
+use Rattle.mdp_capture.specs.Line.{Blank, Packet, Skipped, KindAndDepth, is_number, decimal, id_of, name_of, depth_of, outright_of, outright_of_fields, calendar_of, calendar_of_fields, kind_of, instrument, instrument_of, listing, packet, packet_of, closing_of, fields, line_of_fields, line_of}
 
 -- a kind with one of its depths
 abbrev Fits : KindAndDepth → Type 0

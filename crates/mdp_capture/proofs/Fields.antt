@@ -1,9 +1,9 @@
 -- Lines with a field too many, and names as text.
-use Rattle.std.proofs.Common.{◌≡◌, ℕ, ◌<◌, true, false, List, [], ◌∷◌, length, Option, None, Some, Result, Ok, Err, refl, arith, leb, eqb, get_or, lit<, inl, inr}
-use Rattle.std.specs.Prelude.{is_ok, is_some, MatchResult, codes, ◌&&◌}
+use Rattle.std.proofs.Common.{◌≡◌, ℕ, ◌<◌, true, List, [], ◌∷◌, length, Option, None, Some, Result, Ok, Err, refl, arith, leb, eqb, get_or, lit<, inl, inr}
+use Rattle.std.specs.Prelude.{is_ok, is_some, MatchResult, ◌&&◌}
 use Rattle.std.specs.List.{list_all, AllPass}
-use Rattle.std.specs.Str.{bytes_eq, IsUtf8, IsAscii}
-use Rattle.std.proofs.lemmas.Bool.{and_parts, leb-true, cond-false, cases_lt}
+use Rattle.std.specs.Str.{IsUtf8, IsAscii}
+use Rattle.std.proofs.lemmas.Bool.{and_parts, leb-true, cases_lt}
 use Rattle.std.proofs.lemmas.List.{get_or_past}
 use denote.Ref.{Bor}
 use Rattle.mdp_capture.specs.Parsed.{fields_left}

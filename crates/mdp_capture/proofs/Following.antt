@@ -1,47 +1,56 @@
 -- A reading that follows the bytes of a reader.
-use Rattle.std.proofs.Common.{◌≡◌, ℕ, List, [], ◌++◌, Option, None, Some, Result, length, take, drop, sym, ap, ◌∙◌}
+use Rattle.std.proofs.Common.{◌≡◌, ℕ, List, [], ◌++◌, Option, None, Some, Result, Ok, Err, length, take, drop, refl, sym, ap, ◌∙◌, subst, append_assoc, append-nil}
 use Rattle.std.proofs.lemmas.List.{take_at}
-use Rattle.std.specs.Prelude.{IfSome}
+use Rattle.std.specs.Prelude.{IfErr, IfSome}
 use Rattle.std.specs.Io.KnownBytes.{Consumes, IsAtEnd}
-use Rattle.mdp_capture.specs.Capture.{CaptureContent, RefusedLine, capture_of, IsFaultOf}
-use Rattle.mdp_capture.specs.Reading.{capture_with, Follows}
-use Rattle.mdp_capture.specs.declared.reading.Reading.{Reading}
+use Rattle.mdp_capture.specs.Capture.{CaptureContent, RefusedLine, capture_of, IsFaultOf, IsTextFaultOf}
 use Rattle.mdp_capture.specs.declared.fault.CaptureFault.{CaptureFault}
 use Rattle.mdp_capture.specs.declared.fault.CaptureFault.TheVariants as faults
-use Rattle.mdp_capture.proofs.Pieces.{same_fault}
 
-module _ {A : Type 0} where
-  -- before the first read
-  pub starts : (reading : Reading A) (rest : Option (List ℕ)) → ((text : List ℕ) → capture_with reading text ≡ capture_of text) → Follows rest rest reading
-  starts reading None is = tt
-  starts reading (Some text) is = sym (is text)
+-- no read fails in a line
+pub as_fault : (answer : Result CaptureContent RefusedLine) (fault : CaptureFault) → IsTextFaultOf answer fault → IsFaultOf answer fault
+as_fault answer (faults.Refused line refusal) is = is
+as_fault answer faults.Memory is = tt
+as_fault answer faults.Input is = tt
 
-  -- after one more read
-  pub goes_on : (whole old new : Option (List ℕ)) (bytes : List ℕ) (before after : Reading A) → Follows whole old before → Consumes old new bytes → ((text : List ℕ) → capture_with before (bytes ++ text) ≡ capture_with after text) → Follows whole new after
-  goes_on None old new bytes before after follows read took = tt
-  goes_on (Some whole) None new bytes before after follows read took = elim follows [ ]
-  goes_on (Some whole) (Some old) None bytes before after follows read took = elim read [ ]
-  goes_on (Some whole) (Some old) (Some new) bytes before after follows read took = follows ∙ ap (λ text. capture_with before text) read ∙ took new
+pub no_input : {X P : Type 0} (result : Result X CaptureFault) (answer : Result CaptureContent RefusedLine) (fault : CaptureFault) → IsTextFaultOf answer fault → result ≡ Err fault → result ≡ Err faults.Input → P
+no_input result answer (faults.Refused line refusal) says is same = absurd (cc)
+no_input result answer faults.Memory says is same = absurd (cc)
+no_input result answer faults.Input says is same = absurd says
 
-  -- at the end
-  pub comes_to : (whole old new : Option (List ℕ)) (reading : Reading A) (answer : Result CaptureContent RefusedLine) → Follows whole old reading → Consumes old new [] → IsAtEnd new → capture_with reading [] ≡ answer → IfSome whole (λ text. capture_of text ≡ answer)
-  comes_to None old new reading answer follows read end is = tt
-  comes_to (Some whole) None new reading answer follows read end is = elim follows [ ]
-  comes_to (Some whole) (Some old) None reading answer follows read end is = elim read [ ]
-  comes_to (Some whole) (Some old) (Some new) reading answer follows read end is = follows ∙ ap (λ text. capture_with reading text) (read ∙ end) ∙ is
+pub never_input : {X P : Type 0} (result : Result X CaptureFault) (answer : Result CaptureContent RefusedLine) → IfErr result (IsTextFaultOf answer) → result ≡ Err faults.Input → P
+never_input (Ok x) answer says same = absurd (cc)
+never_input (Err fault) answer says same = no_input (Err fault) answer fault says refl same
 
-  pub fails_at_end : (whole old new : Option (List ℕ)) (reading : Reading A) (fault : CaptureFault) → Follows whole old reading → Consumes old new [] → IsAtEnd new → IsFaultOf (capture_with reading []) fault → IfSome whole (λ text. IsFaultOf (capture_of text) fault)
-  fails_at_end None old new reading fault follows read end is = tt
-  fails_at_end (Some whole) None new reading fault follows read end is = elim follows [ ]
-  fails_at_end (Some whole) (Some old) None reading fault follows read end is = elim read [ ]
-  fails_at_end (Some whole) (Some old) (Some new) reading fault follows read end is = same_fault _ _ fault (follows ∙ ap (λ text. capture_with reading text) (read ∙ end)) is
+-- before the first read
+pub starts : (rest : Option (List ℕ)) → Consumes rest rest []
+starts None = tt
+starts (Some text) = refl
 
-  -- at a line of what was read
-  pub fails_there : (whole old new : Option (List ℕ)) (bytes : List ℕ) (reading : Reading A) (fault : CaptureFault) → Follows whole old reading → Consumes old new bytes → ((text : List ℕ) → IsFaultOf (capture_with reading (bytes ++ text)) fault) → IfSome whole (λ text. IsFaultOf (capture_of text) fault)
-  fails_there None old new bytes reading fault follows read is = tt
-  fails_there (Some whole) None new bytes reading fault follows read is = elim follows [ ]
-  fails_there (Some whole) (Some old) None bytes reading fault follows read is = elim read [ ]
-  fails_there (Some whole) (Some old) (Some new) bytes reading fault follows read is = same_fault _ _ fault (follows ∙ ap (λ text. capture_with reading text) read) (is new)
+-- after one more read
+pub goes_on : (whole old new : Option (List ℕ)) (text bytes : List ℕ) → Consumes whole old text → Consumes old new bytes → Consumes whole new (text ++ bytes)
+goes_on None old new text bytes follows read = tt
+goes_on (Some whole) None new text bytes follows read = elim follows [ ]
+goes_on (Some whole) (Some old) None text bytes follows read = elim read [ ]
+goes_on (Some whole) (Some old) (Some new) text bytes follows read = follows ∙ ap (λ (t : List ℕ). text ++ t) read ∙ sym (append_assoc text bytes new)
+
+-- at the end
+pub comes_to : (P : List ℕ → Type 0) (whole old new : Option (List ℕ)) (text : List ℕ) → Consumes whole old text → Consumes old new [] → IsAtEnd new → P text → IfSome whole P
+comes_to P None old new text follows read end is = tt
+comes_to P (Some whole) None new text follows read end is = elim follows [ ]
+comes_to P (Some whole) (Some old) None text follows read end is = elim read [ ]
+comes_to P (Some whole) (Some old) (Some new) text follows read end is =
+    let all : whole ≡ text = follows ∙ ap (λ (t : List ℕ). text ++ t) (read ∙ end) ∙ append-nil text in
+    subst P (sym all) is
+
+-- at a line of what was read
+pub fails_there : (whole old new : Option (List ℕ)) (text bytes : List ℕ) (fault : CaptureFault) → Consumes whole old text → Consumes old new bytes → ((more : List ℕ) → IsTextFaultOf (capture_of ((text ++ bytes) ++ more)) fault) → IfSome whole (λ w. IsFaultOf (capture_of w) fault)
+fails_there None old new text bytes fault follows read is = tt
+fails_there (Some whole) None new text bytes fault follows read is = elim follows [ ]
+fails_there (Some whole) (Some old) None text bytes fault follows read is = elim read [ ]
+fails_there (Some whole) (Some old) (Some new) text bytes fault follows read is =
+    let all : whole ≡ (text ++ bytes) ++ new = follows ∙ ap (λ (t : List ℕ). text ++ t) read ∙ sym (append_assoc text bytes new) in
+    as_fault (capture_of whole) fault (subst (λ (w : List ℕ). IsTextFaultOf (capture_of w) fault) (sym all) (is new))
 
 -- a failed read says nothing of the text
 pub says_nothing : (whole : Option (List ℕ)) → IfSome whole (λ text. IsFaultOf (capture_of text) faults.Input)

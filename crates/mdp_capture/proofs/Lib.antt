@@ -4,6 +4,8 @@ pub mod Fields
 pub mod Spelling
 pub mod Accepted
 pub mod Pieces
+pub mod LinesCut
+pub mod Drafts
 pub mod Depths
 pub mod Newest
 pub mod Parts

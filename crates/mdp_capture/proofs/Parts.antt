@@ -1,35 +1,30 @@
 -- A part of a text that is read by itself.
 use denote.Ref.{Bor}
-use Rattle.std.proofs.Common.{◌≡◌, ℕ, zero, suc, ◌<◌, ◌+◌, ◌-◌, List, [], ◌∷◌, ◌++◌, Some, Result, Ok, Err, length, map, take, drop, refl, sym, ap, ◌∙◌, arith, append_assoc, subst}
+use Rattle.std.proofs.Common.{◌≡◌, ℕ, zero, suc, ◌<◌, ◌+◌, ◌-◌, List, [], ◌∷◌, ◌++◌, Some, Result, Ok, Err, length, map, take, drop, refl, sym, ap, ◌∙◌, arith, append_assoc, take-append-drop, subst}
 use Rattle.std.specs.Prelude.{IfOk}
 use Rattle.std.specs.List.{slice_get, slice_index_or}
 use Rattle.std.specs.Str.Lines.{lines, strip_carriage_return}
-use Rattle.std.proofs.lemmas.List.{length_push}
+use Rattle.std.proofs.lemmas.List.{length_push, map-append}
 use Rattle.std.proofs.lemmas.List.Elements.{All-push}
 use Rattle.memchr.specs.Find.{IsFirstByte, is_byte}
 use Rattle.mdp_capture.specs.Line.{LineContent, line_of}
 use Rattle.mdp_capture.specs.Parsed.{ListsDepth, content_of}
 use Rattle.mdp_capture.specs.Repeats.{bytes_in}
-use Rattle.mdp_capture.specs.Capture.{CaptureContent, RefusedLine, add_line, add_lines, and_then, needs_instrument, next_line, IsFaultOf}
-use Rattle.mdp_capture.specs.Draft.{capture_so_far}
+use Rattle.mdp_capture.specs.Capture.{CaptureContent, RefusedLine, add_line, add_lines, and_then, needs_instrument, next_line, no_capture, IsTextFaultOf}
+use Rattle.mdp_capture.specs.Cutting.{Cuts, HasTaken, IsOneLine}
+use Rattle.mdp_capture.specs.Draft.{AreFitSoFar, HoldsLines, capture_so_far}
 use Rattle.mdp_capture.specs.Part.{add_contents, capture_after, contents_of, Says, ListDepths, HasBytesIn, bytes_of_line, newest_in, IsReadOf, AreReadOf, joined}
+use Rattle.mdp_capture.specs.Reading.{RefusesPiece}
+use Rattle.mdp_capture.specs.declared.cutter.LineCutter.{LineCutter}
 use Rattle.mdp_capture.specs.declared.part.Part.{Part}
 use Rattle.mdp_capture.specs.declared.draft.Draft.{Draft}
 use Rattle.mdp_capture.specs.declared.fault.CaptureFault.{CaptureFault}
-use Rattle.mdp_capture.specs.declared.reading.Reading.{Reading}
-use Rattle.mdp_capture.specs.Reading.{capture_with}
 use Rattle.mdp_capture.specs.declared.line.Line.{Line}
-use Rattle.mdp_capture.proofs.Splits.{free_before}
-use Rattle.mdp_capture.proofs.Pieces.{cut_there, fault_stays, line_alone, lines_at, same_fault}
+use Rattle.mdp_capture.proofs.LinesCut.{cuts_more}
+use Rattle.mdp_capture.proofs.Pieces.{fault_stays, fault_whole, same_fault}
 
 pub read_there : {X E : Type 0} (r : Result X E) (x : X) (P : X → Type 0) → r ≡ Ok x → IfOk r P → P x
 read_there {X} {E} r x P is p = subst (λ (o : Result X E). IfOk o P) is p
-
--- a text cut in two
-pub cut_at : (n : ℕ) (xs ys : List ℕ) → xs ++ ys ≡ take n xs ++ (drop n xs ++ ys)
-cut_at zero xs ys = refl
-cut_at (suc n) [] ys = refl
-cut_at (suc n) (x ∷ xs) ys = ap (λ (zs : List ℕ). x ∷ zs) (cut_at n xs ys)
 
 pub if_ok_both : {X E : Type 0} (r : Result X E) (P Q S : X → Type 0) → ((x : X) → P x → Q x → S x) → IfOk r P → IfOk r Q → IfOk r S
 if_ok_both (Ok x) P Q S both p q = both x p q
@@ -50,18 +45,22 @@ module _ {A : Type 0} where
   last_there (y ∷ xs) x = last_there xs x
 
   -- one line more
-  contents_push : (read : List (Line A)) (line : Line A) (rest : List LineContent) → contents_of read ++ content_of line ∷ rest ≡ contents_of (read ++ line ∷ []) ++ rest
-  contents_push [] line rest = refl
-  contents_push (x ∷ read) line rest = ap (λ (cs : List LineContent). content_of x ∷ cs) (contents_push read line rest)
+  contents_push : (read : List (Line A)) (line : Line A) → contents_of read ++ content_of line ∷ [] ≡ contents_of (read ++ line ∷ [])
+  contents_push [] line = refl
+  contents_push (x ∷ read) line = ap (λ (cs : List LineContent). content_of x ∷ cs) (contents_push read line)
 
   pub says_more : (text rest : List ℕ) (k : ℕ) (read : List (Line A)) (line : Line A) → Says text read rest → IsFirstByte (is_byte 10) rest (Some k) → content_of line ≡ line_of (strip_carriage_return (take k rest)) → Says text (read ++ line ∷ []) (drop (k + 1) rest)
-  says_more text rest k read line says first is more =
-      let behind = drop (k + 1) rest ++ more in
-      says more
-      ∙ ap (λ (bytes : List ℕ). contents_of read ++ map line_of (lines bytes)) (cut_there rest more k first)
-      ∙ ap (λ (ls : List (List ℕ)). contents_of read ++ map line_of ls) (lines_at (take k rest) behind (free_before 10 rest k first))
-      ∙ ap (λ (c : LineContent). contents_of read ++ c ∷ map line_of (lines behind)) (sym is)
-      ∙ contents_push read line (map line_of (lines behind))
+  says_more text rest k read line says first is =
+      let one = strip_carriage_return (take k rest) in
+      record {
+        front = says.front ++ one ∷ [];
+        contents =
+            map-append line_of says.front (one ∷ [])
+            ∙ ap (λ (cs : List LineContent). cs ++ line_of one ∷ []) says.contents
+            ∙ ap (λ (c : LineContent). contents_of read ++ c ∷ []) (sym is)
+            ∙ contents_push read line;
+        cuts = cuts_more text [] rest says.front k (λ i d below. absurd (omega (arith, below))) first says.cuts;
+      }
 
   newest_push : (read : List (Line A)) (line : Line A) → newest_in (read ++ line ∷ []) ≡ bytes_in (content_of line)
   newest_push read line =
@@ -74,37 +73,74 @@ module _ {A : Type 0} where
   pub depths_more : (read : List (Line A)) (line : Line A) → ListDepths read → ListsDepth (content_of line) → ListDepths (read ++ line ∷ [])
   depths_more read line depths depth = All-push (λ (l : Line A). ListsDepth (content_of l)) read line depths depth
 
+  -- no line yet
+  pub says_none : (text : List ℕ) (read : List (Line A)) → read ≡ [] → Says text read text
+  says_none text read none = record { front = []; contents = ap contents_of (sym none); cuts = λ more. refl }
+
+  pub depths_none : (read : List (Line A)) → read ≡ [] → ListDepths read
+  depths_none read none = subst ListDepths (sym none) (λ i d below. absurd (omega (arith, below)))
+
+  pub none_newest : (read : List (Line A)) (bytes : List ℕ) → read ≡ [] → newest_in read ≡ Some bytes → ⊥
+  none_newest [] bytes none is = absurd (cc)
+  none_newest (line ∷ read) bytes none is = absurd (cc)
+
   -- ---- the capture that lines make
+
+  lines_come : (draft : Draft A) (texts before rest : List (List ℕ)) (read : List (Line A)) → map line_of texts ≡ contents_of read → HoldsLines draft before → add_lines 1 ((before ++ texts) ++ rest) no_capture ≡ capture_after draft (contents_of read ++ map line_of rest)
+  lines_come draft texts before rest read says held =
+      ap (λ (ls : List (List ℕ)). add_lines 1 ls no_capture) (append_assoc before texts rest)
+      ∙ held.comes (texts ++ rest)
+      ∙ contents_are draft.line (texts ++ rest) (capture_so_far draft)
+      ∙ ap (λ (cs : List LineContent). add_contents draft.line cs (capture_so_far draft)) (map-append line_of texts rest ∙ ap (λ (cs : List LineContent). cs ++ map line_of rest) says)
 
   pub content_added : (old new : Draft A) (content : LineContent) (rest : List LineContent) → add_line old.line content (capture_so_far old) ≡ Ok (capture_so_far new) → new.line ≡ next_line old.line → capture_after old (content ∷ rest) ≡ capture_after new rest
   content_added old new content rest is line =
-      ap (λ (r : Result CaptureContent RefusedLine). needs_instrument (and_then r (add_contents (next_line old.line) rest))) is
-      ∙ ap (λ (n : ℕ). needs_instrument (add_contents n rest (capture_so_far new))) (sym line)
+      ap (λ (r : Result CaptureContent RefusedLine). and_then r (add_contents (next_line old.line) rest)) is
+      ∙ ap (λ (n : ℕ). add_contents n rest (capture_so_far new)) (sym line)
 
-  pub content_refused : (draft : Draft A) (content : LineContent) (rest : List LineContent) (fault : CaptureFault) → IsFaultOf (add_line draft.line content (capture_so_far draft)) fault → IsFaultOf (capture_after draft (content ∷ rest)) fault
+  pub content_refused : (draft : Draft A) (content : LineContent) (rest : List LineContent) (fault : CaptureFault) → IsTextFaultOf (add_line draft.line content (capture_so_far draft)) fault → IsTextFaultOf (capture_after draft (content ∷ rest)) fault
   content_refused draft content rest fault is = fault_stays _ (add_contents (next_line draft.line) rest) fault is
 
   -- the lines that are left, one less
   pub next_contents : (left further : List (Line A)) (line : Line A) (rest : List LineContent) → left ≡ line ∷ further → contents_of left ++ rest ≡ content_of line ∷ (contents_of further ++ rest)
   next_contents left further line rest is = ap (λ (ls : List (Line A)). contents_of ls ++ rest) is
 
-  -- where nothing is pending, a reading comes to what the lines of the text say
-  pub read_alone : (reading : Reading A) (text : List ℕ) → reading.pending.items ≡ [] → capture_with reading text ≡ capture_after reading.draft (map line_of (lines text))
-  read_alone reading text none =
-      line_alone reading.draft.line reading.pending.items text (capture_so_far reading.draft) none
-      ∙ ap needs_instrument (contents_are reading.draft.line (lines text) (capture_so_far reading.draft))
+  -- lines that were read by themselves
+  pub lines_added : (old new : Draft A) (texts before : List (List ℕ)) (read : List (Line A)) → map line_of texts ≡ contents_of read → ((rest : List LineContent) → capture_after old (contents_of read ++ rest) ≡ capture_after new rest) → (AreFitSoFar old.instruments.items → AreFitSoFar new.instruments.items) → HoldsLines old before → HoldsLines new (before ++ texts)
+  lines_added old new texts before read says added fit held = record {
+    comes = λ rest. lines_come old texts before rest read says held ∙ added (map line_of rest) ∙ sym (contents_are new.line rest (capture_so_far new));
+    fit = fit held.fit;
+  }
 
-  -- the lines of a part, and then what it begins
-  pub part_taken : (old mid : Reading A) (text rest more : List ℕ) (read : List (Line A)) → old.pending.items ≡ [] → mid.pending.items ≡ [] → Says text read rest → ((behind : List LineContent) → capture_after old.draft (contents_of read ++ behind) ≡ capture_after mid.draft behind) → capture_with old (text ++ more) ≡ capture_with mid (rest ++ more)
-  part_taken old mid text rest more read none still says added =
-      read_alone old (text ++ more) none
-      ∙ ap (capture_after old.draft) (says more)
-      ∙ added (map line_of (lines (rest ++ more)))
-      ∙ sym (read_alone mid (rest ++ more) still)
+  -- where nothing is pending, the text of a part goes on with what was read before
+  part_cuts : (cutter : LineCutter (Draft A) A) (before text rest : List ℕ) (read : List (Line A)) (taken : HasTaken HoldsLines cutter before) (says : Says text read rest) → cutter.pending.items ≡ [] → Cuts (before ++ text) (taken.whole.front ++ says.front) rest
+  part_cuts cutter before text rest read taken says none more =
+      let front = taken.whole.front in
+      ap lines (append_assoc before text more)
+      ∙ taken.whole.cuts (text ++ more)
+      ∙ ap (λ (t : List ℕ). front ++ lines (t ++ (text ++ more))) none
+      ∙ ap (λ (ls : List (List ℕ)). front ++ ls) (says.cuts more)
+      ∙ sym (append_assoc front says.front (lines (rest ++ more)))
 
-  pub part_refused : (old : Reading A) (text rest more : List ℕ) (read : List (Line A)) (fault : CaptureFault) → old.pending.items ≡ [] → Says text read rest → ((behind : List LineContent) → IsFaultOf (capture_after old.draft (contents_of read ++ behind)) fault) → IsFaultOf (capture_with old (text ++ more)) fault
-  part_refused old text rest more read fault none says refused =
-      same_fault _ _ fault (read_alone old (text ++ more) none ∙ ap (capture_after old.draft) (says more)) (refused (map line_of (lines (rest ++ more))))
+  pub part_taken : (old new : LineCutter (Draft A) A) (before text rest : List ℕ) (read : List (Line A)) → HasTaken HoldsLines old before → old.pending.items ≡ [] → Says text read rest → IsOneLine rest → ((behind : List LineContent) → capture_after old.taker (contents_of read ++ behind) ≡ capture_after new.taker behind) → (AreFitSoFar old.taker.instruments.items → AreFitSoFar new.taker.instruments.items) → new.pending.items ≡ old.pending.items ++ rest → HasTaken HoldsLines new (before ++ text)
+  part_taken old new before text rest read taken none says one added fit is =
+      let pending : rest ≡ new.pending.items = sym (is ∙ ap (λ (t : List ℕ). t ++ rest) none) in
+      record {
+        whole = record {
+          front = taken.whole.front ++ says.front;
+          held = lines_added old.taker new.taker says.front taken.whole.front read says.contents added fit taken.whole.held;
+          cuts = subst (Cuts (before ++ text) (taken.whole.front ++ says.front)) pending (part_cuts old before text rest read taken says none);
+        };
+        unfinished = subst IsOneLine pending one;
+      }
+
+  pub part_refused : (old : LineCutter (Draft A) A) (text rest : List ℕ) (read : List (Line A)) (fault : CaptureFault) → old.pending.items ≡ [] → Says text read rest → ((behind : List LineContent) → IsTextFaultOf (capture_after old.taker (contents_of read ++ behind)) fault) → RefusesPiece old text fault
+  part_refused old text rest read fault none says refused before more taken =
+      let ls = lines (rest ++ more) in
+      same_fault _ _ fault
+      (ap (λ (all : List (List ℕ)). needs_instrument (add_lines 1 all no_capture)) (part_cuts old before text rest read taken says none more)
+      ∙ ap needs_instrument (lines_come old.taker says.front taken.whole.front ls read says.contents taken.whole.held))
+      (fault_whole _ fault (refused (map line_of ls)))
 
   -- ---- parts that were read by themselves
 
@@ -147,3 +183,11 @@ joined_push (first ∷ texts) text rest =
     append_assoc first.now (joined (texts ++ text ∷ [])) rest
     ∙ ap (λ (bytes : List ℕ). first.now ++ bytes) (joined_push texts text rest)
     ∙ sym (append_assoc first.now (joined texts) (text.now ++ rest))
+
+-- a text that is taken in by two parts
+pub two_parts : (text one other more whole : List ℕ) → text ++ (one ++ other) ≡ whole → whole ++ more ≡ (text ++ one) ++ (other ++ more)
+two_parts text one other more whole is =
+    ap (λ (t : List ℕ). t ++ more) (sym is ∙ sym (append_assoc text one other)) ∙ append_assoc (text ++ one) other more
+
+pub cut_whole : (n : ℕ) (text piece : List ℕ) → text ++ (take n piece ++ drop n piece) ≡ text ++ piece
+cut_whole n text piece = ap (λ (t : List ℕ). text ++ t) (take-append-drop n piece)

@@ -128,3 +128,13 @@ abbrev pub IsFaultOf : Result CaptureContent RefusedLine → CaptureFault → Ty
 IsFaultOf answer (faults.Refused line refusal) = answer ≡ Err (record { line = line; refusal = refusal })
 IsFaultOf answer faults.Memory = Unit {0}
 IsFaultOf answer faults.Input = Unit {0}
+
+-- what a fault in taking in lines says: this of a refusal, nothing of want of memory; a read can't fail there
+abbrev pub IfRefused : CaptureFault → (RefusedLine → Type 0) → Type 0
+IfRefused (faults.Refused line refusal) says = says (record { line = line; refusal = refusal })
+IfRefused faults.Memory says = Unit {0}
+IfRefused faults.Input says = ⊥
+
+-- a refusal is the one that this answer is
+abbrev pub IsTextFaultOf : Result CaptureContent RefusedLine → CaptureFault → Type 0
+IsTextFaultOf answer fault = IfRefused fault (λ refused. answer ≡ Err refused)

@@ -1,8 +1,10 @@
 -- What a capture that is being read holds so far.
-use Rattle.std.specs.Prelude.{◌<◌, ◌≤◌, ℕ, List, length, take, slice_index_or}
+use Rattle.std.specs.Prelude.{◌≡◌, ◌<◌, ◌≤◌, ◌++◌, ℕ, List, Err, length, take, slice_index_or}
 use Rattle.mdp_templates.specs.declared.instrument.Instrument.{Instrument}
 use Rattle.mdp_templates.specs.Instrument.{FitsAfter}
-use Rattle.mdp_capture.specs.Capture.{CaptureContent}
+use Rattle.mdp_capture.specs.Capture.{CaptureContent, IfRefused, RefusedLine, add_line, add_lines, no_capture}
+use Rattle.mdp_capture.specs.Line.{LineContent}
+use Rattle.mdp_capture.specs.declared.fault.CaptureFault.{CaptureFault}
 use Rattle.mdp_capture.specs.declared.draft.Draft.{Draft}
 
 -- what its lines so far say
@@ -20,3 +22,20 @@ pub record AreFitSoFar (instruments : List Instrument) : Type 0 where
   pub few : length instruments ≤ 512
   pub each : (place : ℕ) (d : Instrument) → place < length instruments
       → FitsAfter (take place instruments) (slice_index_or instruments place d)
+
+-- a draft holds these lines: whatever lines follow, they come to what those come to from here
+pub record HoldsLines {A : Type 0} (draft : Draft A) (before : List (List ℕ)) : Type 0 where
+  pub comes : (rest : List (List ℕ)) →
+      add_lines 1 (before ++ rest) no_capture ≡ add_lines draft.line rest (capture_so_far draft)
+  pub fit : AreFitSoFar draft.instruments.items
+
+-- a run is refused at the last of these lines, whatever lines follow
+abbrev pub IsRefusedAt : List (List ℕ) → RefusedLine → Type 0
+IsRefusedAt before refused =
+    (rest : List (List ℕ)) → add_lines 1 (before ++ rest) no_capture ≡ Err refused
+
+-- a draft did not take in a line: a refusal is that of the line, and leaves what the draft holds
+abbrev pub LeavesOut : {A : Type 0} → Draft A → LineContent → Draft A → CaptureFault → Type 0
+LeavesOut old content new fault = IfRefused fault (λ refused.
+    (add_line old.line content (capture_so_far old) ≡ Err refused)
+    × (capture_so_far new ≡ capture_so_far old) × (new.line ≡ old.line))

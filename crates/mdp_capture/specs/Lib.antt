@@ -6,6 +6,7 @@ pub mod Line
 pub mod Capture
 pub mod Parsed
 pub mod Digits
+pub mod Cutting
 pub mod Draft
 pub mod Repeats
 pub mod Reading

@@ -1,11 +1,11 @@
 -- What a part of a text says by itself, whatever stands before it and behind it.
-use Rattle.std.specs.Prelude.{◌≡◌, ◌-◌, ◌++◌, ℕ, List, [], ◌∷◌, Option, None, Some, Result, Ok, IfOk, length, map, All}
+use Rattle.std.specs.Prelude.{◌≡◌, ◌-◌, ℕ, List, [], ◌∷◌, Option, None, Some, Result, Ok, IfOk, length, map, All}
 use denote.Ref.{Bor}
 use Rattle.std.specs.List.{flat_map, slice_get}
-use Rattle.std.specs.Str.Lines.{lines}
-use Rattle.mdp_capture.specs.Capture.{CaptureContent, RefusedLine, add_line, and_then, needs_instrument, next_line}
+use Rattle.mdp_capture.specs.Capture.{CaptureContent, RefusedLine, add_line, and_then, next_line}
 use Rattle.mdp_capture.specs.Line.{LineContent, line_of}
 use Rattle.mdp_capture.specs.Parsed.{ListsDepth, content_of}
+use Rattle.mdp_capture.specs.Cutting.{Cuts, IsOneLine}
 use Rattle.mdp_capture.specs.Draft.{capture_so_far}
 use Rattle.mdp_capture.specs.Repeats.{bytes_in}
 use Rattle.mdp_capture.specs.declared.draft.Draft.{Draft}
@@ -24,12 +24,13 @@ add_contents line (content ∷ rest) capture =
 
 -- the capture that these contents of lines make of one that is being read
 abbrev pub capture_after : {A : Type 0} → Draft A → List LineContent → Result CaptureContent RefusedLine
-capture_after draft contents = needs_instrument (add_contents draft.line contents (capture_so_far draft))
+capture_after draft contents = add_contents draft.line contents (capture_so_far draft)
 
--- a text says what these lines say, and then what this rest of it begins to say, where it begins with a line
-abbrev pub Says : {A : Type 0} → List ℕ → List (Line A) → List ℕ → Type 0
-Says text read rest =
-    (more : List ℕ) → map line_of (lines (text ++ more)) ≡ contents_of read ++ map line_of (lines (rest ++ more))
+-- a text is lines that say this, and what this rest of it begins, whatever follows
+pub record Says {A : Type 0} (text : List ℕ) (read : List (Line A)) (rest : List ℕ) : Type 0 where
+  pub front : List (List ℕ)
+  pub contents : map line_of front ≡ contents_of read
+  pub cuts : Cuts text front rest
 
 -- the instruments among these lines have depths of their kinds
 abbrev pub ListDepths : {A : Type 0} → List (Line A) → Type 0
@@ -55,6 +56,7 @@ joined texts = flat_map (λ (text : Bor (List ℕ)). text.now) texts
 pub record IsReadOf {A : Type 0} (text : List ℕ) (part : Part A) : Type 0 where
   pub says : Says text part.lines.items part.rest.now
   pub depths : ListDepths part.lines.items
+  pub unfinished : IsOneLine part.rest.now
 
 -- each of these answers is the part of the text at its place, unless memory ran out
 abbrev pub AreReadOf : {A E : Type 0} → List (Bor (List ℕ)) → List (Result (Part A) E) → Type 0

@@ -1,5 +1,5 @@
 -- Datagrams that were decoded already: the bytes that the digits of a line spell, and where they are.
-use Rattle.std.specs.Prelude.{◌≡◌, ◌-◌, ℕ, List, length, Option, None, Some}
+use Rattle.std.specs.Prelude.{◌≡◌, ◌-◌, ℕ, List, length, Option, None, Some, IfSome}
 use Rattle.std.specs.List.{slice_get}
 use Rattle.mdp_templates.specs.declared.feed.Feed.{Feed}
 use Rattle.mdp_templates.specs.declared.feed.Feed.TheVariants as feeds
@@ -44,7 +44,6 @@ bytes_in Closing = None
 bytes_in Blank = None
 bytes_in (Skipped skip) = None
 
--- where a feed is told, the bytes of its last record are those that this line brought
-abbrev pub HasBytesOf : {A : Type 0} → LineContent → Draft A → Option Feed → Type 0
-HasBytesOf line draft None = Unit {0}
-HasBytesOf line draft (Some feed) = newest_on feed (capture_so_far draft) ≡ bytes_in line
+-- where a draft knows on which feed the line before brought a datagram, the last record there has the bytes of this line
+abbrev pub HasBytesOf : {A : Type 0} → LineContent → Draft A → Type 0
+HasBytesOf line draft = IfSome draft.brought_on (λ feed. newest_on feed (capture_so_far draft) ≡ bytes_in line)

@@ -1,15 +1,15 @@
 //! A capture under construction.
 
-ghost use Rattle.std.specs.Prelude.{◌≡◌, ◌≢◌, ◌++◌, ◌∷◌, [], List, OnOk, IfOk, IfErr, IfSome};
+ghost use Rattle.std.specs.Prelude.{◌≡◌, ◌++◌, ◌∷◌, [], List, OnOk, IfOk, IfErr, IfSome};
 ghost use Rattle.std.specs.Ordering.{int_eq};
 ghost use Rattle.std.specs.List.{list_any};
 ghost use Rattle.std.specs.Str.{bytes_eq};
-ghost use Rattle.mdp_capture.specs.Line.{LineContent, Packet, Skipped};
+ghost use Rattle.mdp_capture.specs.Line.{LineContent, Listing, Packet, Skipped};
 ghost use Rattle.mdp_capture.specs.Part.{ListDepths, capture_after, contents_of};
-ghost use Rattle.mdp_capture.specs.Capture.{add_line, add_record, add_instrument, refusal_of, has_record, is_listed, has_legs, next_line, no_capture, needs_instrument, IsFaultOf};
+ghost use Rattle.mdp_capture.specs.Capture.{add_line, add_record, add_instrument, refusal_of, has_record, is_listed, has_legs, next_line, no_capture, needs_instrument, IsTextFaultOf};
 ghost use Rattle.mdp_capture.specs.Parsed.{ListsDepth, content_of};
-ghost use Rattle.mdp_capture.specs.Repeats.{newest_of, newest_on};
-ghost use Rattle.mdp_capture.specs.Draft.{capture_so_far, AreFitSoFar};
+ghost use Rattle.mdp_capture.specs.Repeats.{HasBytesOf, newest_of, newest_on};
+ghost use Rattle.mdp_capture.specs.Draft.{capture_so_far, AreFitSoFar, LeavesOut};
 ghost use Rattle.mdp_templates.specs.Instrument.{AreFit};
 
 use crate::blocks::Blocks;
@@ -32,6 +32,9 @@ pub(crate) struct Draft<A: Allocator> {
     s: Vec<Record<A>, A>,
     skipped: Vec<SkippedLine, A>,
     pub(crate) blocks: Blocks<A>,
+    /// The feed on which the line before brought a datagram whose bytes may be shared, where that is
+    /// known.
+    pub(crate) brought_on: Option<Feed>,
 }
 
 impl<A: Allocator + Copy> Draft<A> {
@@ -49,6 +52,7 @@ impl<A: Allocator + Copy> Draft<A> {
             s: Vec::new(alloc),
             skipped: Vec::new(alloc),
             blocks: Blocks::new(alloc),
+            brought_on: None,
         }
     }
 
@@ -60,9 +64,7 @@ impl<A: Allocator + Copy> Draft<A> {
         ensures line { OnOk result (self.new.line ≡ next_line self.old.line) }
         ensures fit { OnOk result (AreFitSoFar self.old.instruments.items
             → AreFitSoFar self.new.instruments.items) }
-        ensures refused { IfErr result (IsFaultOf
-            (add_line self.old.line (content_of line) (capture_so_far self.old))) }
-        ensures no_input { IfErr result (λ fault. fault ≢ CaptureFault.Input) }
+        ensures refused { IfErr result (LeavesOut self.old (content_of line) self.new) }
     {
         self.add(line)?;
         self.line = self.line.saturating_add(1);
@@ -77,8 +79,7 @@ impl<A: Allocator + Copy> Draft<A> {
         ensures fit { OnOk result (AreFitSoFar self.old.instruments.items
             → AreFitSoFar self.new.instruments.items) }
         ensures refused { IfErr result (λ fault. (rest : List LineContent) →
-            IsFaultOf (capture_after self.old (contents_of lines.items ++ rest)) fault) }
-        ensures no_input { IfErr result (λ fault. fault ≢ CaptureFault.Input) }
+            IsTextFaultOf (capture_after self.old (contents_of lines.items ++ rest)) fault) }
     {
         for line in lines {
             self.add_line(line)?;
@@ -91,9 +92,7 @@ impl<A: Allocator + Copy> Draft<A> {
         ensures capture { OnOk result (add_line self.old.line (content_of line)
             (capture_so_far self.old) ≡ Ok (capture_so_far self.new)) }
         ensures line { self.new.line ≡ self.old.line }
-        ensures refused { IfErr result (IsFaultOf
-            (add_line self.old.line (content_of line) (capture_so_far self.old))) }
-        ensures no_input { IfErr result (λ fault. fault ≢ CaptureFault.Input) }
+        ensures refused { IfErr result (LeavesOut self.old (content_of line) self.new) }
     {
         match line {
             Line::Blank => Ok(()),
@@ -127,10 +126,12 @@ impl<A: Allocator + Copy> Draft<A> {
         ensures line { OnOk result (self.new.line ≡ next_line self.old.line) }
         ensures fit { OnOk result (AreFitSoFar self.old.instruments.items
             → AreFitSoFar self.new.instruments.items) }
+        ensures known { OnOk result (HasBytesOf (Packet feed bytes) self.new) }
         ensures memory { IfErr result (λ fault. fault ≡ CaptureFault.Memory) }
     {
         self.add_record(feed, Record::shared(self.line, bytes))?;
         self.line = self.line.saturating_add(1);
+        self.brought_on = Some(feed);
         Ok(())
     }
 
@@ -163,9 +164,7 @@ impl<A: Allocator + Copy> Draft<A> {
         ensures capture { OnOk result (add_instrument self.old.line instrument
             (capture_so_far self.old) ≡ Ok (capture_so_far self.new)) }
         ensures line { self.new.line ≡ self.old.line }
-        ensures refused { IfErr result (IsFaultOf
-            (add_instrument self.old.line instrument (capture_so_far self.old))) }
-        ensures no_input { IfErr result (λ fault. fault ≢ CaptureFault.Input) }
+        ensures refused { IfErr result (LeavesOut self.old (Listing instrument) self.new) }
     {
         if let Some(refusal) = self.refusal_of(&instrument) {
             let line = self.line;
@@ -212,8 +211,7 @@ impl<A: Allocator + Copy> Draft<A> {
             ≡ Ok capture) }
         ensures fit { IfOk result (λ capture. AreFitSoFar self.instruments.items
             → AreFit capture.instruments) }
-        ensures refused { IfErr result (IsFaultOf (needs_instrument (Ok (capture_so_far self)))) }
-        ensures no_input { IfErr result (λ fault. fault ≢ CaptureFault.Input) }
+        ensures refused { IfErr result (IsTextFaultOf (needs_instrument (Ok (capture_so_far self)))) }
     {
         if self.instruments.is_empty() {
             return Err(CaptureFault::Refused {

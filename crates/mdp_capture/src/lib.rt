@@ -4,6 +4,7 @@
 
 mod blocks;
 mod capture;
+mod cutter;
 mod draft;
 mod fault;
 mod field;
@@ -19,6 +20,7 @@ mod repeats;
 mod skip;
 
 pub use capture::Capture;
+pub use cutter::{LineCutter, TakesLines};
 pub use fault::{CaptureFault, CaptureRefusal};
 pub use laws::{
     captures_hold_their_lines, fronts_hold_their_lines, fronts_only_grow,

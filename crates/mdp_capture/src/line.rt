@@ -177,11 +177,8 @@ pub(crate) fn digits_in(text: &[u8]) -> Option<(Feed, &[u8])>
     }
 }
 
-/// Gives the bytes that the digits of a line spell, or why the line is skipped.
-pub(crate) fn bytes_of<A: Allocator>(
-    alloc: A,
-    digits: &[u8],
-) -> Result<Result<Vec<u8, A>, Skip>, AllocError>
+// Gives the bytes that the digits of a line spell, or why the line is skipped.
+fn bytes_of<A: Allocator>(alloc: A, digits: &[u8]) -> Result<Result<Vec<u8, A>, Skip>, AllocError>
     ensures { IfOk result (λ read. MatchResult read (λ bytes. Spells digits.now bytes.items)
         (IsSkippedFor digits.now)) }
 {

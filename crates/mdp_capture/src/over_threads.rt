@@ -1,17 +1,20 @@
 //! Reading a capture in large pieces, the lines of which threads read.
 
-ghost use Rattle.std.specs.Prelude.{◌≡◌, ◌≢◌, ◌++◌, ◌+◌, ◌-◌, ◌<◌, ◌≤◌, ◌^◌, ℕ, List, length, slice_index_or, OnOk, IfOk, IfErr, IfSome};
+ghost use Rattle.std.specs.Prelude.{◌≡◌, ◌≢◌, ◌+◌, ◌-◌, ◌<◌, ◌≤◌, ◌^◌, length, slice_index_or, OnOk, IfOk, IfErr, IfSome};
 ghost use Rattle.std.specs.Io.KnownBytes.{IsAtEnd};
 ghost use Rattle.mdp_capture.specs.Capture.{IsFaultOf, capture_of};
-ghost use Rattle.mdp_capture.specs.Part.{AreReadOf, IsReadOf, joined};
-ghost use Rattle.mdp_capture.specs.Reading.{capture_with, IsSound};
+ghost use Rattle.mdp_capture.specs.Cutting.{IsOneLine};
+ghost use Rattle.mdp_capture.specs.Part.{AreReadOf, IsReadOf, ListDepths, Says, joined};
+ghost use Rattle.mdp_capture.specs.Reading.{RefusesPiece, TakesPiece};
 ghost use Rattle.mdp_templates.specs.Instrument.{AreFit};
 
 use crate::capture::Capture;
+use crate::cutter::LineCutter;
+use crate::draft::Draft;
 use crate::fault::CaptureFault;
 use crate::part::{Part, read_part};
 use crate::reader::CountedRead;
-use crate::reading::{Reading, room_for};
+use crate::reading::{finish, room_for};
 use memchr::memchr;
 use std::alloc::{AllocError, Allocator};
 use std::thread;
@@ -48,12 +51,12 @@ where
         → R.failed reader.new ≡ R.failed reader.old + 1 }
     ensures sound { result ≢ Err CaptureFault.Input → R.failed reader.new ≡ R.failed reader.old }
 {
-    let mut reading = Reading::new(alloc);
+    let mut cutter = LineCutter::new(alloc, Draft::new(alloc));
     let mut piece = room_for(alloc, LARGE_PIECE)?;
     loop {
         match reader.read(piece.as_mut_slice()) {
-            Ok(0) => return reading.finish(alloc),
-            Ok(n) => take_large_piece(rt, alloc, &mut reading, &piece[..n], PART)?,
+            Ok(0) => return finish(alloc, cutter),
+            Ok(n) => take_large_piece(rt, alloc, &mut cutter, &piece[..n], PART)?,
             Err(_) => return Err(CaptureFault::Input),
         }
     }
@@ -64,75 +67,85 @@ where
 pub(crate) fn take_large_piece<T, A>(
     rt: &T,
     alloc: A,
-    reading: &mut Reading<A>,
+    cutter: &mut LineCutter<Draft<A>, A>,
     piece: &[u8],
     size: usize,
 ) -> Result<(), CaptureFault>
 where
     T: Threads + Sync,
     A: Allocator + Copy + Send + Sync,
-    requires { IsSound reading.old }
-    ensures capture { OnOk result ((text : List ℕ)
-        → capture_with reading.old (piece.now ++ text) ≡ capture_with reading.new text) }
-    ensures sound { OnOk result (IsSound reading.new) }
-    ensures refused { IfErr result (λ fault. (text : List ℕ)
-        → IsFaultOf (capture_with reading.old (piece.now ++ text)) fault) }
-    ensures no_input { IfErr result (λ fault. fault ≢ CaptureFault.Input) }
+    ensures taken { OnOk result (TakesPiece cutter.old piece.now cutter.new) }
+    ensures refused { IfErr result (RefusesPiece cutter.old piece.now) }
 {
     if piece.len() <= size {
-        return reading.take_piece(alloc, piece);
+        cutter.take_piece(alloc, piece)?;
+        return Ok(());
     }
     let end = end_of_part(piece, 0);
-    reading.take_piece(alloc, &piece[..end])?;
-    take_by_parts(rt, alloc, reading, &piece[end..], size)
+    cutter.take_piece(alloc, &piece[..end])?;
+    take_by_parts(rt, alloc, cutter, &piece[end..], size)
 }
 
 // Takes in the next piece of the text in parts of this size, which threads read.
 fn take_by_parts<T, A>(
     rt: &T,
     alloc: A,
-    reading: &mut Reading<A>,
+    cutter: &mut LineCutter<Draft<A>, A>,
     piece: &[u8],
     size: usize,
 ) -> Result<(), CaptureFault>
 where
     T: Threads + Sync,
     A: Allocator + Copy + Send + Sync,
-    requires { IsSound reading.old }
-    ensures capture { OnOk result ((text : List ℕ)
-        → capture_with reading.old (piece.now ++ text) ≡ capture_with reading.new text) }
-    ensures sound { OnOk result (IsSound reading.new) }
-    ensures refused { IfErr result (λ fault. (text : List ℕ)
-        → IsFaultOf (capture_with reading.old (piece.now ++ text)) fault) }
-    ensures no_input { IfErr result (λ fault. fault ≢ CaptureFault.Input) }
+    ensures taken { OnOk result (TakesPiece cutter.old piece.now cutter.new) }
+    ensures refused { IfErr result (RefusesPiece cutter.old piece.now) }
 {
     let texts = cut(alloc, piece, size)?;
     let parts = read_parts(rt, alloc, texts.as_slice())?;
-    take_parts(alloc, reading, texts.as_slice(), parts)
+    take_parts(alloc, cutter, texts.as_slice(), parts)
 }
 
 // Takes in these texts, one behind the other, each of which was read by itself.
 fn take_parts<A: Allocator + Copy>(
     alloc: A,
-    reading: &mut Reading<A>,
+    cutter: &mut LineCutter<Draft<A>, A>,
     texts: &[&[u8]],
     parts: Vec<Result<Part<'_, A>, AllocError>, A>,
 ) -> Result<(), CaptureFault>
-    requires sound { IsSound reading.old }
-    requires read { AreReadOf texts.now parts.items }
-    ensures capture { OnOk result ((text : List ℕ)
-        → capture_with reading.old (joined texts.now ++ text) ≡ capture_with reading.new text) }
-    ensures sound { OnOk result (IsSound reading.new) }
-    ensures refused { IfErr result (λ fault. (text : List ℕ)
-        → IsFaultOf (capture_with reading.old (joined texts.now ++ text)) fault) }
-    ensures no_input { IfErr result (λ fault. fault ≢ CaptureFault.Input) }
+    requires { AreReadOf texts.now parts.items }
+    ensures taken { OnOk result (TakesPiece cutter.old (joined texts.now) cutter.new) }
+    ensures refused { IfErr result (RefusesPiece cutter.old (joined texts.now)) }
 {
     let mut number = 0;
     for part in parts {
         let part = part?;
-        reading.take_part(alloc, texts[number], part)?;
+        take_part(alloc, cutter, texts[number], part)?;
         number += 1;
     }
+    Ok(())
+}
+
+// Takes in a text that was read by itself. What was read counts where a line begins with it.
+fn take_part<A: Allocator + Copy>(
+    alloc: A,
+    cutter: &mut LineCutter<Draft<A>, A>,
+    text: &[u8],
+    part: Part<'_, A>,
+) -> Result<(), CaptureFault>
+    requires says { Says text.now part.lines.items part.rest.now }
+    requires depths { ListDepths part.lines.items }
+    requires unfinished { IsOneLine part.rest.now }
+    ensures taken { OnOk result (TakesPiece cutter.old text.now cutter.new) }
+    ensures refused { IfErr result (RefusesPiece cutter.old text.now) }
+{
+    let has_begun = !cutter.pending.is_empty();
+    if has_begun {
+        cutter.take_piece(alloc, text)?;
+        return Ok(());
+    }
+    let Part { lines, rest } = part;
+    cutter.taker.add_lines(lines)?;
+    cutter.pending.extend_from_slice(rest)?;
     Ok(())
 }
 

@@ -1,6 +1,7 @@
 //! A part of a capture's text, read by itself.
 
 ghost use Rattle.std.specs.Prelude.{◌≡◌, IfOk, IfSome, Some};
+ghost use Rattle.mdp_capture.specs.Cutting.{IsOneLine};
 ghost use Rattle.mdp_capture.specs.Line.{line_of};
 ghost use Rattle.mdp_capture.specs.Parsed.{ListsDepth, content_of};
 ghost use Rattle.mdp_capture.specs.Part.{HasBytesIn, ListDepths, Says, newest_in};
@@ -96,6 +97,7 @@ pub(crate) fn read_part<'a, A: Allocator + Copy>(
 ) -> Result<Part<'a, A>, AllocError>
     ensures says { IfOk result (λ part. Says text.now part.lines.items part.rest.now) }
     ensures depths { IfOk result (λ part. ListDepths part.lines.items) }
+    ensures unfinished { IfOk result (λ part. IsOneLine part.rest.now) }
 {
     let mut lines = Vec::new(alloc);
     let mut blocks = Blocks::new(alloc);

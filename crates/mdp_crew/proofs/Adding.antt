@@ -1,5 +1,5 @@
 -- What events add one after another, and batch by batch, adds up.
-use Rattle.std.proofs.Common.{◌≡◌, ℕ, List, [], ◌∷◌, ◌++◌, map, refl, sym, ap, subst, ◌∙◌, append_assoc}
+use Rattle.std.proofs.Common.{◌≡◌, List, [], ◌∷◌, ◌++◌, map, refl, sym, ap, subst, ◌∙◌, append_assoc}
 use Rattle.std.specs.Prelude.{Result, Ok, Err}
 use Rattle.std.proofs.lemmas.List.{append-nil, map-append}
 use Rattle.std.proofs.lemmas.List.Concat.{flat_map-append}
@@ -13,7 +13,7 @@ use Rattle.mdp_arbiter.proofs.Runs.{law_of_fronts}
 use Rattle.mdp_engine.specs.Engine.{IsSettled}
 use Rattle.mdp_engine.specs.Steps.{event_of}
 use Rattle.mdp_engine.specs.declared.event.Event.{Event as Came}
-use Rattle.mdp_crew.specs.Fed.{IsFed, IsFedAll}
+use Rattle.mdp_crew.specs.Fed.{IsFedAll, feeding}
 use Rattle.mdp_crew.specs.Sent.{AreSent, HasSentAll, moves_sent}
 use Rattle.mdp_crew.proofs.Making.{if_ok}
 
@@ -24,7 +24,7 @@ well = Ok tt
 -- ---- events one after another
 
 -- no events add no moves
-pub fed_none : (listed : List Instrument) (before : List Event) (v : View) (turns : List Move) → IsSettled listed before v → IsFedAll listed before [] v v turns turns well
+pub fed_none : (listed : List Instrument) (before : List Event) (v : View) (turns : List Move) → IsSettled listed before v → IsFedAll listed (feeding before v turns) (feeding (before ++ []) v turns) well
 fed_none listed before v turns settled =
     let same : before ++ [] ≡ before = append-nil before in
     record {
@@ -37,12 +37,12 @@ fed_none listed before v turns settled =
 
 -- where memory sufficed it does not matter which fault there was not
 fed_well : {E F : Type 0} (listed : List Instrument) (before events : List Event) (old new : View) (turns turns' : List Move)
-    → IsFedAll {E = E} listed before events old new turns turns' (Ok tt) → IsFedAll {E = F} listed before events old new turns turns' (Ok tt)
+    → IsFedAll {E = E} listed (feeding before old turns) (feeding (before ++ events) new turns') (Ok tt) → IsFedAll {E = F} listed (feeding before old turns) (feeding (before ++ events) new turns') (Ok tt)
 fed_well listed before events old new turns turns' fed = record { made = fed.made; rest = fed.rest; appended = fed.appended; front = fed.front; whole = fed.whole }
 
 -- these events and then those add what these add and then what those add
 pub fed_more : {E F : Type 0} (listed : List Instrument) (before xs ys : List Event) (old mid new : View) (turns so_far full : List Move) (result : Result (Unit {0}) F)
-    → IsFedAll {E = E} listed before xs old mid turns so_far (Ok tt) → IsFedAll listed (before ++ xs) ys mid new so_far full result → IsFedAll listed before (xs ++ ys) old new turns full result
+    → IsFedAll {E = E} listed (feeding before old turns) (feeding (before ++ xs) mid so_far) (Ok tt) → IsFedAll listed (feeding (before ++ xs) mid so_far) (feeding ((before ++ xs) ++ ys) new full) result → IsFedAll listed (feeding before old turns) (feeding (before ++ (xs ++ ys)) new full) result
 fed_more listed before xs ys old mid new turns so_far full result one two =
     let joined : (before ++ xs) ++ ys ≡ before ++ (xs ++ ys) = append_assoc before xs ys in
     let first : trace old.channel (before ++ xs) ≡ trace old.channel before ++ one.made =
@@ -66,7 +66,7 @@ fed_more listed before xs ys old mid new turns so_far full result one two =
 
 -- where memory ran out, whatever further events add is missing too
 pub fed_no_more : {E F : Type 0} (listed : List Instrument) (before xs ys : List Event) (old mid new : View) (turns turns' : List Move) (x : E) (y : F)
-    → IsFedAll listed before xs old mid turns turns' (Err x) → IsFedAll listed before (xs ++ ys) old new turns turns' (Err y)
+    → IsFedAll listed (feeding before old turns) (feeding (before ++ xs) mid turns') (Err x) → IsFedAll listed (feeding before old turns) (feeding (before ++ (xs ++ ys)) new turns') (Err y)
 fed_no_more listed before xs ys old mid new turns turns' x y one =
     let further = go_on old.channel (before ++ xs) (state_at old.channel (before ++ xs)) ys in
     record {
@@ -85,29 +85,29 @@ fed_no_more listed before xs ys old mid new turns turns' x y one =
 
 module _ {A E : Type 0} (listed : List Instrument) (before : List Event) (old : View) (turns : List Move) where
   -- one more
-  pub fed_further : (done : List (Came A)) (x : Came A) (mid new : View) (so_far full : List Move) → IsFedAll listed before (map event_of done) old mid turns so_far well
-      → IsFed {E = E} listed (before ++ map event_of done) (event_of x) mid new so_far full (Ok tt) → IsFedAll listed before (map event_of (done ++ x ∷ [])) old new turns full well
+  pub fed_further : (done : List (Came A)) (x : Came A) (mid new : View) (so_far full : List Move) → IsFedAll listed (feeding before old turns) (feeding (before ++ (map event_of done)) mid so_far) well
+      → IsFedAll {E = E} listed (feeding (before ++ map event_of done) mid so_far) (feeding ((before ++ map event_of done) ++ (event_of x) ∷ []) new full) (Ok tt) → IsFedAll listed (feeding before old turns) (feeding (before ++ (map event_of (done ++ x ∷ []))) new full) well
   fed_further done x mid new so_far full fed one =
-      subst (λ (es : List Event). IsFedAll listed before es old new turns full well) (sym (map-append event_of done (x ∷ [])))
+      subst (λ (es : List Event). IsFedAll listed (feeding before old turns) (feeding (before ++ es) new full) well) (sym (map-append event_of done (x ∷ [])))
       (fed_more listed before (map event_of done) (event_of x ∷ []) old mid new turns so_far full well fed (fed_well listed (before ++ map event_of done) (event_of x ∷ []) mid new so_far full one))
 
   -- memory ran out at this one, and these are left
   pub fed_short : (events done left : List (Came A)) (x : Came A) (mid new : View) (so_far full : List Move) (fault : E) → (done ++ x ∷ []) ++ left ≡ events
-      → IsFedAll listed before (map event_of done) old mid turns so_far well → IsFed listed (before ++ map event_of done) (event_of x) mid new so_far full (Err fault)
-      → IsFedAll listed before (map event_of events) old new turns full (Err fault)
+      → IsFedAll listed (feeding before old turns) (feeding (before ++ (map event_of done)) mid so_far) well → IsFedAll listed (feeding (before ++ map event_of done) mid so_far) (feeding ((before ++ map event_of done) ++ (event_of x) ∷ []) new full) (Err fault)
+      → IsFedAll listed (feeding before old turns) (feeding (before ++ (map event_of events)) new full) (Err fault)
   fed_short events done left x mid new so_far full fault are fed one =
       let all : (map event_of done ++ event_of x ∷ []) ++ map event_of left ≡ map event_of events =
       ap (λ (l : List Event). l ++ map event_of left) (sym (map-append event_of done (x ∷ [])))
       ∙ sym (map-append event_of (done ++ x ∷ []) left) ∙ ap (map event_of) are in
-      subst (λ (es : List Event). IsFedAll listed before es old new turns full (Err fault)) all
+      subst (λ (es : List Event). IsFedAll listed (feeding before old turns) (feeding (before ++ es) new full) (Err fault)) all
       (fed_no_more listed before (map event_of done ++ event_of x ∷ []) (map event_of left) old new new turns full fault fault
       (fed_more listed before (map event_of done) (event_of x ∷ []) old mid new turns so_far full (Err fault) fed one))
 
   -- none is left
   pub fed_all : (events done : List (Came A)) (new : View) (full : List Move) → done ≡ events
-      → IsFedAll listed before (map event_of done) old new turns full well → IsFedAll {E = E} listed before (map event_of events) old new turns full (Ok tt)
+      → IsFedAll listed (feeding before old turns) (feeding (before ++ (map event_of done)) new full) well → IsFedAll {E = E} listed (feeding before old turns) (feeding (before ++ (map event_of events)) new full) (Ok tt)
   fed_all events done new full are fed =
-      subst (λ (cs : List (Came A)). IsFedAll {E = E} listed before (map event_of cs) old new turns full (Ok tt)) are
+      subst (λ (cs : List (Came A)). IsFedAll {E = E} listed (feeding before old turns) (feeding (before ++ (map event_of cs)) new full) (Ok tt)) are
       (fed_well listed before (map event_of done) old new turns full fed)
 
 -- ---- batch by batch
@@ -131,7 +131,7 @@ one_more batches turns = flat_map-append (λ (ms : List Move). ms) batches (turn
 
 -- the turns of further events were sent as one batch more
 pub sent_more : {E : Type 0} (channel : ListedChannel) (before events : List Event) (batches : List (List Move)) (old new : View) (turns : List Move)
-    → HasSentAll channel before batches old → IsFedAll {E = E} channel.listed before events old new [] turns (Ok tt) → HasSentAll channel (before ++ events) (batches ++ turns ∷ []) new
+    → HasSentAll channel before batches old → IsFedAll {E = E} channel.listed (feeding before old []) (feeding (before ++ events) new turns) (Ok tt) → HasSentAll channel (before ++ events) (batches ++ turns ∷ []) new
 sent_more channel before events batches old new turns so_far fed =
     let made : fed.made ++ fed.rest ≡ turns = ap (λ (l : List Move). fed.made ++ l) fed.whole.0 ∙ append-nil fed.made ∙ sym fed.appended in
     record {
@@ -142,7 +142,7 @@ sent_more channel before events batches old new turns so_far fed =
 
 -- further events added no move, and no batch was sent
 pub sent_as_before : {E : Type 0} (channel : ListedChannel) (before events : List Event) (batches : List (List Move)) (old new : View) (turns : List Move)
-    → HasSentAll channel before batches old → IsFedAll {E = E} channel.listed before events old new [] turns (Ok tt) → turns ≡ [] → HasSentAll channel (before ++ events) batches new
+    → HasSentAll channel before batches old → IsFedAll {E = E} channel.listed (feeding before old []) (feeding (before ++ events) new turns) (Ok tt) → turns ≡ [] → HasSentAll channel (before ++ events) batches new
 sent_as_before channel before events batches old new turns so_far fed none =
     let more = sent_more channel before events batches old new turns so_far fed in
     record {

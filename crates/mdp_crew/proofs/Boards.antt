@@ -6,7 +6,7 @@ use Rattle.std.proofs.lemmas.List.Concat.{flat_map-append}
 use Rattle.mdp_lanes.specs.Boards.{Published, with_step}
 use Rattle.mdp_lanes.specs.declared.step.Step.{Step}
 use Rattle.mdp_desks.specs.Reports.{Report}
-use Rattle.mdp_engine.specs.Rounds.{all_rounds_in, rounds_in}
+use Rattle.mdp_reports.specs.Rounds.{all_rounds_in, rounds_in}
 use Rattle.mdp_reports.specs.BoardSteps.{steps_in}
 use Rattle.mdp_reports.proofs.Boarding.{law_of_first_steps}
 use Rattle.mdp_crew.specs.Collecting.{steps_of_batch, steps_of_batches}

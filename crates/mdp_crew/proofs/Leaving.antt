@@ -6,13 +6,13 @@ use Rattle.std.proofs.lemmas.List.{append-nil, append_cancel_left}
 use Rattle.std.proofs.lemmas.List.Concat.{flat_map-append}
 use Rattle.mdp_templates.specs.declared.instrument.Instrument.{Instrument}
 use Rattle.mdp_lanes.specs.Boards.{Published}
-use Rattle.mdp_arbiter.specs.Channel.{ids_of}
+use Rattle.mdp_templates.specs.Instrument.{ids_of}
 use Rattle.mdp_arbiter.specs.Machine.{Move}
 use Rattle.mdp_desks.specs.Moments.{Moment, moment_text, moments, moments_after, text_of_moments}
 use Rattle.mdp_desks.specs.Reports.{Report}
 use Rattle.mdp_desks.proofs.Moments.{moments-append}
-use Rattle.mdp_engine.specs.RoundLaws.{Ascend}
-use Rattle.mdp_engine.specs.Rounds.{batch_of, kept_at_start}
+use Rattle.mdp_reports.specs.RoundLaws.{Ascend}
+use Rattle.mdp_reports.specs.Rounds.{batch_of, kept_at_start}
 use Rattle.mdp_crew.specs.Sent.{moves_sent}
 use Rattle.mdp_reports.specs.Behind.{IsBehind}
 use Rattle.mdp_reports.specs.BoardSteps.{step_of_moment}
@@ -20,6 +20,7 @@ use Rattle.mdp_reports.specs.Taking.{View}
 use Rattle.mdp_reports.proofs.Behind.{behind_in_steps, behind_in_text, behind_more}
 use Rattle.mdp_crew.specs.Collecting.{IsCut, Showing, steps_of_batches, text_of_batches}
 use Rattle.mdp_crew.specs.Collecting.IsCut.{among_steps, in_last}
+use Rattle.mdp_crew.specs.Outlets.{Outlet, out}
 use Rattle.mdp_crew.specs.Publishing.{published_on}
 use Rattle.mdp_crew.specs.Running.{WentOut}
 use Rattle.mdp_crew.proofs.Meeting.{ascend_front, steps_are_shown, text_is_shown}
@@ -30,7 +31,7 @@ abbrev pub begun : List Instrument → View
 begun listed = record { listed = listed; kept = kept_at_start listed }
 
 -- where all went out
-pub all_out : (ms : List Moment) (start taken : List ℕ) (board board' : Option Published) → taken ≡ start ++ text_of_moments ms → board' ≡ published_on board (map step_of_moment ms) → WentOut ms [] start taken board board'
+pub all_out : (ms : List Moment) (start taken : List ℕ) (board board' : Option Published) → taken ≡ start ++ text_of_moments ms → board' ≡ published_on board (map step_of_moment ms) → WentOut ms [] (out start board) (out taken board')
 all_out ms start taken board board' text steps = record {
   sent = text_of_moments ms;
   steps = map step_of_moment ms;
@@ -40,13 +41,13 @@ all_out ms start taken board board' text steps = record {
 }
 
 -- where more moments come
-pub out_more : (ms more : List Moment) (end start taken : List ℕ) (board board' : Option Published) → WentOut ms [] start taken board board' → WentOut (ms ++ more) end start taken board board'
-out_more ms more end start taken board board' out = record {
-  sent = out.sent;
-  steps = out.steps;
-  taken_is = out.taken_is;
-  board_is = out.board_is;
-  behind = behind_more ms more end out.sent out.steps out.behind;
+pub out_more : (ms more : List Moment) (end : List ℕ) (old new : Outlet) → WentOut ms [] old new → WentOut (ms ++ more) end old new
+out_more ms more end old new went = record {
+  sent = went.sent;
+  steps = went.steps;
+  taken_is = went.taken_is;
+  board_is = went.board_is;
+  behind = behind_more ms more end went.sent went.steps went.behind;
 }
 
 -- the last of these rounds is of the last of these batches
@@ -80,7 +81,7 @@ out_in_last : (listed : List Instrument) (n : ℕ) (first : List (List Move)) (l
     → 1 ≤ n → AllPairs (λ a b. a ≢ b) (ids_of listed) → Ascend listed 1 (moves_sent (first ++ last ∷ []))
     → text_of_batches (begun listed) (rounds_of listed n [] (first ++ last ∷ [])) ≡ text_of_batches (begun listed) (rounds_of listed n [] first) ++ (sent ++ rest)
     → taken ≡ start ++ (text_of_batches (begun listed) (rounds_of listed n [] first) ++ sent) → board' ≡ published_on board (map step_of_moment (moments listed (moves_sent first)))
-    → WentOut (moments listed (moves_sent (first ++ last ∷ []))) [] start taken board board'
+    → WentOut (moments listed (moves_sent (first ++ last ∷ []))) [] (out start board) (out taken board')
 out_in_last listed n first last sent rest start taken board board' some differ ascend whole text steps =
     let ms = moments listed (moves_sent first) in
     let next = moments_after listed (moves_sent first) last in
@@ -105,7 +106,7 @@ out_in_last listed n first last sent rest start taken board board' some differ a
 -- of the rounds of these batches so much went out
 pub out_of_rounds : {A : Type 0} (listed : List Instrument) (n : ℕ) (xs : List (List Move)) (rounds : List (List (List Report))) (old new : Showing A)
     → 1 ≤ n → AllPairs (λ a b. a ≢ b) (ids_of listed) → Ascend listed 1 (moves_sent xs) → old.collector ≡ begun listed → rounds ≡ rounds_of listed n [] xs → IsCut old new rounds
-    → WentOut (moments listed (moves_sent xs)) [] old.taken new.taken old.board new.board
+    → WentOut (moments listed (moves_sent xs)) [] (out old.taken old.board) (out new.taken new.board)
 out_of_rounds listed n xs rounds old new some differ ascend begins are (among_steps shown hidden all text steps) =
     let ms = moments listed (moves_sent xs) in
     record {
@@ -122,7 +123,7 @@ out_of_rounds listed n xs rounds old new some differ ascend begins are (in_last 
     let of_done : text_of_batches old.collector done ≡ text_of_batches (begun listed) (rounds_of listed n [] first) = λ i. text_of_batches (begins i) (at.3 i) in
     let of_all : text_of_batches old.collector rounds ≡ text_of_batches (begun listed) (rounds_of listed n [] (first ++ last ∷ [])) =
     (λ i. text_of_batches (begins i) (are i)) ∙ ap (λ (l : List (List Move)). text_of_batches (begun listed) (rounds_of listed n [] l)) at.2 in
-    subst (λ (l : List (List Move)). WentOut (moments listed (moves_sent l)) [] old.taken new.taken old.board new.board) (sym at.2)
+    subst (λ (l : List (List Move)). WentOut (moments listed (moves_sent l)) [] (out old.taken old.board) (out new.taken new.board)) (sym at.2)
     (out_in_last listed n first last sent rest old.taken new.taken old.board new.board some differ (subst (λ (l : List (List Move)). Ascend listed 1 (moves_sent l)) at.2 ascend)
     (sym of_all ∙ whole ∙ ap (λ (t : List ℕ). t ++ (sent ++ rest)) of_done)
     (text ∙ ap (λ (t : List ℕ). old.taken ++ (t ++ sent)) of_done)

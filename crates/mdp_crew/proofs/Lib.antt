@@ -13,3 +13,4 @@ pub mod Sharing
 pub mod Leaving
 pub mod Together
 pub mod Ending
+pub mod Joined

@@ -18,7 +18,7 @@ use Rattle.mdp_arbiter.proofs.Runs.{law_of_events, law_of_fronts, law_of_moves}
 use Rattle.mdp_engine.specs.Engine.{IsSettled}
 use Rattle.mdp_engine.proofs.Moving.{Leads, leads-push, no_move}
 use Rattle.mdp_arbiter.specs.Turns.{stepped_move}
-use Rattle.mdp_crew.specs.Fed.{HasComeTo, IsFed, MakesMoves}
+use Rattle.mdp_crew.specs.Fed.{HasComeTo, IsFedAll, MakesMoves, feeding}
 
 -- with what settles from there, they settle
 leads_on : (channel : Channel) (es : List Event) (s : State) (ms : List Move) (to : State) (rest : List Move)
@@ -48,7 +48,7 @@ one_made channel es old new newest step None possible answers next are = elim an
 one_made channel es old new newest (Pass q) (Some (passed p)) possible answers next are =
     record { possible = possible ∙ ap (λ x. Some (passed x)) (sym answers); state = next }
 one_made channel es old new newest (Jump from to) (Some (jumped f t snapshots)) possible answers next are =
-    let taken : snapshots_of newest ≡ snapshots = ap snapshots_of (are ∙ (law_of_jumps channel es old f t snapshots possible).newest) ∙ all_there snapshots in
+    let taken : snapshots_of newest ≡ snapshots = ap snapshots_of (are ∙ (law_of_jumps channel es old f t snapshots possible).1.newest) ∙ all_there snapshots in
     let same : jumped from to (snapshots_of newest) ≡ jumped f t snapshots =
     ap (λ (n : ℕ). jumped n to (snapshots_of newest)) answers.0 ∙ ap (λ (n : ℕ). jumped f n (snapshots_of newest)) answers.1 ∙ ap (jumped f t) taken in
     record { possible = possible ∙ ap (λ (x : Move). Some x) (sym same); state = next ∙ ap (after old) (sym same) }
@@ -92,7 +92,7 @@ held (Err e) p = tt
 
 -- no step more
 pub moves_settled : {A E : Type 0} (old now new : View) (turns full : List Move) (step : Option (Step A)) (result : Result (Unit {0}) E) → step ≡ None → MovesTo old now turns full
-    → ((es : List Event) → StandsAt es now → StepsAs es now new step) → new.channel ≡ now.channel → (es : List Event) → StandsAt es old → MakesMoves es old new turns full result
+    → ((es : List Event) → StandsAt es now → StepsAs es now new step) → new.channel ≡ now.channel → (es : List Event) → StandsAt es old → MakesMoves (feeding es old turns) (feeding es new full) result
 moves_settled old now new turns full step result is moves steps channel es stands =
     let has = moves es stands in
     let s = steps es has.stands in
@@ -114,7 +114,7 @@ moves_settled old now new turns full step result is moves steps channel es stand
     }
 
 -- memory ran out: the moves so far are a beginning of those that are possible
-pub moves_begun : {E : Type 0} (old now new : View) (turns full : List Move) (x : E) → MovesTo old now turns full → (es : List Event) → StandsAt es old → MakesMoves es old new turns full (Err x)
+pub moves_begun : {E : Type 0} (old now new : View) (turns full : List Move) (x : E) → MovesTo old now turns full → (es : List Event) → StandsAt es old → MakesMoves (feeding es old turns) (feeding es new full) (Err x)
 moves_begun old now new turns full x moves es stands =
     let has = moves es stands in
     record {
@@ -133,7 +133,7 @@ if_ok (Err e) f p = tt
 
 pub fed : {E : Type 0} (listed : List Instrument) (es : List Event) (e : Event) (old mid new : View) (turns full : List Move) (result : Result (Unit {0}) E)
     → StandsAt (es ++ e ∷ []) mid → state mid ≡ state old → mid.channel ≡ old.channel → IsSettled listed es old
-    → MakesMoves (es ++ e ∷ []) mid new turns full result → IsFed listed es e old new turns full result
+    → MakesMoves (feeding (es ++ e ∷ []) mid turns) (feeding (es ++ e ∷ []) new full) result → IsFedAll listed (feeding es old turns) (feeding (es ++ e ∷ []) new full) result
 fed listed es e old mid new turns full result stands keeps channel settled moves =
     let all = moves.made ++ moves.rest in
     let settles : Settles old.channel (es ++ e ∷ []) (state_at old.channel es) all =
@@ -161,7 +161,7 @@ fed listed es e old mid new turns full result stands keeps channel settled moves
     }
 
 -- where the event was not taken in
-pub not_fed : {E : Type 0} (listed : List Instrument) (es : List Event) (e : Event) (old new : View) (turns : List Move) (x : E) → IsFed listed es e old new turns turns (Err x)
+pub not_fed : {E : Type 0} (listed : List Instrument) (es : List Event) (e : Event) (old new : View) (turns : List Move) (x : E) → IsFedAll listed (feeding es old turns) (feeding (es ++ e ∷ []) new turns) (Err x)
 not_fed listed es e old new turns x = record {
   made = [];
   rest = go_on old.channel es (state_at old.channel es) (e ∷ []);

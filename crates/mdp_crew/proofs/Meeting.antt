@@ -4,16 +4,16 @@ use Rattle.std.specs.Prelude.{Option}
 use Rattle.std.specs.List.{AllPairs}
 use Rattle.mdp_templates.specs.declared.instrument.Instrument.{Instrument}
 use Rattle.mdp_quotes.specs.declared.best.Best.{Best}
-use Rattle.mdp_arbiter.specs.Channel.{ids_of}
+use Rattle.mdp_templates.specs.Instrument.{ids_of}
 use Rattle.mdp_arbiter.specs.Machine.{Move}
 use Rattle.mdp_arbiter.specs.Machine.Move.{passed, jumped}
 use Rattle.mdp_desks.specs.Moments.{Moment, moments_by}
 use Rattle.mdp_desks.specs.Reports.{Report}
 use Rattle.mdp_desks.specs.Moments.{shown_lines}
-use Rattle.mdp_engine.specs.RoundLaws.{Ascend}
-use Rattle.mdp_engine.specs.Rounds.{all_rounds_in, collected_text, kept_after_round, kept_at_start, round_of, round_text, rounds_in, text_from}
-use Rattle.mdp_engine.proofs.Batching.{law_of_batches, law_of_cuts}
-use Rattle.mdp_engine.proofs.Collecting.{law_of_workers}
+use Rattle.mdp_reports.specs.RoundLaws.{Ascend}
+use Rattle.mdp_reports.specs.Rounds.{all_rounds_in, collected_text, kept_after_round, kept_at_start, round_of, round_text, rounds_in, text_from}
+use Rattle.mdp_reports.proofs.Batching.{law_of_batches, law_of_cuts}
+use Rattle.mdp_reports.proofs.Collecting.{law_of_workers}
 use Rattle.mdp_crew.specs.Sent.{moves_sent}
 use Rattle.mdp_reports.specs.BoardSteps.{board_steps}
 use Rattle.mdp_reports.proofs.Boarding.{law_of_boards}

@@ -1,5 +1,5 @@
 -- What went into the lanes, batch by batch, and what was taken of the readers.
-use Rattle.std.proofs.Common.{◌≡◌, ◌==◌, ℕ, true, true≢false, inl, inr, length, List, [], ◌∷◌, ◌++◌, map, refl, sym, ap, subst, ◌∙◌, append_assoc}
+use Rattle.std.proofs.Common.{◌≡◌, ◌==◌, true, true≢false, inl, inr, length, List, [], ◌∷◌, ◌++◌, map, refl, sym, ap, subst, ◌∙◌, append_assoc}
 use Rattle.std.specs.Prelude.{Result, Ok, Err, IfErr, OnOk}
 use Rattle.std.proofs.lemmas.Bool.Decides.{eqb_tells}
 use Rattle.std.proofs.lemmas.List.{append-nil, map-append, nil_from_length}
@@ -13,13 +13,13 @@ use Rattle.mdp_arbiter.specs.declared.arbiter.Standing.{Standing}
 use Rattle.mdp_arbiter.specs.Machine.{is_lost, Move, stands_after, State}
 use Rattle.mdp_lanes.specs.Queues.{IntakeReceiverView, LaneSenderView}
 use Rattle.mdp_engine.specs.Engine.{IsSettled}
-use Rattle.mdp_crew.specs.Fed.{IsFedAll}
+use Rattle.mdp_crew.specs.Fed.{IsFedAll, feeding}
 use Rattle.mdp_crew.specs.Sent.{HasSentAll}
 use Rattle.mdp_crew.proofs.Adding.{sent_as_before, sent_more, sent_no_more, sent_none, some_sent, state_there}
 use Rattle.mdp_crew.specs.declared.batch.Batch.{Batch}
 use Rattle.mdp_crew.specs.declared.order.Order.{Order}
 use Rattle.mdp_crew.specs.declared.order.Order.TheVariants.{Take, Done}
-use Rattle.mdp_crew.specs.Arbitrating.{HasBegun, HasSentFirst, HasSentSoFar, HavePut, SendsMore, StopsWithin}
+use Rattle.mdp_crew.specs.Arbitrating.{HasBegun, HasSentFirst, HasSentSoFar, HavePut, SendsMore, StopsWithin, sending}
 use Rattle.mdp_crew.specs.Batches.{HasTakenMore, batch_events, events_taken}
 use Rattle.mdp_crew.specs.Orders.{and_sent, orders_of}
 
@@ -59,53 +59,53 @@ module _ {A : Type 0} where
 
   -- ---- batch by batch
 
-  so_far_none : (channel : ListedChannel) (lanes : List (LaneSenderView (Order A))) (v : View) → HasBegun channel v → HasSentSoFar channel [] lanes lanes v
+  so_far_none : (channel : ListedChannel) (lanes : List (LaneSenderView (Order A))) (v : View) → HasBegun channel v → HasSentSoFar channel lanes (sending [] lanes v)
   so_far_none channel lanes v begun = record { batches = []; lanes = lanes_none lanes; all = sent_none channel v begun.stands begun.begins begun.channel_is }
 
   -- at the start nothing was taken
   pub begun_there : (channel : ListedChannel) (receiver : IntakeReceiverView (Batch A)) (first now : List (LaneSenderView (Order A))) (v : View) → HasBegun channel v → receiver.taken ≡ [] → now ≡ first
-      → HasSentSoFar channel (events_taken receiver.taken) first now v
+      → HasSentSoFar channel first (sending (events_taken receiver.taken) now v)
   begun_there channel receiver first now v begun none same =
-      subst (λ (start : List (Feed × Batch A) × List (LaneSenderView (Order A))). HasSentSoFar channel (events_taken start.0) first start.1 v)
+      subst (λ (start : List (Feed × Batch A) × List (LaneSenderView (Order A))). HasSentSoFar channel first (sending (events_taken start.0) start.1 v))
       (λ i. (sym none i, sym same i)) (so_far_none channel first v begun)
 
   -- the turns of further events were sent
   pub some_sends : {E F : Type 0} (events : List Event) (now after : List (LaneSenderView (Order A))) (old new : View) (none turns : List Move) (result : Result (Unit {0}) F) → none ≡ []
-      → ((listed : List Instrument) (before : List Event) → IsSettled listed before old → IsFedAll {E = E} listed before events old new none turns (Ok tt))
-      → OnOk result (after ≡ map (and_sent (Take turns ∷ [])) now) → OnOk result ((before : List Event) → SendsMore before now old (before ++ events) after new)
+      → ((listed : List Instrument) (before : List Event) → IsSettled listed before old → IsFedAll {E = E} listed (feeding before old none) (feeding (before ++ events) new turns) (Ok tt))
+      → OnOk result (after ≡ map (and_sent (Take turns ∷ [])) now) → OnOk result ((before : List Event) → SendsMore (sending before now old) (sending (before ++ events) after new))
   some_sends {E} events now after old new none turns (Ok done) is fed one = λ before channel first so_far. record {
     batches = so_far.batches ++ turns ∷ [];
     lanes = lanes_next so_far.batches turns first now after so_far.lanes one;
     all =
         sent_more channel before events so_far.batches old new turns so_far.all
-        (subst (λ (start : List Move). IsFedAll {E = E} channel.listed before events old new start turns (Ok tt)) is (fed channel.listed before so_far.all.settled));
+        (subst (λ (start : List Move). IsFedAll {E = E} channel.listed (feeding before old start) (feeding (before ++ events) new turns) (Ok tt)) is (fed channel.listed before so_far.all.settled));
   }
   some_sends events now after old new none turns (Err fault) is fed one = tt
 
   -- there were none
   pub none_sends : {E : Type 0} (events : List Event) (now : List (LaneSenderView (Order A))) (old new : View) (none turns : List Move) → none ≡ [] → turns ≡ []
-      → ((listed : List Instrument) (before : List Event) → IsSettled listed before old → IsFedAll {E = E} listed before events old new none turns (Ok tt))
-      → (before : List Event) → SendsMore before now old (before ++ events) now new
+      → ((listed : List Instrument) (before : List Event) → IsSettled listed before old → IsFedAll {E = E} listed (feeding before old none) (feeding (before ++ events) new turns) (Ok tt))
+      → (before : List Event) → SendsMore (sending before now old) (sending (before ++ events) now new)
   none_sends {E} events now old new none turns is empty fed before = λ channel first so_far. record {
     batches = so_far.batches;
     lanes = so_far.lanes;
     all =
         sent_as_before channel before events so_far.batches old new turns so_far.all
-        (subst (λ (start : List Move). IsFedAll {E = E} channel.listed before events old new start turns (Ok tt)) is (fed channel.listed before so_far.all.settled)) empty;
+        (subst (λ (start : List Move). IsFedAll {E = E} channel.listed (feeding before old start) (feeding (before ++ events) new turns) (Ok tt)) is (fed channel.listed before so_far.all.settled)) empty;
   }
 
   -- there was no memory for what further events add, and nothing of it was sent
-  pub stops_here : (events : List Event) (now after : List (LaneSenderView (Order A))) (old : View) → after ≡ now → (before : List Event) → StopsWithin before now old (before ++ events) after
-  stops_here events now after old same before = λ channel first so_far. record {
+  pub stops_here : (events : List Event) (now after : List (LaneSenderView (Order A))) (old new : View) → after ≡ now → (before : List Event) → StopsWithin (sending before now old) (sending (before ++ events) after new)
+  stops_here events now after old new same before = λ channel first so_far. record {
     batches = so_far.batches;
     lanes = same ∙ so_far.lanes;
     sent = some_sent channel before events so_far.batches old tt so_far.all;
   }
 
-  pub some_stops : {E : Type 0} (events : List Event) (now after : List (LaneSenderView (Order A))) (old : View) (result : Result (Unit {0}) E) → IfErr result (λ (fault : E). after ≡ now)
-      → IfErr result (λ (fault : E). (before : List Event) → StopsWithin before now old (before ++ events) after)
-  some_stops events now after old (Ok done) stays = tt
-  some_stops events now after old (Err fault) stays = stops_here events now after old stays
+  pub some_stops : {E : Type 0} (events : List Event) (now after : List (LaneSenderView (Order A))) (old new : View) (result : Result (Unit {0}) E) → IfErr result (λ (fault : E). after ≡ now)
+      → IfErr result (λ (fault : E). (before : List Event) → StopsWithin (sending before now old) (sending (before ++ events) after new))
+  some_stops events now after old new (Ok done) stays = tt
+  some_stops events now after old new (Err fault) stays = stops_here events now after old new stays
 
   stops_before : (channel : ListedChannel) (events more : List Event) (first now : List (LaneSenderView (Order A)))
       → HasSentFirst channel events first now → HasSentFirst channel (events ++ more) first now
@@ -136,18 +136,18 @@ module _ {A : Type 0} where
 
   -- what a batch's events make possible
   pub batch_sends : {E : Type 0} (old new : IntakeReceiverView (Batch A)) (m : Feed × Batch A) (now after : List (LaneSenderView (Order A))) (arbiter arbiter' : View) (result : Result (Unit {0}) E)
-      → new ≡ record old { taken = old.taken ++ m ∷ [] } → OnOk result ((before : List Event) → SendsMore before now arbiter (before ++ batch_events m.1) after arbiter')
-      → OnOk result (SendsMore (events_taken old.taken) now arbiter (events_taken new.taken) after arbiter')
+      → new ≡ record old { taken = old.taken ++ m ∷ [] } → OnOk result ((before : List Event) → SendsMore (sending before now arbiter) (sending (before ++ batch_events m.1) after arbiter'))
+      → OnOk result (SendsMore (sending (events_taken old.taken) now arbiter) (sending (events_taken new.taken) after arbiter'))
   batch_sends old new m now after arbiter arbiter' (Ok done) is sends =
-      subst (λ (es : List Event). SendsMore (events_taken old.taken) now arbiter es after arbiter') (sym (events_taken-push old new m is)) (sends (events_taken old.taken))
+      subst (λ (es : List Event). SendsMore (sending (events_taken old.taken) now arbiter) (sending es after arbiter')) (sym (events_taken-push old new m is)) (sends (events_taken old.taken))
   batch_sends old new m now after arbiter arbiter' (Err fault) is sends = tt
 
-  pub batch_stops : {E : Type 0} (old new : IntakeReceiverView (Batch A)) (m : Feed × Batch A) (now after : List (LaneSenderView (Order A))) (arbiter : View) (result : Result (Unit {0}) E)
-      → new ≡ record old { taken = old.taken ++ m ∷ [] } → IfErr result (λ (fault : E). (before : List Event) → StopsWithin before now arbiter (before ++ batch_events m.1) after)
-      → IfErr result (λ (fault : E). StopsWithin (events_taken old.taken) now arbiter (events_taken new.taken) after)
-  batch_stops old new m now after arbiter (Ok done) is stops = tt
-  batch_stops old new m now after arbiter (Err fault) is stops =
-      subst (λ (es : List Event). StopsWithin (events_taken old.taken) now arbiter es after) (sym (events_taken-push old new m is)) (stops (events_taken old.taken))
+  pub batch_stops : {E : Type 0} (old new : IntakeReceiverView (Batch A)) (m : Feed × Batch A) (now after : List (LaneSenderView (Order A))) (arbiter arbiter' : View) (result : Result (Unit {0}) E)
+      → new ≡ record old { taken = old.taken ++ m ∷ [] } → IfErr result (λ (fault : E). (before : List Event) → StopsWithin (sending before now arbiter) (sending (before ++ batch_events m.1) after arbiter'))
+      → IfErr result (λ (fault : E). StopsWithin (sending (events_taken old.taken) now arbiter) (sending (events_taken new.taken) after arbiter'))
+  batch_stops old new m now after arbiter arbiter' (Ok done) is stops = tt
+  batch_stops old new m now after arbiter arbiter' (Err fault) is stops =
+      subst (λ (es : List Event). StopsWithin (sending (events_taken old.taken) now arbiter) (sending es after arbiter')) (sym (events_taken-push old new m is)) (stops (events_taken old.taken))
 
   -- what is taken further and let go only adds to what is missing
   pub stops_later : (channel : ListedChannel) (now last : IntakeReceiverView (Batch A)) (first lanes : List (LaneSenderView (Order A))) → HasTakenMore now last

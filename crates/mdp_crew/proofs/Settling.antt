@@ -1,15 +1,15 @@
 -- Where all threads are joined and all lanes settled, the rounds that were taken are those of a beginning of the batches.
-use Rattle.std.proofs.Common.{◌≡◌, ◌≤◌, ℕ, ◌+◌, zero, suc, Bool, true, false, List, [], ◌∷◌, ◌++◌, length, map, take, drop, replicate, refl, sym, ap, ◌∙◌, subst, append_assoc, arith}
+use Rattle.std.proofs.Common.{◌≡◌, ◌≤◌, ℕ, ◌+◌, zero, suc, Bool, true, false, List, [], ◌∷◌, ◌++◌, length, map, take, replicate, refl, sym, ap, ◌∙◌, subst, append_assoc, arith}
 use Rattle.std.specs.Prelude.{Result, Ok, Err}
 use Rattle.std.specs.List.{AllByRecursion, AllZip}
 use Rattle.std.proofs.lemmas.List.{append-nil}
 use Rattle.mdp_templates.specs.declared.instrument.Instrument.{Instrument}
-use Rattle.mdp_lanes.specs.Queues.{LaneReceiverView, LaneSenderView}
+use Rattle.mdp_lanes.specs.Queues.{LaneSenderView}
 use Rattle.mdp_arbiter.specs.Machine.{Move}
 use Rattle.mdp_desks.specs.Moments.{moments_after, moments_by}
 use Rattle.mdp_desks.specs.Reports.{Report, report_of}
 use Rattle.mdp_desks.specs.Shares.{is_kept_by}
-use Rattle.mdp_engine.specs.Rounds.{batch_of, numbers_from}
+use Rattle.mdp_reports.specs.Rounds.{batch_of, numbers_from}
 use Rattle.mdp_crew.specs.Sent.{moves_sent}
 use Rattle.mdp_reports.specs.ReportLaw.{AreFull}
 use Rattle.mdp_reports.specs.declared.answer.Answer.{Answer}
@@ -17,18 +17,19 @@ use Rattle.mdp_reports.specs.declared.answer.Answer.TheVariants.{Tells, Finished
 use Rattle.mdp_crew.specs.declared.crew.Post.{Post}
 use Rattle.mdp_crew.specs.declared.order.Order.{Order}
 use Rattle.mdp_crew.specs.declared.stop.Stop.{Stop}
-use Rattle.mdp_crew.specs.declared.worker.WorkerOutcome.{WorkerOutcome}
+use Rattle.mdp_crew.specs.declared.worker.WorkerEnds.{WorkerEnds}
 use Rattle.mdp_crew.specs.Collecting.{EndsCollecting, HasAll, HasSome, Showing, steps_of_batches, text_of_batches}
 use Rattle.mdp_crew.specs.Publishing.{published_on}
 use Rattle.mdp_crew.specs.Crew.{AreFresh, AreNumbered, IsFront, IsHired, IsSettled}
 use Rattle.mdp_crew.specs.Orders.{and_sent, orders_of}
 use Rattle.mdp_crew.specs.Rounds.{Wide, all_took, laid, put}
+use Rattle.mdp_crew.specs.Shares.{WorkerShare, share_in, share_of}
 use Rattle.mdp_crew.specs.Work.{HasAnswered, answers_by}
 use Rattle.mdp_crew.proofs.Taking.{length-laid, length-nothing}
 
--- what worker `number` of so many reports of a batch behind these moves
-abbrev report_batch : List Instrument → ℕ → ℕ → List Move → List Move → List Report
-report_batch listed workers number before batch = map (report_of (is_kept_by workers number)) (moments_after listed before batch)
+-- what the worker of a share reports of a batch after these moves
+abbrev report_batch : WorkerShare → List Move → List Move → List Report
+report_batch share before batch = map (report_of (is_kept_by share.workers share.number)) (moments_after share.listed before batch)
 
 -- the rounds of all workers for these batches, behind these moves
 abbrev pub rounds_of : List Instrument → ℕ → List Move → List (List Move) → List (List (List Report))
@@ -37,7 +38,7 @@ rounds_of listed workers before batches = map (batch_of workers) (moments_by lis
 -- by these workers of so many
 abbrev rounds_by : List Instrument → ℕ → List ℕ → List Move → List (List Move) → List (List (List Report))
 rounds_by listed n ws before [] = []
-rounds_by listed n ws before (x ∷ xs) = map (λ (w : ℕ). report_batch listed n w before x) ws ∷ rounds_by listed n ws (before ++ x) xs
+rounds_by listed n ws before (x ∷ xs) = map (λ (w : ℕ). report_batch (share_of listed n w) before x) ws ∷ rounds_by listed n ws (before ++ x) xs
 
 module _ {A : Type 0} where
   -- ---- one worker
@@ -54,56 +55,56 @@ module _ {A : Type 0} where
       let rest = same_batches k ys xs later in
       ap (λ (l : List (List Move)). y ∷ l) rest ∙ ap (λ (z : List Move). z ∷ xs) here
 
-  pub settled : (listed : List Instrument) (workers number : ℕ) (orders : LaneReceiverView (Order A)) (answers : LaneSenderView (Answer A)) (left : WorkerOutcome A) (sent : List (Order A)) (taken : List (Answer A))
-      → HasAnswered listed workers number orders answers left → taken ≡ take (length taken) left.answers.sent → left.orders.taken ≡ take (length left.orders.taken) sent
-      → (batches : List (List Move)) → sent ≡ orders_of batches → AreFull listed (moves_sent batches) → IsFront listed workers number [] batches taken
-  settled listed workers number orders answers left sent taken has answered ordered batches all full =
-      let same : has.batches ≡ batches = same_batches (length left.orders.taken) has.batches batches (sym has.taken ∙ ordered ∙ ap (take (length left.orders.taken)) all) in
-      let here : AreFull listed (moves_sent has.batches) = subst (λ (b : List (List Move)). AreFull listed (moves_sent b)) (sym same) full in
-      subst (λ (b : List (List Move)). IsFront listed workers number [] b taken) same
+  pub settled : (share : WorkerShare) (old new : WorkerEnds A) (sent : List (Order A)) (taken : List (Answer A))
+      → HasAnswered share old new → taken ≡ take (length taken) new.answers.sent → new.orders.taken ≡ take (length new.orders.taken) sent
+      → (batches : List (List Move)) → sent ≡ orders_of batches → AreFull share.listed (moves_sent batches) → IsFront share [] batches taken
+  settled share old new sent taken has answered ordered batches all full =
+      let same : has.batches ≡ batches = same_batches (length new.orders.taken) has.batches batches (sym has.taken ∙ ordered ∙ ap (take (length new.orders.taken)) all) in
+      let here : AreFull share.listed (moves_sent has.batches) = subst (λ (b : List (List Move)). AreFull share.listed (moves_sent b)) (sym same) full in
+      subst (λ (b : List (List Move)). IsFront share [] b taken) same
       (record { good = has.good; done = has.done; front = answered ∙ ap (take (length taken)) (has.sent here); all = has.all })
 
   -- ---- one round of a worker
 
-  front_step : (listed : List Instrument) (n w : ℕ) (before y : List Move) (ys : List (List Move)) (t : List Report) (row : List (Answer A)) (good : ℕ) (done : Bool)
-      → (Tells t ∷ row) ≡ take (suc (length row)) (answers_by listed n w before (y ∷ ys) good done) → (done ≡ true → length (y ∷ ys) ≤ good)
-      → (t ≡ report_batch listed n w before y) × IsFront listed n w (before ++ y) ys row
-  front_step listed n w before y ys t row zero true is all = absurd cc
-  front_step listed n w before y ys t row zero false is all = absurd cc
-  front_step listed n w before y ys t row (suc good) done is all =
-      let here : t ≡ report_batch listed n w before y = cc in
-      let later : row ≡ take (length row) (answers_by listed n w (before ++ y) ys good done) = cc in
+  front_step : (share : WorkerShare) (before y : List Move) (ys : List (List Move)) (t : List Report) (row : List (Answer A)) (good : ℕ) (done : Bool)
+      → (Tells t ∷ row) ≡ take (suc (length row)) (answers_by share before (y ∷ ys) good done) → (done ≡ true → length (y ∷ ys) ≤ good)
+      → (t ≡ report_batch share before y) × IsFront share (before ++ y) ys row
+  front_step share before y ys t row zero true is all = absurd cc
+  front_step share before y ys t row zero false is all = absurd cc
+  front_step share before y ys t row (suc good) done is all =
+      let here : t ≡ report_batch share before y = cc in
+      let later : row ≡ take (length row) (answers_by share (before ++ y) ys good done) = cc in
       (here, record { good = good; done = done; front = later; all = λ finished. let most = all finished in omega (arith, most) })
 
-  no_more : (listed : List Instrument) (n w : ℕ) (before : List Move) (t : List Report) (row : List (Answer A)) (good : ℕ) (done : Bool) → (Tells t ∷ row) ≡ take (suc (length row)) (answers_by listed n w before [] good done) → ⊥
-  no_more listed n w before t row zero true is = cc
-  no_more listed n w before t row zero false is = cc
-  no_more listed n w before t row (suc good) true is = cc
-  no_more listed n w before t row (suc good) false is = cc
+  no_more : (share : WorkerShare) (before : List Move) (t : List Report) (row : List (Answer A)) (good : ℕ) (done : Bool) → (Tells t ∷ row) ≡ take (suc (length row)) (answers_by share before [] good done) → ⊥
+  no_more share before t row zero true is = cc
+  no_more share before t row zero false is = cc
+  no_more share before t row (suc good) true is = cc
+  no_more share before t row (suc good) false is = cc
 
-  finishes : (listed : List Instrument) (n w : ℕ) (before : List Move) (xs : List (List Move)) (good : ℕ) (done : Bool) → (Finished ∷ []) ≡ take 1 (answers_by {A = A} listed n w before xs good done) → (done ≡ true → length xs ≤ good) → xs ≡ []
-  finishes listed n w before [] good done is all = refl
-  finishes listed n w before (x ∷ xs) zero true is all = let most = all refl in absurd (omega (arith, most))
-  finishes listed n w before (x ∷ xs) zero false is all = absurd cc
-  finishes listed n w before (x ∷ xs) (suc good) done is all = absurd cc
+  finishes : (share : WorkerShare) (before : List Move) (xs : List (List Move)) (good : ℕ) (done : Bool) → (Finished ∷ []) ≡ take 1 (answers_by {A = A} share before xs good done) → (done ≡ true → length xs ≤ good) → xs ≡ []
+  finishes share before [] good done is all = refl
+  finishes share before (x ∷ xs) zero true is all = let most = all refl in absurd (omega (arith, most))
+  finishes share before (x ∷ xs) zero false is all = absurd cc
+  finishes share before (x ∷ xs) (suc good) done is all = absurd cc
 
   -- ---- all workers
 
   abbrev pub AreFronts : List Instrument → ℕ → List Move → List (List Move) → List ℕ → List (List (Answer A)) → Type 0
-  AreFronts listed n before xs ws rows = AllZip (λ (w : ℕ) (row : List (Answer A)). IsFront listed n w before xs row) ws rows
+  AreFronts listed n before xs ws rows = AllZip (λ (w : ℕ) (row : List (Answer A)). IsFront (share_of listed n w) before xs row) ws rows
 
   all_step : (listed : List Instrument) (n : ℕ) (before y : List Move) (ys : List (List Move)) (ws : List ℕ) (round : List (List Report)) (rows : List (List (Answer A)))
       → length round ≡ length ws → length rows ≡ length ws → AreFronts listed n before (y ∷ ys) ws (put round rows)
-      → (round ≡ map (λ (w : ℕ). report_batch listed n w before y) ws) × AreFronts listed n (before ++ y) ys ws rows
+      → (round ≡ map (λ (w : ℕ). report_batch (share_of listed n w) before y) ws) × AreFronts listed n (before ++ y) ys ws rows
   all_step listed n before y ys [] [] [] wide long are = (refl, tt)
   all_step listed n before y ys [] (t ∷ ts) rows wide long are = absurd (omega (arith, wide))
   all_step listed n before y ys [] [] (row ∷ rows) wide long are = absurd (omega (arith, long))
   all_step listed n before y ys (w ∷ ws) [] rows wide long are = absurd (omega (arith, wide))
   all_step listed n before y ys (w ∷ ws) (t ∷ ts) [] wide long are = absurd (omega (arith, long))
   all_step listed n before y ys (w ∷ ws) (t ∷ ts) (row ∷ rows) wide long are =
-      let here = front_step listed n w before y ys t row are.0.good are.0.done are.0.front are.0.all in
+      let here = front_step (share_of listed n w) before y ys t row are.0.good are.0.done are.0.front are.0.all in
       let later = all_step listed n before y ys ws ts rows (omega (arith, wide)) (omega (arith, long)) are.1 in
-      (ap (λ (u : List Report). u ∷ ts) here.0 ∙ ap (λ (l : List (List Report)). report_batch listed n w before y ∷ l) later.0, (here.1, later.1))
+      (ap (λ (u : List Report). u ∷ ts) here.0 ∙ ap (λ (l : List (List Report)). report_batch (share_of listed n w) before y ∷ l) later.0, (here.1, later.1))
 
   one_more : (listed : List Instrument) (n : ℕ) (before : List Move) (xs : List (List Move)) (w : ℕ) (ws : List ℕ) (round : List (List Report)) (rows : List (List (Answer A)))
       → length round ≡ length (w ∷ ws) → length rows ≡ length (w ∷ ws) → AreFronts listed n before xs (w ∷ ws) (put round rows)
@@ -111,7 +112,7 @@ module _ {A : Type 0} where
   one_more listed n before (y ∷ ys) w ws round rows wide long are = (y, ys, refl)
   one_more listed n before [] w ws [] rows wide long are = absurd (omega (arith, wide))
   one_more listed n before [] w ws (t ∷ ts) [] wide long are = absurd (omega (arith, long))
-  one_more listed n before [] w ws (t ∷ ts) (row ∷ rows) wide long are = absurd (no_more listed n w before t row are.0.good are.0.done are.0.front)
+  one_more listed n before [] w ws (t ∷ ts) (row ∷ rows) wide long are = absurd (no_more (share_of listed n w) before t row are.0.good are.0.done are.0.front)
 
   -- the rounds are those of the first batches, and what came later is of the others
   record Parted (listed : List Instrument) (n : ℕ) (ws : List ℕ) (before : List Move) (xs : List (List Move)) (rounds : List (List (List Report))) (more : List (List (Answer A))) : Type 0 where
@@ -137,7 +138,7 @@ module _ {A : Type 0} where
         first = y ∷ rest.first;
         later = rest.later;
         parts = next.2 ∙ ap (λ (l : List (List Move)). y ∷ l) rest.parts;
-        rounds_are = ap (λ (r : List (List Report)). r ∷ rounds) step.0 ∙ ap (λ (l : List (List (List Report))). map (λ (v : ℕ). report_batch listed n v before y) (w ∷ ws) ∷ l) rest.rounds_are;
+        rounds_are = ap (λ (r : List (List Report)). r ∷ rounds) step.0 ∙ ap (λ (l : List (List (List Report))). map (λ (v : ℕ). report_batch (share_of listed n v) before y) (w ∷ ws) ∷ l) rest.rounds_are;
         more_are = subst (λ (b : List Move). AreFronts listed n b rest.later (w ∷ ws) more) (append_assoc before y (moves_sent rest.first)) rest.more_are;
       }
 
@@ -145,7 +146,7 @@ module _ {A : Type 0} where
 
 rounds_same : (listed : List Instrument) (n : ℕ) (before : List Move) (xs : List (List Move)) → rounds_by listed n (numbers_from 0 n) before xs ≡ rounds_of listed n before xs
 rounds_same listed n before [] = refl
-rounds_same listed n before (x ∷ xs) = ap (λ (l : List (List (List Report))). map (λ (w : ℕ). report_batch listed n w before x) (numbers_from 0 n) ∷ l) (rounds_same listed n (before ++ x) xs)
+rounds_same listed n before (x ∷ xs) = ap (λ (l : List (List (List Report))). map (λ (w : ℕ). report_batch (share_of listed n w) before x) (numbers_from 0 n) ∷ l) (rounds_same listed n (before ++ x) xs)
 
 length-numbers : (first n : ℕ) → length (numbers_from first n) ≡ n
 length-numbers first zero = refl
@@ -165,7 +166,7 @@ module _ {A : Type 0} where
       none (p ∷ ps) = refl
   hired_still xs (s ∷ ss) (p ∷ ps) (row ∷ rows) is = (record { orders_lane = is.0.orders_lane; answers_lane = is.0.answers_lane }, hired_still xs ss ps rows is.1)
 
-  fronts_of : (listed : List Instrument) (n first : ℕ) (xs : List (List Move)) (ss : List (LaneSenderView (Order A))) (ps : List (Post A)) (rows : List (List (Answer A))) → length rows ≡ length ps → AreNumbered listed n first ps
+  fronts_of : (listed : List Instrument) (n first : ℕ) (xs : List (List Move)) (ss : List (LaneSenderView (Order A))) (ps : List (Post A)) (rows : List (List (Answer A))) → length rows ≡ length ps → AreNumbered (share_of listed n first) ps
       → AllByRecursion (λ (s : LaneSenderView (Order A)). s.sent ≡ []) ss → AllByRecursion (λ (p : Post A). p.answers.taken ≡ []) ps → AreFull listed (moves_sent xs)
       → AllZip IsSettled (map (and_sent (orders_of xs)) ss) (all_took ps rows) → AreFronts listed n [] xs (numbers_from first (length ps)) rows
   fronts_of listed n first xs ss [] [] long numbered fresh none full settled = tt
@@ -173,16 +174,12 @@ module _ {A : Type 0} where
   fronts_of listed n first xs ss (p ∷ ps) [] long numbered fresh none full settled = absurd (omega (arith, long))
   fronts_of listed n first xs [] (p ∷ ps) (row ∷ rows) long numbered fresh none full settled = elim settled [ ]
   fronts_of listed n first xs (s ∷ ss) (p ∷ ps) (row ∷ rows) long numbered fresh none full settled =
-      let promise = p.handle.promise in
-      let is = numbered.0 in
       let sent : s.sent ++ orders_of xs ≡ orders_of xs = ap (λ (l : List (Order A)). l ++ orders_of xs) fresh.0 in
       let taken : p.answers.taken ++ row ≡ row = ap (λ (l : List (Answer A)). l ++ row) none.0 in
-      let here = settled.0 xs sent (subst (λ (l : List Instrument). AreFull l (moves_sent xs)) (sym is.listed_is) full) in
-      let mine : IsFront listed n first [] xs row =
-      subst (λ (l : List Instrument). IsFront l n first [] xs row) is.listed_is
-      (subst (λ (w : ℕ). IsFront promise.listed.value.now n w [] xs row) is.number_is
-      (subst (λ (m : ℕ). IsFront promise.listed.value.now m promise.number [] xs row) is.workers_is
-      (subst (λ (l : List (Answer A)). IsFront promise.listed.value.now promise.workers promise.number [] xs l) taken here))) in
+      let here = settled.0 xs sent (subst (λ (s : WorkerShare). AreFull s.listed (moves_sent xs)) (sym numbered.0) full) in
+      let mine : IsFront (share_of listed n first) [] xs row =
+      subst (λ (s : WorkerShare). IsFront s [] xs row) numbered.0
+      (subst (λ (l : List (Answer A)). IsFront (share_in p.handle.promise.share.value) [] xs l) taken here) in
       (mine, fronts_of listed n (first + 1) xs ss ps rows (omega (arith, long)) numbered.1 fresh.1 none.1 full settled.1)
 
   parted_of : (listed : List Instrument) (n : ℕ) (xs : List (List Move)) (rounds : List (List (List Report))) (more : List (List (Answer A))) → 1 ≤ n → Wide n rounds → length more ≡ n
@@ -196,8 +193,8 @@ module _ {A : Type 0} where
       → AreFronts listed n before xs (numbers_from first k) (replicate k last) → xs ≡ []
   all_finished listed n zero before xs first last is some are = absurd (omega (arith, some))
   all_finished listed n (suc k) before xs first last is some are =
-      let here = subst (λ (row : List (Answer A)). IsFront listed n first before xs row) is are.0 in
-      finishes listed n first before xs here.good here.done here.front here.all
+      let here = subst (λ (row : List (Answer A)). IsFront (share_of listed n first) before xs row) is are.0 in
+      finishes (share_of listed n first) before xs here.good here.done here.front here.all
 
   -- whole rounds of all batches
   rounds_all : (listed : List Instrument) (n : ℕ) (xs : List (List Move)) (rounds : List (List (List Report))) (last : List (Answer A)) → last ≡ Finished ∷ [] → 1 ≤ n → Wide n rounds
@@ -219,7 +216,7 @@ module _ {A : Type 0} where
     pub many : length old.posts ≡ n
     pub some : 1 ≤ n
     pub fresh : AreFresh ss old.posts
-    pub numbered : AreNumbered listed n 0 old.posts
+    pub numbered : AreNumbered (share_of listed n 0) old.posts
     pub full : AreFull listed (moves_sent xs)
     pub settled_are : AllZip IsSettled (map (and_sent (orders_of xs)) ss) new.posts
 

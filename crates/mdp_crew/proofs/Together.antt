@@ -7,12 +7,13 @@ use Rattle.std.proofs.lemmas.List.Concat.{flat_map-append}
 use Rattle.mdp_lanes.specs.Boards.{Published}
 use Rattle.mdp_lanes.specs.Queues.{IntakeReceiverView, LaneSenderView}
 use Rattle.mdp_arbiter.specs.Accepted.{Event}
-use Rattle.mdp_arbiter.specs.Channel.{ListedChannel, ids_of}
+use Rattle.mdp_templates.specs.Instrument.{ids_of}
+use Rattle.mdp_arbiter.specs.Channel.{ListedChannel}
 use Rattle.mdp_arbiter.specs.Machine.{Move, moves_of, stands_after}
 use Rattle.mdp_desks.specs.Moments.{Moment, moments, moments_after, shown_lines}
 use Rattle.mdp_desks.proofs.Moments.{moments-append}
-use Rattle.mdp_engine.specs.RoundLaws.{Ascend}
-use Rattle.mdp_engine.proofs.Ascending.{law_of_ascent}
+use Rattle.mdp_reports.specs.RoundLaws.{Ascend}
+use Rattle.mdp_reports.proofs.Ascending.{law_of_ascent}
 use Rattle.mdp_crew.specs.Sent.{moves_sent}
 use Rattle.mdp_reports.specs.BoardSteps.{board_steps}
 use Rattle.mdp_reports.specs.Taking.{View}
@@ -28,6 +29,8 @@ use Rattle.mdp_crew.specs.Batches.{events_taken}
 use Rattle.mdp_crew.specs.Collecting.{EndsCollecting, HasAll, HasSome, Showing, text_of_batches}
 use Rattle.mdp_crew.specs.Crew.{IsCrew, IsSettled}
 use Rattle.mdp_crew.specs.Running.{HasShown, WentOut, outcome_of}
+use Rattle.mdp_crew.specs.Outlets.{out}
+use Rattle.mdp_crew.specs.Shares.{share_of}
 use Rattle.mdp_crew.specs.Publishing.{published_on}
 use Rattle.mdp_crew.proofs.Boards.{published_nothing}
 use Rattle.mdp_crew.proofs.Leaving.{all_out, begun, out_more, out_of_rounds}
@@ -35,7 +38,7 @@ use Rattle.mdp_crew.proofs.Meeting.{ascend_front, steps_are_shown, text_is_shown
 use Rattle.mdp_crew.proofs.Settling.{AllSettled, all_published, all_written, rounds_of, some_rounds}
 
 -- nothing went out
-pub shown_nothing : (channel : ListedChannel) (events : List Event) (start : List ℕ) (board : Option Published) (stop : Stop) → HasShown channel events start start board board (Err stop)
+pub shown_nothing : (channel : ListedChannel) (events : List Event) (start : List ℕ) (board : Option Published) (stop : Stop) → HasShown channel events (out start board) (out start board) (Err stop)
 shown_nothing channel events start board stop = record {
   all = tt;
   some = record {
@@ -53,7 +56,7 @@ module _ {A : Type 0} where
       ascend_front channel.listed 1 (moves_sent sent.batches) sent.sent.rest (subst (Ascend channel.listed 1) sent.sent.front (law_of_ascent channel (events_taken outcome.receiver.taken)))
 
   all_settled : (channel : ListedChannel) (n : ℕ) (ss : List (LaneSenderView (Order A))) (old new : Showing A) (receiver : IntakeReceiverView (Batch A)) (outcome : ArbiterOutcome A)
-      → 1 ≤ n → IsCrew channel.listed n n ss old.posts → (sent : HasSent channel receiver ss outcome) → AllZip IsSettled outcome.senders.items new.posts → AllSettled channel.listed n sent.batches ss old new
+      → 1 ≤ n → IsCrew (share_of channel.listed n 0) n ss old.posts → (sent : HasSent channel receiver ss outcome) → AllZip IsSettled outcome.senders.items new.posts → AllSettled channel.listed n sent.batches ss old new
   all_settled channel n ss old new receiver outcome some crew sent settled_are = record {
     many = crew.long;
     some = some;
@@ -64,8 +67,8 @@ module _ {A : Type 0} where
   }
 
   pub met : (channel : ListedChannel) (n : ℕ) (ss : List (LaneSenderView (Order A))) (old new : Showing A) (receiver : IntakeReceiverView (Batch A)) (outcome : ArbiterOutcome A) (collected : Result (Unit {0}) Stop)
-      → 1 ≤ n → AllPairs (λ a b. a ≢ b) (ids_of channel.listed) → IsCrew channel.listed n n ss old.posts → old.collector ≡ begun channel.listed → HasSent channel receiver ss outcome → EndsCollecting old new collected
-      → AllZip IsSettled outcome.senders.items new.posts → HasShown channel (events_taken outcome.receiver.taken) old.taken new.taken old.board new.board (outcome_of collected outcome.standing)
+      → 1 ≤ n → AllPairs (λ a b. a ≢ b) (ids_of channel.listed) → IsCrew (share_of channel.listed n 0) n ss old.posts → old.collector ≡ begun channel.listed → HasSent channel receiver ss outcome → EndsCollecting old new collected
+      → AllZip IsSettled outcome.senders.items new.posts → HasShown channel (events_taken outcome.receiver.taken) (out old.taken old.board) (out new.taken new.board) (outcome_of collected outcome.standing)
   met channel n ss old new receiver outcome collected some differ crew collector_is sent ends settled_are =
       by_both collected outcome.standing ends sent.sent.whole sent.stands
     where
@@ -90,24 +93,24 @@ module _ {A : Type 0} where
           ∙ ap (published_on old.board) (steps_are_shown channel.listed n sent.batches some)
 
       -- what went out of the moves that were sent, of all moves of the events
-      of_all : WentOut (moments channel.listed moves) [] old.taken new.taken old.board new.board → WentOut (moments channel.listed (moves_of channel (events_taken outcome.receiver.taken))) [] old.taken new.taken old.board new.board
-      of_all out =
-          subst (λ (ms : List Moment). WentOut ms [] old.taken new.taken old.board new.board) (sym (ap (moments channel.listed) sent.sent.front ∙ moments-append channel.listed [] moves sent.sent.rest))
-          (out_more (moments channel.listed moves) (moments_after channel.listed moves sent.sent.rest) [] old.taken new.taken old.board new.board out)
+      of_all : WentOut (moments channel.listed moves) [] (out old.taken old.board) (out new.taken new.board) → WentOut (moments channel.listed (moves_of channel (events_taken outcome.receiver.taken))) [] (out old.taken old.board) (out new.taken new.board)
+      of_all went =
+          subst (λ (ms : List Moment). WentOut ms [] (out old.taken old.board) (out new.taken new.board)) (sym (ap (moments channel.listed) sent.sent.front ∙ moments-append channel.listed [] moves sent.sent.rest))
+          (out_more (moments channel.listed moves) (moments_after channel.listed moves sent.sent.rest) [] (out old.taken old.board) (out new.taken new.board) went)
 
       -- the collector ended early
-      of_first : HasSome old new → WentOut (moments channel.listed moves) [] old.taken new.taken old.board new.board
+      of_first : HasSome old new → WentOut (moments channel.listed moves) [] (out old.taken old.board) (out new.taken new.board)
       of_first has =
           let at = some_rounds channel.listed n sent.batches ss old new is has in
           let first = moves_sent at.0 in
           let all : moves ≡ first ++ moves_sent at.1 = ap moves_sent at.2 ∙ flat_map-append (λ (l : List Move). l) at.0 at.1 in
-          let out = out_of_rounds channel.listed n at.0 has.rounds old new some differ (ascend_front channel.listed 1 first (moves_sent at.1) (subst (Ascend channel.listed 1) all ascend)) collector_is at.3 has.out in
-          subst (λ (ms : List Moment). WentOut ms [] old.taken new.taken old.board new.board) (sym (ap (moments channel.listed) all ∙ moments-append channel.listed [] first (moves_sent at.1)))
-          (out_more (moments channel.listed first) (moments_after channel.listed first (moves_sent at.1)) [] old.taken new.taken old.board new.board out)
+          let went = out_of_rounds channel.listed n at.0 has.rounds old new some differ (ascend_front channel.listed 1 first (moves_sent at.1) (subst (Ascend channel.listed 1) all ascend)) collector_is at.3 has.out in
+          subst (λ (ms : List Moment). WentOut ms [] (out old.taken old.board) (out new.taken new.board)) (sym (ap (moments channel.listed) all ∙ moments-append channel.listed [] first (moves_sent at.1)))
+          (out_more (moments channel.listed first) (moments_after channel.listed first (moves_sent at.1)) [] (out old.taken old.board) (out new.taken new.board) went)
 
       by_both : {E : Type 0} (collected : Result (Unit {0}) Stop) (standing : Result Standing E) → EndsCollecting old new collected → OnOk standing (sent.sent.rest ≡ [])
           → IfOk standing (λ (s : Standing). s ≡ stands_after channel (events_taken outcome.receiver.taken))
-          → HasShown channel (events_taken outcome.receiver.taken) old.taken new.taken old.board new.board (outcome_of collected standing)
+          → HasShown channel (events_taken outcome.receiver.taken) (out old.taken old.board) (out new.taken new.board) (outcome_of collected standing)
       by_both (Ok done) (Ok standing) e whole stands =
           let same : moves ≡ moves_of channel (events_taken outcome.receiver.taken) = sym (append-nil moves) ∙ ap (λ (l : List Move). moves ++ l) (sym whole) ∙ sym sent.sent.front in
           record {

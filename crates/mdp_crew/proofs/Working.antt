@@ -21,7 +21,10 @@ use Rattle.mdp_reports.proofs.Moves.{law_of_reports}
 use Rattle.mdp_crew.specs.declared.order.Order.{Order}
 use Rattle.mdp_crew.specs.declared.order.Order.TheVariants.{Take, Done}
 use Rattle.mdp_crew.specs.Answering.{HasDrained, HasEnded, HasTold, IsWorking}
+use Rattle.mdp_crew.specs.declared.worker.WorkerEnds.{WorkerEnds}
+use Rattle.mdp_crew.specs.declared.worker.Working.{Working}
 use Rattle.mdp_crew.specs.Orders.{orders_of}
+use Rattle.mdp_crew.specs.Shares.{WorkerShare}
 use Rattle.mdp_crew.specs.Work.{HasAnswered, last_answer, reports_by}
 
 -- ---- batches one after another
@@ -37,15 +40,15 @@ full_parts listed (jumped old new snapshots ∷ xs) ys full = let rest = full_pa
 full_batches : (listed : List Instrument) (xs ys : List (List Move)) → AreFull listed (moves_sent (xs ++ ys)) → AreFull listed (moves_sent xs) × AreFull listed (moves_sent ys)
 full_batches listed xs ys full = full_parts listed (moves_sent xs) (moves_sent ys) (subst (AreFull listed) (sent-append xs ys) full)
 
-reports-append : (listed : List Instrument) (n w : ℕ) (before : List Move) (xs ys : List (List Move)) → reports_by listed n w before (xs ++ ys) ≡ reports_by listed n w before xs ++ reports_by listed n w (before ++ moves_sent xs) ys
-reports-append listed n w before [] ys = ap (λ (b : List Move). reports_by listed n w b ys) (sym (append-nil before))
-reports-append listed n w before (x ∷ xs) ys =
-    ap (λ (l : List (List Report)). map (report_of (is_kept_by n w)) (moments_after listed before x) ∷ l)
-    (reports-append listed n w (before ++ x) xs ys ∙ ap (λ (b : List Move). reports_by listed n w (before ++ x) xs ++ reports_by listed n w b ys) (append_assoc before x (moves_sent xs)))
+reports-append : (share : WorkerShare) (before : List Move) (xs ys : List (List Move)) → reports_by share before (xs ++ ys) ≡ reports_by share before xs ++ reports_by share (before ++ moves_sent xs) ys
+reports-append share before [] ys = ap (λ (b : List Move). reports_by share b ys) (sym (append-nil before))
+reports-append share before (x ∷ xs) ys =
+    ap (λ (l : List (List Report)). map (report_of (is_kept_by share.workers share.number)) (moments_after share.listed before x) ∷ l)
+    (reports-append share (before ++ x) xs ys ∙ ap (λ (b : List Move). reports_by share (before ++ x) xs ++ reports_by share b ys) (append_assoc before x (moves_sent xs)))
 
-first_reports : (listed : List Instrument) (n w : ℕ) (before : List Move) (xs ys : List (List Move)) → take (length xs) (reports_by listed n w before (xs ++ ys)) ≡ reports_by listed n w before xs
-first_reports listed n w before [] ys = refl
-first_reports listed n w before (x ∷ xs) ys = ap (λ (l : List (List Report)). map (report_of (is_kept_by n w)) (moments_after listed before x) ∷ l) (first_reports listed n w (before ++ x) xs ys)
+first_reports : (share : WorkerShare) (before : List Move) (xs ys : List (List Move)) → take (length xs) (reports_by share before (xs ++ ys)) ≡ reports_by share before xs
+first_reports share before [] ys = refl
+first_reports share before (x ∷ xs) ys = ap (λ (l : List (List Report)). map (report_of (is_kept_by share.workers share.number)) (moments_after share.listed before x) ∷ l) (first_reports share (before ++ x) xs ys)
 
 module _ {A : Type 0} where
   -- ---- orders taken one after another
@@ -66,53 +69,54 @@ module _ {A : Type 0} where
   drained_end old now new xs order first later is =
       record { batches = xs; took = took_twice old now new (map Take xs) (order ∷ []) first later ∙ ap (λ (s : Order A). and_took old (map Take xs ++ s ∷ [])) is }
 
-  pub ends_failed : (orders now new : LaneReceiverView (Order A)) (answers answers' : LaneSenderView (Answer A)) (x : List Move) (order : Order A) → now ≡ and_took orders (order ∷ []) → order ≡ Take x → HasDrained now new
-      → answers' ≡ record answers { sent = answers.sent ++ last_answer false ∷ [] } → HasEnded orders new answers answers'
-  ends_failed orders now new answers answers' x order first is drained sent = record {
-    batches = x ∷ drained.batches;
-    done = false;
-    took = took_twice orders now new (order ∷ []) (orders_of drained.batches) first drained.took ∙ ap (λ (s : Order A). and_took orders (s ∷ orders_of drained.batches)) is;
-    sent = sent;
-    all = λ finished. absurd cc;
-  }
+  pub ends_failed : (old mid new : WorkerEnds A) (now : LaneReceiverView (Order A)) (x : List Move) (order : Order A) → now ≡ and_took old.orders (order ∷ []) → order ≡ Take x → mid ≡ record old { orders = now }
+      → HasDrained mid.orders new.orders → new.answers ≡ record mid.answers { sent = mid.answers.sent ++ last_answer false ∷ [] } → HasEnded old new
+  ends_failed old mid new now x order first is kept left sent =
+      let drained : HasDrained now new.orders = subst (λ (e : WorkerEnds A). HasDrained e.orders new.orders) kept left in
+      record {
+        batches = x ∷ drained.batches;
+        done = false;
+        took = took_twice old.orders now new.orders (order ∷ []) (orders_of drained.batches) first drained.took ∙ ap (λ (s : Order A). and_took old.orders (s ∷ orders_of drained.batches)) is;
+        sent = sent ∙ ap (λ (e : WorkerEnds A). record e.answers { sent = e.answers.sent ++ last_answer false ∷ [] }) kept;
+        all = λ finished. absurd cc;
+      }
 
-  pub ends_done : (orders now : LaneReceiverView (Order A)) (answers answers' : LaneSenderView (Answer A)) (order : Order A) → now ≡ and_took orders (order ∷ []) → order ≡ Done
-      → answers' ≡ record answers { sent = answers.sent ++ last_answer true ∷ [] } → HasEnded orders now answers answers'
-  ends_done orders now answers answers' order first is sent = record { batches = []; done = true; took = first ∙ ap (λ (s : Order A). and_took orders (s ∷ [])) is; sent = sent; all = λ finished. refl }
+  pub ends_done : (old new : WorkerEnds A) (order : Order A) → new.orders ≡ and_took old.orders (order ∷ []) → order ≡ Done
+      → new.answers ≡ record old.answers { sent = old.answers.sent ++ last_answer true ∷ [] } → HasEnded old new
+  ends_done old new order first is sent = record { batches = []; done = true; took = first ∙ ap (λ (s : Order A). and_took old.orders (s ∷ [])) is; sent = sent; all = λ finished. refl }
 
-  -- ---- all orders
+  -- ---- a worker at work
 
-  pub working_first : (listed : List Instrument) (n w : ℕ) (worker : View) (orders : LaneReceiverView (Order A)) (answers : LaneSenderView (Answer A)) → orders.taken ≡ [] → answers.sent ≡ []
-      → worker ≡ record { slots = own_slots (is_kept_by n w) 0 listed; desks = map desk_at_start (own_part (is_kept_by n w) 0 listed) } → IsWorking listed n w worker orders orders answers answers
-  working_first listed n w worker orders answers none nothing is = record {
+  pub working_first : (share : WorkerShare) (first : WorkerEnds A) (now : Working A) → first.orders.taken ≡ [] → first.answers.sent ≡ [] → now.ends ≡ first
+      → now.worker ≡ record { slots = own_slots (is_kept_by share.workers share.number) 0 share.listed; desks = map desk_at_start (own_part (is_kept_by share.workers share.number) 0 share.listed) } → IsWorking share first now
+  working_first share first now none nothing same is = record {
     batches = [];
-    took = λ i. record orders { taken = none i };
-    answers_lane = refl;
+    took = ap (λ (e : WorkerEnds A). e.orders) same ∙ λ i. record first.orders { taken = none i };
+    answers_lane = ap (λ (e : WorkerEnds A). e.answers.lane) same;
     slots = ap (λ (v : View). v.slots) is;
-    sent = λ full. nothing;
-    stands = λ full. shows_nothing (own_part (is_kept_by n w) 0 listed) worker.desks (ap (λ (v : View). v.desks) is);
+    sent = λ full. ap (λ (e : WorkerEnds A). e.answers.sent) same ∙ nothing;
+    stands = λ full. shows_nothing (own_part (is_kept_by share.workers share.number) 0 share.listed) now.worker.desks (ap (λ (v : View). v.desks) is);
   }
 
-  pub working_on : (listed : List Instrument) (n w : ℕ) (worker worker' : View) (orders orders' orders'' : LaneReceiverView (Order A)) (answers answers' answers'' : LaneSenderView (Answer A))
-      → HasTold worker worker' orders' orders'' answers' answers'' → IsWorking listed n w worker orders orders' answers answers' → IsWorking listed n w worker' orders orders'' answers answers''
-  working_on listed n w worker worker' orders orders' orders'' answers answers' answers'' told so_far = record {
+  pub working_on : (share : WorkerShare) (first : WorkerEnds A) (now new : Working A) → HasTold now new → IsWorking share first now → IsWorking share first new
+  working_on share first now new told so_far = record {
     batches = xs ++ x ∷ [];
-    took = told.took ∙ ap (λ (s : LaneReceiverView (Order A)). and_took s (Take x ∷ [])) so_far.took ∙ (λ i. record orders { taken = sym (map-append Take xs (x ∷ [])) i });
+    took = told.took ∙ ap (λ (s : LaneReceiverView (Order A)). and_took s (Take x ∷ [])) so_far.took ∙ (λ i. record first.orders { taken = sym (map-append Take xs (x ∷ [])) i });
     answers_lane = ap (λ (s : LaneSenderView (Answer A)). s.lane) told.sent ∙ so_far.answers_lane;
     slots = ap (λ (v : View). v.slots) told.worker_is ∙ so_far.slots;
     sent = λ full.
         let parts = full_batches listed xs (x ∷ []) full in
         let here = law parts in
         ap (λ (s : LaneSenderView (Answer A)). s.sent) told.sent
-        ∙ ap (λ (l : List (Answer A)). l ++ Tells (reports_of_moves worker.slots x worker.desks) ∷ []) (so_far.sent parts.0)
-        ∙ ap (λ (r : List Report). map Tells (reports_by listed n w [] xs) ++ Tells r ∷ []) (ap (λ (l : List ℕ). reports_of_moves l x worker.desks) so_far.slots ∙ here.0)
-        ∙ sym (map-append Tells (reports_by listed n w [] xs) (map (report_of mine) (moments_after listed (moves_sent xs) x) ∷ []))
-        ∙ ap (map Tells) (sym (reports-append listed n w [] xs (x ∷ [])));
+        ∙ ap (λ (l : List (Answer A)). l ++ Tells (reports_of_moves now.worker.slots x now.worker.desks) ∷ []) (so_far.sent parts.0)
+        ∙ ap (λ (r : List Report). map Tells (reports_by share [] xs) ++ Tells r ∷ []) (ap (λ (l : List ℕ). reports_of_moves l x now.worker.desks) so_far.slots ∙ here.0)
+        ∙ sym (map-append Tells (reports_by share [] xs) (map (report_of mine) (moments_after listed (moves_sent xs) x) ∷ []))
+        ∙ ap (map Tells) (sym (reports-append share [] xs (x ∷ [])));
     stands = λ full.
         let parts = full_batches listed xs (x ∷ []) full in
         let here = law parts in
-        subst (λ (b : List Move). StandBehind own (own_moves mine b) worker'.desks) (moved)
-        (subst (StandBehind own (own_moves mine (moves_sent xs ++ x))) (sym (ap (λ (v : View). v.desks) told.worker_is ∙ ap (λ (l : List ℕ). desks_after_moves l x worker.desks) so_far.slots)) here.1);
+        subst (λ (b : List Move). StandBehind own (own_moves mine b) new.worker.desks) (moved)
+        (subst (StandBehind own (own_moves mine (moves_sent xs ++ x))) (sym (ap (λ (v : View). v.desks) told.worker_is ∙ ap (λ (l : List ℕ). desks_after_moves l x now.worker.desks) so_far.slots)) here.1);
   }
     where
       xs : List (List Move)
@@ -121,45 +125,47 @@ module _ {A : Type 0} where
       x : List Move
       x = told.moves
 
+      listed : List Instrument
+      listed = share.listed
+
       mine : ℕ → Bool
-      mine = is_kept_by n w
+      mine = is_kept_by share.workers share.number
 
       own : List Instrument
-      own = own_part (is_kept_by n w) 0 listed
+      own = own_part (is_kept_by share.workers share.number) 0 share.listed
 
       moved : moves_sent so_far.batches ++ told.moves ≡ moves_sent (so_far.batches ++ told.moves ∷ [])
       moved = ap (λ (l : List Move). moves_sent so_far.batches ++ l) (sym (append-nil told.moves)) ∙ sym (sent-append so_far.batches (told.moves ∷ []))
 
-      law : AreFull listed (moves_sent so_far.batches) × AreFull listed (moves_sent (told.moves ∷ []))
-          → (reports_of_moves (own_slots (is_kept_by n w) 0 listed) told.moves worker.desks ≡ map (report_of (is_kept_by n w)) (moments_after listed (moves_sent so_far.batches) told.moves))
-          × StandBehind (own_part (is_kept_by n w) 0 listed) (own_moves (is_kept_by n w) (moves_sent so_far.batches ++ told.moves)) (desks_after_moves (own_slots (is_kept_by n w) 0 listed) told.moves worker.desks)
-      law parts = law_of_reports (is_kept_by n w) listed (moves_sent so_far.batches) told.moves worker.desks (subst (AreFull listed) (append-nil told.moves) parts.1) (so_far.stands parts.0)
+      law : AreFull share.listed (moves_sent so_far.batches) × AreFull share.listed (moves_sent (told.moves ∷ []))
+          → (reports_of_moves (own_slots (is_kept_by share.workers share.number) 0 share.listed) told.moves now.worker.desks ≡ map (report_of (is_kept_by share.workers share.number)) (moments_after share.listed (moves_sent so_far.batches) told.moves))
+          × StandBehind (own_part (is_kept_by share.workers share.number) 0 share.listed) (own_moves (is_kept_by share.workers share.number) (moves_sent so_far.batches ++ told.moves)) (desks_after_moves (own_slots (is_kept_by share.workers share.number) 0 share.listed) told.moves now.worker.desks)
+      law parts = law_of_reports (is_kept_by share.workers share.number) share.listed (moves_sent so_far.batches) told.moves now.worker.desks (subst (AreFull share.listed) (append-nil told.moves) parts.1) (so_far.stands parts.0)
 
-  pub has_answered : (listed : List Instrument) (n w : ℕ) (worker : View) (orders orders' orders'' : LaneReceiverView (Order A)) (answers answers' answers'' : LaneSenderView (Answer A))
-      → HasEnded orders' orders'' answers' answers'' → IsWorking listed n w worker orders orders' answers answers' → HasAnswered listed n w orders answers (record { orders = orders''; answers = answers'' })
-  has_answered listed n w worker orders orders' orders'' answers answers' answers'' last so_far =
+  pub has_answered : (share : WorkerShare) (first : WorkerEnds A) (now : Working A) (last : WorkerEnds A) → HasEnded now.ends last → IsWorking share first now → HasAnswered share first last
+  has_answered share first now last ended so_far =
       let xs = so_far.batches in
-      let all : map Take xs ++ orders_of last.batches ≡ orders_of {A = A} (xs ++ last.batches) =
-      sym (append_assoc (map Take xs) (map Take last.batches) (Done ∷ [])) ∙ ap (λ (l : List (Order A)). l ++ Done ∷ []) (sym (map-append Take xs last.batches)) in
+      let all : map Take xs ++ orders_of ended.batches ≡ orders_of {A = A} (xs ++ ended.batches) =
+      sym (append_assoc (map Take xs) (map Take ended.batches) (Done ∷ [])) ∙ ap (λ (l : List (Order A)). l ++ Done ∷ []) (sym (map-append Take xs ended.batches)) in
       record {
-        orders_lane = ap (λ (s : LaneReceiverView (Order A)). s.lane) last.took ∙ ap (λ (s : LaneReceiverView (Order A)). s.lane) so_far.took;
-        answers_lane = ap (λ (s : LaneSenderView (Answer A)). s.lane) last.sent ∙ so_far.answers_lane;
-        batches = xs ++ last.batches;
+        orders_lane = ap (λ (s : LaneReceiverView (Order A)). s.lane) ended.took ∙ ap (λ (s : LaneReceiverView (Order A)). s.lane) so_far.took;
+        answers_lane = ap (λ (s : LaneSenderView (Answer A)). s.lane) ended.sent ∙ so_far.answers_lane;
+        batches = xs ++ ended.batches;
         good = length xs;
-        done = last.done;
-        taken = ap (λ (s : LaneReceiverView (Order A)). s.taken) last.took ∙ ap (λ (s : LaneReceiverView (Order A)). s.taken ++ orders_of last.batches) so_far.took ∙ all;
+        done = ended.done;
+        taken = ap (λ (s : LaneReceiverView (Order A)). s.taken) ended.took ∙ ap (λ (s : LaneReceiverView (Order A)). s.taken ++ orders_of ended.batches) so_far.took ∙ all;
         sent = λ full.
-            let parts = full_batches listed xs last.batches full in
-            ap (λ (s : LaneSenderView (Answer A)). s.sent) last.sent
-            ∙ ap (λ (l : List (Answer A)). l ++ last_answer last.done ∷ []) (so_far.sent parts.0)
-            ∙ ap (λ (l : List (List Report)). map Tells l ++ last_answer last.done ∷ []) (sym (first_reports listed n w [] xs last.batches));
-        all = λ finished. let none = ap length (last.all finished) in let long = length-append xs last.batches in omega (arith, none, long);
+            let parts = full_batches share.listed xs ended.batches full in
+            ap (λ (s : LaneSenderView (Answer A)). s.sent) ended.sent
+            ∙ ap (λ (l : List (Answer A)). l ++ last_answer ended.done ∷ []) (so_far.sent parts.0)
+            ∙ ap (λ (l : List (List Report)). map Tells l ++ last_answer ended.done ∷ []) (sym (first_reports share [] xs ended.batches));
+        all = λ finished. let none = ap length (ended.all finished) in let long = length-append xs ended.batches in omega (arith, none, long);
       }
 
   -- it never began
-  pub has_failed : (listed : List Instrument) (n w : ℕ) (orders orders' : LaneReceiverView (Order A)) (answers answers' : LaneSenderView (Answer A)) → orders.taken ≡ [] → answers.sent ≡ []
-      → HasDrained orders orders' → answers' ≡ record answers { sent = answers.sent ++ last_answer false ∷ [] } → HasAnswered listed n w orders answers (record { orders = orders'; answers = answers' })
-  has_failed listed n w orders orders' answers answers' none nothing drained sent = record {
+  pub has_failed : (share : WorkerShare) (first last : WorkerEnds A) → first.orders.taken ≡ [] → first.answers.sent ≡ []
+      → HasDrained first.orders last.orders → last.answers ≡ record first.answers { sent = first.answers.sent ++ last_answer false ∷ [] } → HasAnswered share first last
+  has_failed share first last none nothing drained sent = record {
     orders_lane = ap (λ (s : LaneReceiverView (Order A)). s.lane) drained.took;
     answers_lane = ap (λ (s : LaneSenderView (Answer A)). s.lane) sent;
     batches = drained.batches;

@@ -25,9 +25,9 @@ pub record HasBegun (channel : ListedChannel) (arbiter : View) : Type 0 where
 abbrev pub IsNextNumber : ℕ → Type 0
 IsNextNumber n = (1 ≤ n) × (n ≤ 4294967296)
 
--- The arbiter's thread has ended: it took all batches of the readers, each worker's lane has the same orders more, and
--- these are the moves of the events that were taken, or a beginning of them where memory ran out. Else it tells where
--- the channel stands.
+-- The arbiter's thread has ended: it took all batches of the readers, each worker's lane has the
+-- same orders more, and these are the moves of the events that were taken, or a beginning of them
+-- where memory ran out. Else it tells where the channel stands.
 pub record HasSent {A : Type 0} (channel : ListedChannel) (receiver : IntakeReceiverView (Batch A))
     (senders : List (LaneSenderView (Order A))) (outcome : ArbiterOutcome A) : Type 0 where
   pub batches : List (List Move)
@@ -35,22 +35,33 @@ pub record HasSent {A : Type 0} (channel : ListedChannel) (receiver : IntakeRece
   pub takes : HasTakenMore receiver outcome.receiver
   pub ends : ends_taken (λ b. b.is_last) outcome.receiver.taken ≡ 3
   pub sent : AreSent channel (events_taken outcome.receiver.taken) batches outcome.standing
-  pub stands : IfOk outcome.standing (λ standing. standing ≡ stands_after channel (events_taken outcome.receiver.taken))
+  pub stands : IfOk outcome.standing
+      (λ standing. standing ≡ stands_after channel (events_taken outcome.receiver.taken))
   pub range : IfOk outcome.standing (λ standing. IsNextNumber standing.next)
 
 -- ---- batch by batch
 
+-- A moment of the arbiter's thread: the events that were taken in, what the lanes to the workers
+-- were sent, and the arbiter.
+pub record Sending (A : Type 0) : Type 0 where
+  pub events : List Event
+  pub lanes : List (LaneSenderView (Order A))
+  pub arbiter : View
+
+abbrev pub sending : {A : Type 0} → List Event → List (LaneSenderView (Order A)) → View → Sending A
+sending events lanes arbiter = record { events = events; lanes = lanes; arbiter = arbiter }
+
 -- the lanes have these batches of moves more
-abbrev pub HavePut : {A : Type 0} → List (List Move) → List (LaneSenderView (Order A)) → List (LaneSenderView (Order A))
-    → Type 0
+abbrev pub HavePut : {A : Type 0} → List (List Move) → List (LaneSenderView (Order A))
+    → List (LaneSenderView (Order A)) → Type 0
 HavePut batches before after = after ≡ map (and_sent (map Take batches)) before
 
--- the arbiter has taken in these events, and all their moves went into the lanes
-pub record HasSentSoFar {A : Type 0} (channel : ListedChannel) (events : List Event)
-    (before after : List (LaneSenderView (Order A))) (arbiter : View) : Type 0 where
+-- all moves of the events that the arbiter has taken in went into the lanes
+pub record HasSentSoFar {A : Type 0} (channel : ListedChannel)
+    (before : List (LaneSenderView (Order A))) (now : Sending A) : Type 0 where
   pub batches : List (List Move)
-  pub lanes : HavePut batches before after
-  pub all : HasSentAll channel events batches arbiter
+  pub lanes : HavePut batches before now.lanes
+  pub all : HasSentAll channel now.events batches now.arbiter
 
 -- a beginning of these events' moves went into the lanes
 pub record HasSentFirst {A : Type 0} (channel : ListedChannel) (events : List Event)
@@ -59,16 +70,14 @@ pub record HasSentFirst {A : Type 0} (channel : ListedChannel) (events : List Ev
   pub lanes : HavePut batches before after
   pub sent : AreSent {X = Unit {0}} {E = Unit {0}} channel events batches (Err tt)
 
--- Where all moves of these events were sent, all moves of those are.
-abbrev pub SendsMore : {A : Type 0} → List Event → List (LaneSenderView (Order A)) → View → List Event
-    → List (LaneSenderView (Order A)) → View → Type 0
-SendsMore {A} events lanes arbiter events' lanes' arbiter' =
+-- Where all moves of the events were sent, all moves of those are that are taken in now.
+abbrev pub SendsMore : {A : Type 0} → Sending A → Sending A → Type 0
+SendsMore {A} old new =
     (channel : ListedChannel) (first : List (LaneSenderView (Order A)))
-    → HasSentSoFar channel events first lanes arbiter → HasSentSoFar channel events' first lanes' arbiter'
+    → HasSentSoFar channel first old → HasSentSoFar channel first new
 
--- Where all moves of these events were sent, a beginning of those events' moves is.
-abbrev pub StopsWithin : {A : Type 0} → List Event → List (LaneSenderView (Order A)) → View → List Event
-    → List (LaneSenderView (Order A)) → Type 0
-StopsWithin {A} events lanes arbiter events' lanes' =
+-- Where all moves of the events were sent, a beginning of the moves of those is that are taken now.
+abbrev pub StopsWithin : {A : Type 0} → Sending A → Sending A → Type 0
+StopsWithin {A} old new =
     (channel : ListedChannel) (first : List (LaneSenderView (Order A)))
-    → HasSentSoFar channel events first lanes arbiter → HasSentFirst channel events' first lanes'
+    → HasSentSoFar channel first old → HasSentFirst channel new.events first new.lanes

@@ -2,7 +2,7 @@
 use Rattle.std.specs.Prelude.{◌≡◌, ℕ, List, [], ◌∷◌, ◌++◌, length, replicate, take, Option, Some, None, Result, Ok, Err}
 use Rattle.std.specs.List.{AllByRecursion}
 use Rattle.mdp_desks.specs.Reports.{Report}
-use Rattle.mdp_engine.specs.Rounds.{all_rounds_in, rounds_in, text_from}
+use Rattle.mdp_reports.specs.Rounds.{all_rounds_in, rounds_in, text_from}
 use Rattle.mdp_lanes.specs.Boards.{Published}
 use Rattle.mdp_lanes.specs.declared.step.Step.{Step}
 use Rattle.mdp_reports.specs.BoardSteps.{steps_in}

@@ -1,4 +1,5 @@
 pub mod Plan
+pub mod Shares
 pub mod Fed
 pub mod Sent
 pub mod Counted
@@ -9,6 +10,7 @@ pub mod Work
 pub mod Answering
 pub mod Rounds
 pub mod Publishing
+pub mod Outlets
 pub mod Collecting
 pub mod Crew
 pub mod Arbitrating

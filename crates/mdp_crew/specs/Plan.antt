@@ -1,5 +1,5 @@
 -- What a run is asked, as definitions see it.
-use Rattle.std.specs.Prelude.{◌≤◌, ℕ}
+use Rattle.std.specs.Prelude.{◌≤◌}
 use Rattle.mdp_templates.specs.Instrument.{AreFit}
 use Rattle.mdp_arbiter.specs.Channel.{ListedChannel}
 use Rattle.mdp_crew.specs.declared.plan.RunPlan.{RunPlan}

@@ -1,44 +1,47 @@
 -- What the crew of a run has shown of the events that it took, as text and on a board.
-use Rattle.std.specs.Prelude.{◌≡◌, ℕ, List, [], ◌++◌, Option, Result, Ok, Err, IfOk, IfErr}
+use Rattle.std.specs.Prelude.{◌≡◌, ℕ, List, [], ◌++◌, Result, Ok, Err, IfOk, IfErr}
 use Rattle.mdp_arbiter.specs.Accepted.{Event}
 use Rattle.mdp_arbiter.specs.Channel.{ListedChannel}
 use Rattle.mdp_arbiter.specs.Machine.{moves_of, stands_after}
 use Rattle.mdp_desks.specs.Moments.{Moment, moments, shown_lines}
-use Rattle.mdp_lanes.specs.Boards.{Published}
 use Rattle.mdp_lanes.specs.declared.step.Step.{Step}
 use Rattle.mdp_reports.specs.Behind.{IsBehind}
 use Rattle.mdp_reports.specs.BoardSteps.{board_steps}
 use Rattle.mdp_arbiter.specs.declared.arbiter.Standing.{Standing}
 use Rattle.mdp_crew.specs.declared.stop.Stop.{Stop}
 use Rattle.mdp_crew.specs.declared.stop.Stop.TheVariants.{Memory}
+use Rattle.mdp_crew.specs.Outlets.{Outlet}
 use Rattle.mdp_crew.specs.Publishing.{published_on}
 
--- what the moves of these events show was written and published, and this is where the channel stands
-pub record HasShownAll (channel : ListedChannel) (events : List Event) (start taken : List ℕ)
-    (board board' : Option Published) (standing : Standing) : Type 0 where
-  pub shown : taken ≡ start ++ shown_lines channel.listed (moves_of channel events)
-  pub published : board' ≡ published_on board (board_steps channel.listed (moves_of channel events))
+-- what the moves of these events show was written and published, and this is where the channel
+-- stands
+pub record HasShownAll (channel : ListedChannel) (events : List Event) (old new : Outlet)
+    (standing : Standing) : Type 0 where
+  pub shown : new.taken ≡ old.taken ++ shown_lines channel.listed (moves_of channel events)
+  pub published : new.board
+      ≡ published_on old.board (board_steps channel.listed (moves_of channel events))
   pub standing_is : standing ≡ stands_after channel events
 
--- Of these moments, after whose text stands this end, a beginning was written, and of that a beginning at most was
--- published.
-pub record WentOut (shown : List Moment) (end start taken : List ℕ) (board board' : Option Published) : Type 0 where
+-- Of these moments, after whose text stands this end, a beginning was written, and of that a
+-- beginning at most was published.
+pub record WentOut (shown : List Moment) (end : List ℕ) (old new : Outlet) : Type 0 where
   pub sent : List ℕ
   pub steps : List Step
-  pub taken_is : taken ≡ start ++ sent
-  pub board_is : board' ≡ published_on board steps
+  pub taken_is : new.taken ≡ old.taken ++ sent
+  pub board_is : new.board ≡ published_on old.board steps
   pub behind : IsBehind shown end sent steps
 
--- what a run comes to: where the channel stands, or why it stopped early; what the collector met goes before what the
--- arbiter met
-abbrev pub outcome_of : {E : Type 0} → Result (Unit {0}) Stop → Result Standing E → Result Standing Stop
+-- what a run comes to: where the channel stands, or why it stopped early; what the collector met
+-- goes before what the arbiter met
+abbrev pub outcome_of : {E : Type 0} → Result (Unit {0}) Stop → Result Standing E
+    → Result Standing Stop
 outcome_of (Err stop) standing = Err stop
 outcome_of (Ok done) (Ok standing) = Ok standing
 outcome_of (Ok done) (Err memory) = Err Memory
 
 -- what went out, whatever the run came to
-pub record HasShown (channel : ListedChannel) (events : List Event) (start taken : List ℕ)
-    (board board' : Option Published) (outcome : Result Standing Stop) : Type 0 where
-  pub all : IfOk outcome (λ (standing : Standing). HasShownAll channel events start taken board board' standing)
+pub record HasShown (channel : ListedChannel) (events : List Event) (old new : Outlet)
+    (outcome : Result Standing Stop) : Type 0 where
+  pub all : IfOk outcome (λ (standing : Standing). HasShownAll channel events old new standing)
   pub some : IfErr outcome (λ (stop : Stop). WentOut
-      (moments channel.listed (moves_of channel events)) [] start taken board board')
+      (moments channel.listed (moves_of channel events)) [] old new)

@@ -1,5 +1,5 @@
 -- What was sent of the moves of a channel's events, batch by batch.
-use Rattle.std.specs.Prelude.{◌≡◌, ℕ, List, [], ◌++◌, OnOk, Result}
+use Rattle.std.specs.Prelude.{◌≡◌, List, [], ◌++◌, OnOk, Result}
 use Rattle.std.specs.List.{flat_map}
 use Rattle.mdp_arbiter.specs.Accepted.{Event}
 use Rattle.mdp_arbiter.specs.Channel.{ListedChannel, channel_of}

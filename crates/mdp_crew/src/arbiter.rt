@@ -1,11 +1,12 @@
-//! The arbiter's thread: it takes what the readers hand over, and sends to all workers what that makes possible.
+//! The arbiter's thread: it takes what the readers hand over, and sends to all workers what that
+//! makes possible.
 
 ghost use Rattle.std.specs.Prelude.{◌≡◌, ◌++◌, [], List, map, IfErr, OnOk};
 ghost use Rattle.mdp_arbiter.specs.Accepted.{Event as Accepted};
 ghost use Rattle.mdp_arbiter.specs.Channel.{ListedChannel};
 ghost use Rattle.mdp_engine.specs.Steps.{event_of};
 ghost use Rattle.mdp_lanes.specs.Items.{ends_taken};
-ghost use Rattle.mdp_crew.specs.Arbitrating.{HasBegun, HasSent, SendsMore, StopsWithin};
+ghost use Rattle.mdp_crew.specs.Arbitrating.{HasBegun, HasSent, SendsMore, StopsWithin, sending};
 ghost use Rattle.mdp_crew.specs.Batches.{HasTakenMore, events_taken};
 
 use crate::batch::Batch;
@@ -23,8 +24,8 @@ use std::sync::Wait;
 /// The packets that came ahead of the next one.
 pub type Ring<A> = RingWindow<Packet<A>, A>;
 
-/// What the arbiter leaves: its ends of the intake and of the workers' lanes, and where the channel stands, unless
-/// memory ran out.
+/// What the arbiter leaves: its ends of the intake and of the workers' lanes, and where the channel
+/// stands, unless memory ran out.
 #[derive(Drop)]
 pub struct ArbiterOutcome<A: Allocator + Copy> {
     pub receiver: IntakeReceiver<Batch<A>, A>,
@@ -42,9 +43,11 @@ fn send_on<R: Wait, A: Allocator + Copy>(
     last: &mut LastOrders<A>,
 ) -> Result<(), Memory>
     ensures sends { OnOk result ((before : List Accepted)
-        → SendsMore before senders.old arbiter.old (before ++ map event_of events.items) senders.new arbiter.new) }
+        → SendsMore (sending before senders.old arbiter.old)
+        (sending (before ++ map event_of events.items) senders.new arbiter.new)) }
     ensures stops { IfErr result (λ _. (before : List Accepted)
-        → StopsWithin before senders.old arbiter.old (before ++ map event_of events.items) senders.new) }
+        → StopsWithin (sending before senders.old arbiter.old)
+        (sending (before ++ map event_of events.items) senders.new arbiter.new)) }
 {
     let mut turns = Vec::new(alloc);
     feed_all(alloc, arbiter, events, &mut turns)?;
@@ -64,11 +67,12 @@ fn take_batch<R: Wait, A: Allocator + Copy>(
     last: &mut LastOrders<A>,
 ) -> Result<(), Memory>
     ensures takes { HasTakenMore receiver.old receiver.new }
-    ensures sends { OnOk result (SendsMore (events_taken receiver.old.taken) senders.old arbiter.old
-        (events_taken receiver.new.taken) senders.new arbiter.new) }
+    ensures sends { OnOk result (SendsMore
+        (sending (events_taken receiver.old.taken) senders.old arbiter.old)
+        (sending (events_taken receiver.new.taken) senders.new arbiter.new)) }
     ensures stops { IfErr result (λ _. StopsWithin
-        (events_taken receiver.old.taken) senders.old arbiter.old
-        (events_taken receiver.new.taken) senders.new) }
+        (sending (events_taken receiver.old.taken) senders.old arbiter.old)
+        (sending (events_taken receiver.new.taken) senders.new arbiter.new)) }
 {
     let (_, batch) = receiver.take(rt);
     send_on(rt, alloc, arbiter, batch.events, senders, last)
@@ -84,11 +88,12 @@ fn take_all<R: Wait, A: Allocator + Copy>(
 ) -> Result<(), Memory>
     ensures takes { HasTakenMore receiver.old receiver.new }
     ensures ends { OnOk result (ends_taken (λ b. b.is_last) receiver.new.taken ≡ 3) }
-    ensures sends { OnOk result (SendsMore (events_taken receiver.old.taken) senders.old arbiter.old
-        (events_taken receiver.new.taken) senders.new arbiter.new) }
+    ensures sends { OnOk result (SendsMore
+        (sending (events_taken receiver.old.taken) senders.old arbiter.old)
+        (sending (events_taken receiver.new.taken) senders.new arbiter.new)) }
     ensures stops { IfErr result (λ _. StopsWithin
-        (events_taken receiver.old.taken) senders.old arbiter.old
-        (events_taken receiver.new.taken) senders.new) }
+        (sending (events_taken receiver.old.taken) senders.old arbiter.old)
+        (sending (events_taken receiver.new.taken) senders.new arbiter.new)) }
 {
     let mut last = LastOrders::new();
     for _ in rt.forever() {
@@ -113,9 +118,10 @@ pub fn drain<R: Wait, A: Allocator + Copy>(rt: &R, receiver: &mut IntakeReceiver
     }
 }
 
-/// Takes all batches of the three readers, sends to all workers what their events make possible, and then that there is
-/// no more. After the first want of memory nothing more is made of events: the workers are told at once that there is
-/// no more, and what the readers still hand over is taken and let go.
+/// Takes all batches of the three readers, sends to all workers what their events make possible,
+/// and then that there is no more. After the first want of memory nothing more is made of events:
+/// the workers are told at once that there is no more, and what the readers still hand over is
+/// taken and let go.
 pub fn arbitrate<R: Wait, A: Allocator + Copy>(
     rt: &R,
     alloc: A,

@@ -1,13 +1,13 @@
 //! An arbiter takes in events, and hands on as turns the moves that they make possible.
 
-ghost use Rattle.std.specs.Prelude.{◌≡◌, List, IfOk, map};
+ghost use Rattle.std.specs.Prelude.{◌≡◌, [], ◌∷◌, ◌++◌, List, IfOk, map};
 ghost use Rattle.mdp_templates.specs.declared.instrument.Instrument.{Instrument};
 ghost use Rattle.mdp_arbiter.specs.Accepted.{Event as Accepted};
 ghost use Rattle.mdp_arbiter.specs.Machine.{snapshots_of};
 ghost use Rattle.mdp_arbiter.specs.Standing.{StandsAt};
 ghost use Rattle.mdp_engine.specs.Engine.{IsSettled};
 ghost use Rattle.mdp_engine.specs.Steps.{event_of};
-ghost use Rattle.mdp_crew.specs.Fed.{IsFed, IsFedAll, MakesMoves};
+ghost use Rattle.mdp_crew.specs.Fed.{IsFedAll, MakesMoves, feeding};
 ghost use Rattle.mdp_arbiter.specs.Turns.{move_of, stepped_move};
 
 use mdp_arbiter::{Arbiter, Step, Turn};
@@ -58,7 +58,8 @@ fn make_moves<A: Allocator + Copy, W: Window<Packet<A>> + Drop>(
     turns: &mut Vec<Turn<A>, A>,
 ) -> Result<(), Memory>
     ensures { (events : List Accepted) → StandsAt events arbiter.old
-        → MakesMoves events arbiter.old arbiter.new (map move_of turns.old.items) (map move_of turns.new.items) result }
+        → MakesMoves (feeding events arbiter.old (map move_of turns.old.items))
+        (feeding events arbiter.new (map move_of turns.new.items)) result }
 {
     while let Some(step) = arbiter.step() {
         let turn = turn_of(alloc, step, arbiter.newest())?;
@@ -76,8 +77,8 @@ fn feed<A: Allocator + Copy, W: Window<Packet<A>> + Drop>(
 ) -> Result<(), Memory>
     ensures { (listed : List Instrument) (before : List Accepted)
         → IsSettled listed before arbiter.old
-        → IsFed listed before (event_of event) arbiter.old arbiter.new (map move_of turns.old.items)
-        (map move_of turns.new.items) result }
+        → IsFedAll listed (feeding before arbiter.old (map move_of turns.old.items))
+        (feeding (before ++ event_of event ∷ []) arbiter.new (map move_of turns.new.items)) result }
 {
     take_in(arbiter, event)?;
     make_moves(alloc, arbiter, turns)
@@ -87,7 +88,8 @@ fn feed<A: Allocator + Copy, W: Window<Packet<A>> + Drop>(
 ///
 /// # Errors
 ///
-/// Memory ran out. The turns that were appended are a beginning of those moves, and the arbiter is of no further use.
+/// Memory ran out. The turns that were appended are a beginning of those moves, and the arbiter is
+/// of no further use.
 pub fn feed_all<A: Allocator + Copy, W: Window<Packet<A>> + Drop>(
     alloc: A,
     arbiter: &mut Arbiter<A, W>,
@@ -96,8 +98,9 @@ pub fn feed_all<A: Allocator + Copy, W: Window<Packet<A>> + Drop>(
 ) -> Result<(), Memory>
     ensures { (listed : List Instrument) (before : List Accepted)
         → IsSettled listed before arbiter.old
-        → IsFedAll listed before (map event_of events.items) arbiter.old arbiter.new (map move_of turns.old.items)
-        (map move_of turns.new.items) result }
+        → IsFedAll listed (feeding before arbiter.old (map move_of turns.old.items))
+        (feeding (before ++ map event_of events.items) arbiter.new
+        (map move_of turns.new.items)) result }
 {
     for event in events {
         feed(alloc, arbiter, event, turns)?;

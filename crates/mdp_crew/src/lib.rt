@@ -1,10 +1,11 @@
-//! The threads behind the readers: the arbiter's, which sends what events cause to all workers; the workers', each of
-//! which keeps the books of its own securities and answers what is printed of them; and what the caller's thread makes
-//! of their answers.
+//! The threads behind the readers: the arbiter's, which sends what events cause to all workers; the
+//! workers', each of which keeps the books of its own securities and answers what is printed of
+//! them; and what the caller's thread makes of their answers.
 #![tactic(auto)]
 
 mod arbiter;
 mod batch;
+mod begun;
 mod collector;
 mod crew;
 mod feeding;
@@ -15,6 +16,8 @@ mod plan;
 mod publishing;
 mod rounds;
 mod running;
+mod share;
+mod site;
 mod starts;
 mod steps;
 mod stop;
@@ -23,8 +26,10 @@ mod tests;
 mod worker;
 
 pub use batch::Batch;
+pub use begun::{Begun, begin, join};
 pub use gate::{Gate, Open};
 pub use plan::RunPlan;
 pub use running::{CrewOutcome, run_crew};
+pub use site::{Means, Site};
 pub use starts::{Always, Starts};
 pub use stop::Stop;

@@ -1,26 +1,26 @@
-//! The crew of a run: the arbiter and the workers in threads of a scope, and the collector on the caller's thread.
+//! The crew of a run: the arbiter and the workers in threads of a scope, and the collector on the
+//! caller's thread.
 
-ghost use Rattle.std.specs.Prelude.{◌≡◌, ◌≤◌, ◌<◌, ◌^◌, ◌-◌, [], ℕ, List, IfOk, MatchResult};
+ghost use Rattle.std.specs.Prelude.{◌≡◌, ◌≤◌, ◌<◌, ◌^◌, ◌-◌, [], IfOk, MatchResult};
 ghost use Rattle.mdp_lanes.specs.Items.{ends_taken};
 ghost use Rattle.mdp_crew.specs.Arbitrating.{HasBegun, HasSent, IsNextNumber};
-ghost use Rattle.mdp_crew.specs.declared.batch.Batch.{Batch};
-ghost use Rattle.mdp_crew.specs.declared.order.Order.{Order};
-ghost use Rattle.mdp_lanes.specs.Queues.{IntakeReceiverView, LaneSenderView};
 ghost use Rattle.mdp_crew.specs.Batches.{HasTakenMore, events_taken};
 ghost use Rattle.mdp_crew.specs.Counted.{HasCounted};
+ghost use Rattle.mdp_crew.specs.Outlets.{out};
 ghost use Rattle.mdp_crew.specs.Running.{HasShown, outcome_of};
 ghost use Rattle.mdp_crew.specs.Plan.{IsLawful, channel_in};
 ghost use Rattle.mdp_crew.specs.Ready.{IsReady};
-ghost use Rattle.mdp_crew.specs.declared.plan.RunPlan.{RunPlan};
 ghost use Rattle.mdp_crew.specs.Stops.{FailsByStop};
 
 use crate::arbiter::{ArbiterOutcome, Ring, arbitrate, drain};
 use crate::batch::Batch;
+use crate::begun::{Begun, begin, join};
 use crate::collector::Collecting;
 use crate::crew::{hire_all, let_all_go};
 use crate::gate::Gate;
 use crate::order::Order;
 use crate::plan::RunPlan;
+use crate::site::Site;
 use crate::starts::Starts;
 use crate::stop::Stop;
 use mdp_arbiter::{Arbiter, Standing};
@@ -31,13 +31,14 @@ use mdp_templates::Memory;
 use mdp_window::RingWindow;
 use std::alloc::Allocator;
 use std::snapshot::Snapshot;
-use std::sync::{OnceLock, Wait};
-use std::thread::{Promise, PromisedHandle, Scope, Threads};
+use std::sync::Wait;
+use std::thread::{Promise, Threads};
 
-/// The number of the arbiter's thread, behind the readers.
+/// The number of the arbiter's thread, after the readers.
 const ARBITER: usize = 3;
 
-/// The arbiter's promise: it has taken all batches of the readers, and sent what they make possible.
+/// The arbiter's promise: it has taken all batches of the readers, and sent what they make
+/// possible.
 #[derive(Drop)]
 pub struct SendsOrders<'s, A: Allocator + Copy> {
     pub plan: Snapshot<RunPlan<'s>>,
@@ -49,14 +50,13 @@ impl<'s, A: Allocator + Copy> Promise<ArbiterOutcome<A>> for SendsOrders<'s, A> 
     ghost use Rattle.mdp_crew.specs.Arbitrating.{HasSent};
     ghost use Rattle.mdp_crew.specs.Plan.{channel_in};
 
-    ghost kept_by = { λ p outcome. HasSent (channel_in p.plan.value) p.receiver.value p.senders.value.items outcome };
+    ghost kept_by = { λ p outcome. HasSent (channel_in p.plan.value) p.receiver.value
+        p.senders.value.items outcome };
 }
 
-/// What is left to know of the arbiter: its thread, or what it left where its thread couldn't be started.
-type Arbitrating<'s, A> = Result<
-    PromisedHandle<ArbiterOutcome<A>, SendsOrders<'s, A>>,
-    ArbiterOutcome<A>,
->;
+/// What is left to know of the arbiter: its thread, or what it left where its thread couldn't be
+/// started.
+type Arbitrating<'s, A> = Begun<ArbiterOutcome<A>, SendsOrders<'s, A>>;
 
 /// What the crew leaves: the receiver, where the channel stands, and how many bytes went out.
 #[derive(Drop)]
@@ -76,11 +76,7 @@ pub struct Ready<'s, A: Allocator + Copy> {
 
 // Makes what the crew begins with, and starts the workers.
 fn prepare<'s, E, R, S, G, A>(
-    rt: &'s R,
-    scope: &'s Scope<'s, E>,
-    starts: &S,
-    alloc: A,
-    gate: &'s G,
+    site: &Site<'s, E, R, S, G, A>,
     plan: RunPlan<'s>,
 ) -> Result<Ready<'s, A>, Memory>
 where
@@ -99,11 +95,12 @@ where
         start,
         workers,
     } = plan;
+    let alloc = site.means.alloc;
     let window = RingWindow::new(alloc, u64::from(window))?;
     let arbiter = Arbiter::new(alloc, instruments, window, start)?;
     let collector = Collector::new(alloc, instruments)?;
     let round = Vec::with_capacity(alloc, usize::from(workers))?;
-    let (senders, posts) = hire_all(rt, scope, starts, alloc, gate, instruments, workers)?;
+    let (senders, posts) = hire_all(site, instruments, workers)?;
     let collecting = Collecting::new(alloc, collector, round, posts);
     Ok(Ready {
         arbiter,
@@ -112,13 +109,10 @@ where
     })
 }
 
-// Starts the arbiter's thread. Where it can't be started all readers are told to stop, and it is called here.
-fn begin_arbiter<'s, E, R, S, A>(
-    rt: &'s R,
-    scope: &'s Scope<'s, E>,
-    go: &OnceLock<bool>,
-    starts: &S,
-    alloc: A,
+// Starts the arbiter's thread. Where it can't be started all readers are told to stop, and it is
+// called here.
+fn begin_arbiter<'s, E, R, S, G, A>(
+    site: &Site<'s, E, R, S, G, A>,
     plan: RunPlan<'s>,
     arbiter: Arbiter<A, Ring<A>>,
     receiver: IntakeReceiver<Batch<A>, A>,
@@ -136,44 +130,19 @@ where
         × (h.promise.senders.value.items ≡ senders.items))
         (λ outcome. HasSent (channel_in plan.entry) receiver senders.items outcome) }
 {
-    if !starts.may_start(ARBITER) {
-        let _ = go.set(rt, false);
-        return Err(arbitrate(rt, alloc, arbiter, receiver, senders));
-    }
+    let rt = site.means.rt;
+    let alloc = site.means.alloc;
     let promise = SendsOrders {
         plan: Snapshot::of(&plan),
         receiver: Snapshot::of(&receiver),
         senders: Snapshot::of(&senders),
     };
-    match scope.spawn_with(
+    begin(
+        site,
+        ARBITER,
         promise,
         move || arbitrate(rt, alloc, arbiter, receiver, senders),
-    ) {
-        Ok(handle) => Ok(handle),
-        Err(refused) => {
-            let _ = go.set(rt, false);
-            Err((refused.value)())
-        }
-    }
-}
-
-// Waits for the arbiter to end.
-fn join_arbiter<'s, R: Threads + Wait, A: Allocator + Copy>(
-    rt: &R,
-    arbitrating: Arbitrating<'s, A>,
-) -> ArbiterOutcome<A>
-    ensures { (plan : RunPlan) (receiver : IntakeReceiverView (Batch A))
-        (senders : List (LaneSenderView (Order A))) →
-        MatchResult arbitrating.entry
-        (λ h. (h.promise.plan.value ≡ plan) × (h.promise.receiver.value ≡ receiver)
-        × (h.promise.senders.value.items ≡ senders))
-        (λ outcome. HasSent (channel_in plan) receiver senders outcome)
-        → HasSent (channel_in plan) receiver senders result }
-{
-    match arbitrating {
-        Ok(handle) => handle.join(rt),
-        Err(outcome) => outcome,
-    }
+    )
 }
 
 // Tells what the run comes to: what the collector met goes before what the arbiter met.
@@ -191,12 +160,8 @@ fn outcome(
 }
 
 // Lets the threads work, writes and publishes what they come to, and joins them.
-fn run_ready<'s, E, R, S, W, A>(
-    rt: &'s R,
-    scope: &'s Scope<'s, E>,
-    go: &OnceLock<bool>,
-    starts: &S,
-    alloc: A,
+fn run_ready<'s, E, R, S, G, W, A>(
+    site: &Site<'s, E, R, S, G, A>,
     plan: RunPlan<'s>,
     ready: Ready<'s, A>,
     receiver: IntakeReceiver<Batch<A>, A>,
@@ -217,7 +182,7 @@ where
     ensures takes { HasTakenMore receiver result.receiver }
     ensures ends { ends_taken (λ b. b.is_last) result.receiver.taken ≡ 3 }
     ensures shows { HasShown (channel_in plan.entry) (events_taken result.receiver.taken)
-        (W.taken writer.old) (W.taken writer.new) board.old board.new result.standing }
+        (out (W.taken writer.old) board.old) (out (W.taken writer.new) board.new) result.standing }
     ensures counts { HasCounted (W.taken writer.old) (W.taken writer.new) result.written }
     ensures range { IfOk result.standing (λ standing. IsNextNumber standing.next) }
     ensures failed { FailsByStop result.standing (W.failed writer.old) (W.failed writer.new) }
@@ -227,17 +192,16 @@ where
         senders,
         mut collecting,
     } = ready;
-    let arbitrating = begin_arbiter(
-        rt, scope, go, starts, alloc, plan, arbiter, receiver, senders,
-    );
-    let _ = go.set(rt, true);
+    let rt = site.means.rt;
+    let arbitrating = begin_arbiter(site, plan, arbiter, receiver, senders);
+    let _ = site.go.set(rt, true);
     let mut written = 0;
-    let collected = collecting.collect(rt, alloc, &mut written, board, writer);
+    let collected = collecting.collect(rt, site.means.alloc, &mut written, board, writer);
     let ArbiterOutcome {
         receiver,
         senders,
         standing,
-    } = join_arbiter(rt, arbitrating);
+    } = join(rt, arbitrating);
     let_all_go(rt, senders, collecting.posts);
     CrewOutcome {
         receiver,
@@ -246,24 +210,19 @@ where
     }
 }
 
-/// Runs over what three readers hand over, once they are told to go: an arbiter and so many workers in threads of the
-/// scope, and the collector on the caller's thread, which writes the text and publishes its steps on the board, if
-/// there is one. All that the readers hand over is taken, and all threads are joined, on every path. Where a thread
-/// can't be started the readers are told to stop; where it is the arbiter's, the caller's thread arbitrates what they
-/// put before.
+/// Runs over what three readers hand over, once they are told to go: an arbiter and so many workers
+/// in threads of the scope, and the collector on the caller's thread, which writes the text and
+/// publishes its steps on the board, if there is one. All that the readers hand over is taken, and
+/// all threads are joined, on every path. Where a thread can't be started the readers are told to
+/// stop; where it is the arbiter's, the caller's thread arbitrates what they put before.
 ///
 /// # Errors
 ///
-/// `Output` exactly where a write failed, else `Memory`, also where a worker's thread can't be started. What went out
-/// is a beginning of what the whole run shows, and what was published the steps of a beginning of that whose text went
-/// out whole.
+/// `Output` exactly where a write failed, else `Memory`, also where a worker's thread can't be
+/// started. What went out is a beginning of what the whole run shows, and what was published the
+/// steps of a beginning of that whose text went out whole.
 pub fn run_crew<'s, E, R, S, G, W, A>(
-    rt: &'s R,
-    scope: &'s Scope<'s, E>,
-    go: &OnceLock<bool>,
-    starts: &S,
-    alloc: A,
-    gate: &'s G,
+    site: &Site<'s, E, R, S, G, A>,
     plan: RunPlan<'s>,
     mut receiver: IntakeReceiver<Batch<A>, A>,
     board: &mut Option<Publisher<A>>,
@@ -283,18 +242,16 @@ where
     ensures takes { HasTakenMore receiver result.receiver }
     ensures ends { ends_taken (λ b. b.is_last) result.receiver.taken ≡ 3 }
     ensures shows { HasShown (channel_in plan.entry) (events_taken result.receiver.taken)
-        (W.taken writer.old) (W.taken writer.new) board.old board.new result.standing }
+        (out (W.taken writer.old) board.old) (out (W.taken writer.new) board.new) result.standing }
     ensures counts { HasCounted (W.taken writer.old) (W.taken writer.new) result.written }
     ensures range { IfOk result.standing (λ standing. IsNextNumber standing.next) }
     ensures failed { FailsByStop result.standing (W.failed writer.old) (W.failed writer.new) }
 {
-    match prepare(rt, scope, starts, alloc, gate, plan) {
-        Ok(ready) => run_ready(
-            rt, scope, go, starts, alloc, plan, ready, receiver, board, writer,
-        ),
+    match prepare(site, plan) {
+        Ok(ready) => run_ready(site, plan, ready, receiver, board, writer),
         Err(Memory) => {
-            let _ = go.set(rt, false);
-            drain(rt, &mut receiver);
+            let _ = site.go.set(site.means.rt, false);
+            drain(site.means.rt, &mut receiver);
             CrewOutcome {
                 receiver,
                 standing: Err(Stop::Memory),

@@ -1,55 +1,42 @@
-//! A worker: it keeps the books of its own securities, and answers each batch of steps with what is printed of them.
+//! A worker: it keeps the books of its own securities, and answers each batch of steps with what is
+//! printed of them.
 
 ghost use Rattle.std.specs.Prelude.{◌≡◌, ◌≤◌, [], IfOk, OnOk, map};
 ghost use Rattle.mdp_reports.specs.Reporting.{desks_after_moves, reports_of_moves};
 ghost use Rattle.mdp_arbiter.specs.Turns.{move_of};
 ghost use Rattle.mdp_templates.specs.Instrument.{AreFit};
 ghost use Rattle.mdp_crew.specs.Answering.{AnswersOne, HasDrained};
+ghost use Rattle.mdp_crew.specs.Shares.{share_in};
 ghost use Rattle.mdp_crew.specs.Work.{HasAnswered};
 
 use crate::gate::Gate;
 use crate::order::Order;
+use crate::share::Share;
 use mdp_arbiter::Turn;
 use mdp_lanes::{LaneReceiver, LaneSender};
 use mdp_reports::{Answer, Reports, Room, Worker};
-use mdp_templates::{Instrument, Memory};
+use mdp_templates::Memory;
 use std::alloc::Allocator;
 use std::sync::Wait;
 
-/// What a worker leaves: the ends of its lanes.
+/// A worker's ends of its lanes.
 #[derive(Drop)]
-pub struct WorkerOutcome<A: Allocator + Copy> {
+pub struct WorkerEnds<A: Allocator + Copy> {
     pub orders: LaneReceiver<Order<A>, A>,
     pub answers: LaneSender<Answer<A>, A>,
 }
 
-// Makes these steps, and reports them, with room for as much as was reported last. The gate is told of each step
-// before, and they are counted on.
-fn report<G: Gate, A: Allocator + Copy>(
-    gate: &G,
-    alloc: A,
+/// A worker at work: what it keeps of its securities, and its ends of the lanes.
+#[derive(Drop)]
+pub struct Working<A: Allocator + Copy> {
+    pub worker: Worker<A>,
+    pub ends: WorkerEnds<A>,
+    // of the share
     number: u16,
-    worker: &mut Worker<A>,
-    step: &mut u64,
-    room: &mut Room,
-    turns: &[Turn<A>],
-) -> Result<Reports<A>, Memory>
-    ensures worker { OnOk result (worker.new
-        ≡ record worker.old {
-          desks = desks_after_moves worker.old.slots
-              (map move_of turns.now) worker.old.desks;
-        }) }
-    ensures reports { IfOk result (λ reports. reports
-        ≡ reports_of_moves worker.old.slots (map move_of turns.now) worker.old.desks) }
-{
-    let mut reports = Reports::with_room(alloc, *room)?;
-    for turn in turns {
-        *step = step.saturating_add(1);
-        gate.arrive(usize::from(number), *step);
-        worker.report_turn(alloc, turn, &mut reports)?;
-    }
-    *room = reports.room();
-    Ok(reports)
+    // how many steps it made
+    step: u64,
+    // for as much as was reported last
+    room: Room,
 }
 
 // Takes orders up to the last.
@@ -64,78 +51,95 @@ fn drain_orders<R: Wait, A: Allocator + Copy>(rt: &R, orders: &mut LaneReceiver<
     }
 }
 
-// Answers an order; false behind the last answer.
-fn answer_one<R: Wait, G: Gate, A: Allocator + Copy>(
-    rt: &R,
-    gate: &G,
-    alloc: A,
-    number: u16,
-    worker: &mut Worker<A>,
-    step: &mut u64,
-    room: &mut Room,
-    orders: &mut LaneReceiver<Order<A>, A>,
-    answers: &mut LaneSender<Answer<A>, A>,
-) -> bool
-    ensures { AnswersOne worker.old worker.new orders.old orders.new answers.old answers.new result }
-{
-    match orders.take(rt) {
-        Order::Take(steps) => match report(gate, alloc, number, worker, step, room, steps.turns()) {
-            Ok(reports) => {
-                answers.put(rt, Answer::Tells(reports));
-                true
-            }
-            Err(Memory) => {
-                answers.put(rt, Answer::Failed);
-                drain_orders(rt, orders);
+impl<A: Allocator + Copy> Working<A> {
+    // Makes these steps, and reports them. The gate is told of each step before, and they are
+    // counted on.
+    fn report<G: Gate>(
+        &mut self,
+        gate: &G,
+        alloc: A,
+        turns: &[Turn<A>],
+    ) -> Result<Reports<A>, Memory>
+        ensures worker { OnOk result (self.new.worker
+            ≡ record self.old.worker {
+              desks = desks_after_moves self.old.worker.slots
+                  (map move_of turns.now) self.old.worker.desks;
+            }) }
+        ensures reports { IfOk result (λ reports. reports
+            ≡ reports_of_moves self.old.worker.slots
+            (map move_of turns.now) self.old.worker.desks) }
+        ensures ends { self.new.ends ≡ self.old.ends }
+    {
+        let mut reports = Reports::with_room(alloc, self.room)?;
+        for turn in turns {
+            self.step = self.step.saturating_add(1);
+            gate.arrive(usize::from(self.number), self.step);
+            self.worker.report_turn(turn, &mut reports)?;
+        }
+        self.room = reports.room();
+        Ok(reports)
+    }
+
+    // Answers an order; false after the last answer.
+    fn answer_one<R: Wait, G: Gate>(&mut self, rt: &R, gate: &G, alloc: A) -> bool
+        ensures { AnswersOne self.old self.new result }
+    {
+        match self.ends.orders.take(rt) {
+            Order::Take(steps) => match self.report(gate, alloc, steps.turns()) {
+                Ok(reports) => {
+                    self.ends.answers.put(rt, Answer::Tells(reports));
+                    true
+                }
+                Err(Memory) => {
+                    self.ends.answers.put(rt, Answer::Failed);
+                    drain_orders(rt, &mut self.ends.orders);
+                    false
+                }
+            },
+            Order::Done => {
+                self.ends.answers.put(rt, Answer::Finished);
                 false
             }
-        },
-        Order::Done => {
-            answers.put(rt, Answer::Finished);
-            false
         }
     }
 }
 
-/// Answers each order with what is printed of the worker's own securities, up to the last one. After want of memory it
-/// answers that it failed, and takes the orders to the last.
+/// Answers each order with what is printed of the worker's own securities, up to the last one.
+/// After want of memory it answers that it failed, and takes the orders to the last.
 pub fn work<R: Wait, G: Gate, A: Allocator + Copy>(
     rt: &R,
     gate: &G,
     alloc: A,
-    listed: &[Instrument],
-    workers: u16,
-    number: u16,
-    mut orders: LaneReceiver<Order<A>, A>,
-    mut answers: LaneSender<Answer<A>, A>,
-) -> WorkerOutcome<A>
-    requires fit { AreFit listed.now }
-    requires some { 1 ≤ workers }
-    requires taken { orders.taken ≡ [] }
-    requires sent { answers.sent ≡ [] }
-    ensures { HasAnswered listed.now workers number orders answers result }
+    share: Share<'_>,
+    mut ends: WorkerEnds<A>,
+) -> WorkerEnds<A>
+    requires fit { AreFit share.listed.now }
+    requires some { 1 ≤ share.workers }
+    requires taken { ends.orders.taken ≡ [] }
+    requires sent { ends.answers.sent ≡ [] }
+    ensures { HasAnswered (share_in share.entry) ends result }
 {
-    let Ok(mut worker) = Worker::new(alloc, listed, workers, number) else {
-        answers.put(rt, Answer::Failed);
-        drain_orders(rt, &mut orders);
-        return WorkerOutcome { orders, answers };
+    let Share {
+        listed,
+        workers,
+        number,
+    } = share;
+    let Ok(worker) = Worker::new(alloc, listed, workers, number) else {
+        ends.answers.put(rt, Answer::Failed);
+        drain_orders(rt, &mut ends.orders);
+        return ends;
     };
-    let mut step = 0;
-    let mut room = Room::none();
+    let mut working = Working {
+        worker,
+        ends,
+        number,
+        step: 0,
+        room: Room::none(),
+    };
     for _ in rt.forever() {
-        if !answer_one(
-            rt,
-            gate,
-            alloc,
-            number,
-            &mut worker,
-            &mut step,
-            &mut room,
-            &mut orders,
-            &mut answers,
-        ) {
+        if !working.answer_one(rt, gate, alloc) {
             break;
         }
     }
-    WorkerOutcome { orders, answers }
+    working.ends
 }

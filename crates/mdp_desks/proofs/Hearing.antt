@@ -8,7 +8,7 @@ use Rattle.std.proofs.lemmas.Bool.Decides.{Decides-int_eq}
 use Rattle.std.proofs.lemmas.List.{get_or-map, length-map}
 use Rattle.mdp_templates.specs.Snapshot.{SnapshotContent}
 use Rattle.mdp_templates.specs.declared.entry.Entry.{Entry}
-use Rattle.mdp_templates.specs.Instrument.{HasDepth}
+use Rattle.mdp_templates.specs.Instrument.{HasDepth, ids_of}
 use Rattle.mdp_templates.specs.declared.instrument.Instrument.{Instrument}
 use Rattle.mdp_books.specs.declared.book.Place.{Place}
 use Rattle.mdp_books.specs.Book.{after_entry}
@@ -17,7 +17,6 @@ use Rattle.mdp_desks.specs.declared.desk.Desk.{Desk}
 use Rattle.mdp_desks.specs.Lines.{Seen}
 use Rattle.mdp_desks.specs.Moments.{ended}
 use Rattle.mdp_desks.specs.Desks.{desk_at_start, desk_entered, desk_heard, desks_through, desk_settled, desk_standing, desk_seen, desks_after, desks_moment, rebased_desks}
-use Rattle.mdp_arbiter.specs.Channel.{ids_of}
 use Rattle.mdp_desks.specs.Beside.{listed_in, marks_of, AreBeside}
 
 -- ---- one entry
@@ -149,7 +148,7 @@ beside_start listed ds ids marks differ depths desks same are =
 
 -- a desk with a message's entries, the first of which has this number, where it hears them
 abbrev pub told : ℕ → ℕ → ℕ → List Entry → Desk → Bool → Desk
-told packet message n entries d marked = record { instrument = d.instrument; base = d.base; book = after_entries_from d.instrument packet message n entries d.book; marked = marked }
+told packet message n entries d marked = record { instrument = d.instrument; base = d.base; book = after_entries_from d.instrument (place_at packet message n) entries d.book; marked = marked }
 
 abbrev pub through : ℕ → ℕ → ℕ → List Entry → Desk → Desk
 through packet message n entries d = cond (nat_lt d.base packet) (told packet message n entries d (d.marked || list_any (names d.instrument.id) entries)) d
@@ -169,9 +168,9 @@ or_false false = refl
 -- one entry, and then the others
 heard_and : (packet message n : ℕ) (entry : Entry) (entries : List Entry) (d : Desk) (named over : Bool) → names d.instrument.id entry ≡ named → nat_lt d.base packet ≡ over
     → through packet message (n + 1) entries (cond named (cond over (record { instrument = d.instrument; base = d.base; book = after_entry (place_at packet message n) entry d.book; marked = true }) d) d)
-    ≡ cond over (record { instrument = d.instrument; base = d.base; book = after_entries_from d.instrument packet message (n + 1) entries (cond named (after_entry (place_at packet message n) entry d.book) d.book); marked = d.marked || (named || list_any (names d.instrument.id) entries) }) d
+    ≡ cond over (record { instrument = d.instrument; base = d.base; book = after_entries_from d.instrument (place_at packet message (n + 1)) entries (cond named (after_entry (place_at packet message n) entry d.book) d.book); marked = d.marked || (named || list_any (names d.instrument.id) entries) }) d
 heard_and packet message n entry entries d true true is over =
-    rw over (ap (λ (b : Bool). record { instrument = d.instrument; base = d.base; book = after_entries_from d.instrument packet message (n + 1) entries (after_entry (place_at packet message n) entry d.book); marked = b }) (sym (or_true d.marked)))
+    rw over (ap (λ (b : Bool). record { instrument = d.instrument; base = d.base; book = after_entries_from d.instrument (place_at packet message (n + 1)) entries (after_entry (place_at packet message n) entry d.book); marked = b }) (sym (or_true d.marked)))
 heard_and packet message n entry entries d true false is over = rw over refl
 heard_and packet message n entry entries d false true is over = rw over refl
 heard_and packet message n entry entries d false false is over = rw over refl
@@ -213,7 +212,7 @@ all_settled packet message entries (d ∷ ds) =
 
 standing_case : (packet message : ℕ) (entries : List Entry) (d : Desk) (over : Bool) → nat_lt d.base packet ≡ over
     → desk_standing packet (cond over (told packet message 1 entries d (d.marked || list_any (names d.instrument.id) entries)) d)
-    ≡ cond over (Some (record { instrument = d.instrument; printed = d.marked || list_any (names d.instrument.id) entries; book = after_entries_from d.instrument packet message 1 entries d.book })) None
+    ≡ cond over (Some (record { instrument = d.instrument; printed = d.marked || list_any (names d.instrument.id) entries; book = after_entries_from d.instrument (place_at packet message 1) entries d.book })) None
 standing_case packet message entries d true over = rw over refl
 standing_case packet message entries d false over = rw over refl
 
@@ -229,10 +228,10 @@ ended_desks packet message entries ds end is =
     ap (map (desk_settled packet)) (all_through packet message 1 entries ds) ∙ all_settled packet message entries ds ∙ ap (λ (b : Bool). desks_after (sent_with packet message entries b) ds) (sym is)
 
 pub ended_moment : (packet message : ℕ) (entries : List Entry) (ds : List Desk) (end : Bool) → end ≡ true
-    → ended packet message (map (desk_standing packet) (desks_through packet message 1 entries ds)) ∷ [] ≡ desks_moment (sent_with packet message entries end) ds
+    → ended (record { packet = packet; message = message }) (map (desk_standing packet) (desks_through packet message 1 entries ds)) ∷ [] ≡ desks_moment (sent_with packet message entries end) ds
 ended_moment packet message entries ds end is =
-    ap (λ (xs : List Desk). ended packet message (map (desk_standing packet) xs) ∷ []) (all_through packet message 1 entries ds)
-    ∙ ap (λ (seen : List (Option Seen)). ended packet message seen ∷ []) (all_standing packet message entries ds)
+    ap (λ (xs : List Desk). ended (record { packet = packet; message = message }) (map (desk_standing packet) xs) ∷ []) (all_through packet message 1 entries ds)
+    ∙ ap (λ (seen : List (Option Seen)). ended (record { packet = packet; message = message }) seen ∷ []) (all_standing packet message entries ds)
     ∙ ap (λ (b : Bool). desks_moment (sent_with packet message entries b) ds) (sym is)
 
 -- ---- where it ends none

@@ -10,22 +10,20 @@ use Rattle.mdp_books.specs.Feed.{Sent}
 use Rattle.mdp_arbiter.specs.Machine.{Move}
 use Rattle.mdp_desks.specs.Lines.{Seen}
 use Rattle.mdp_desks.specs.Shown.{Standing, standing_after, standing_through}
-use Rattle.mdp_desks.specs.Moments.{Moment, moment_text, moment_at, moments_through, moments_of, moments_on, moments_after, text_of_moments, shown_lines}
+use Rattle.mdp_desks.specs.Moments.{Moment, Walk, moment_text, moment_at, moments_through, moments_of, moments_on, moments_after, text_of_moments, shown_lines}
 
 -- what two walks have in common: where they stand alike, a message of this kind shows the same of both, and they stand alike behind it
-pub record Alike {S T : Type 0} (P : Sent → Type 0) (R : S → T → Type 0)
-    (shows : Sent → S → List (Option Seen)) (goes : Sent → S → S) (shows' : Sent → T → List (Option Seen)) (goes' : Sent → T → T) : Type 0 where
-  pub same : (m : Sent) (s : S) (t : T) → P m → R s t → shows m s ≡ shows' m t
-  pub on : (m : Sent) (s : S) (t : T) → P m → R s t → R (goes m s) (goes' m t)
+pub record Alike {S T : Type 0} (P : Sent → Type 0) (R : S → T → Type 0) (one : Walk S) (other : Walk T) : Type 0 where
+  pub same : (m : Sent) (s : S) (t : T) → P m → R s t → one.shows m s ≡ other.shows m t
+  pub on : (m : Sent) (s : S) (t : T) → P m → R s t → R (one.goes m s) (other.goes m t)
 
-pub same_moments : {S T : Type 0} (P : Sent → Type 0) (R : S → T → Type 0)
-    (shows : Sent → S → List (Option Seen)) (goes : Sent → S → S) (shows' : Sent → T → List (Option Seen)) (goes' : Sent → T → T)
-    → Alike P R shows goes shows' goes' → (s : S) (t : T) (ms : List Sent) → AllByRecursion P ms → R s t
-    → moments_through shows goes s ms ≡ moments_through shows' goes' t ms
-same_moments P R shows goes shows' goes' alike s t [] are here = refl
-same_moments P R shows goes shows' goes' alike s t (m ∷ ms) are here =
-    ap (λ (seen : List (Option Seen)). moment_at m seen ++ moments_through shows goes (goes m s) ms) (alike.same m s t are.0 here)
-    ∙ ap (λ (rest : List Moment). moment_at m (shows' m t) ++ rest) (same_moments P R shows goes shows' goes' alike (goes m s) (goes' m t) ms are.1 (alike.on m s t are.0 here))
+pub same_moments : {S T : Type 0} (P : Sent → Type 0) (R : S → T → Type 0) (one : Walk S) (other : Walk T)
+    → Alike P R one other → (s : S) (t : T) (ms : List Sent) → AllByRecursion P ms → R s t
+    → moments_through one s ms ≡ moments_through other t ms
+same_moments P R one other alike s t [] are here = refl
+same_moments P R one other alike s t (m ∷ ms) are here =
+    ap (λ (seen : List (Option Seen)). moment_at m seen ++ moments_through one (one.goes m s) ms) (alike.same m s t are.0 here)
+    ∙ ap (λ (rest : List Moment). moment_at m (other.shows m t) ++ rest) (same_moments P R one other alike (one.goes m s) (other.goes m t) ms are.1 (alike.on m s t are.0 here))
 
 -- ---- moves behind moves
 

@@ -3,22 +3,22 @@ use Rattle.std.proofs.Common.{◌≡◌, ◌<◌, ◌≤◌, ℕ, zero, suc, ◌
 use Rattle.std.specs.List.{flat_map}
 use Rattle.std.specs.Prelude.{nat_lt, All}
 use Rattle.std.proofs.Math.Seq.{map-set_same}
-use Rattle.std.proofs.lemmas.List.{map-set, get_or-map, length-map, at_drop_more, drop_all, take_all, take-append-drop}
+use Rattle.std.proofs.lemmas.List.{map-set, get_or-map, length-map, at_drop_more, drop_all, take_all}
 use Rattle.mdp_templates.specs.Snapshot.{SnapshotContent}
 use Rattle.mdp_templates.specs.declared.instrument.Instrument.{Instrument}
+use Rattle.mdp_books.specs.declared.event_end.EventEnd.{EventEnd}
 use Rattle.mdp_desks.specs.declared.desk.Desk.{Desk}
 use Rattle.mdp_desks.specs.Lines.{text_of}
 use Rattle.mdp_desks.specs.Desks.{desk_at_start, desk_settled, desk_standing, desk_jumped, rebased_desks}
-use Rattle.mdp_print.specs.Pieces.{BeginsWith}
 use Rattle.mdp_desks.specs.Beside.{AreClear, listed_in, marks_of}
 use Rattle.mdp_templates.specs.Instrument.{HasDepth}
 
 -- ---- one desk
 
-pub no_lines : (k j : ℕ) (d : Desk) → d.marked ≡ false → text_of k j (desk_standing k d) ≡ []
-no_lines k j d is = by_base (nat_lt d.base k) refl
+pub no_lines : (end : EventEnd) (d : Desk) → d.marked ≡ false → text_of end (desk_standing end.packet d) ≡ []
+no_lines end d is = by_base (nat_lt d.base end.packet) refl
   where
-    by_base : (b : Bool) → nat_lt d.base k ≡ b → text_of k j (desk_standing k d) ≡ []
+    by_base : (b : Bool) → nat_lt d.base end.packet ≡ b → text_of end (desk_standing end.packet d) ≡ []
     by_base true over = rw (over, is) refl
     by_base false under = rw under refl
 
@@ -31,41 +31,41 @@ still k d is = by_base (nat_lt d.base k) refl
 
 -- ---- the desks from one place on
 
-abbrev pub lines_in : ℕ → ℕ → List Desk → List ℕ
-lines_in k j ds = flat_map (text_of k j) (map (desk_standing k) ds)
+abbrev pub lines_in : EventEnd → List Desk → List ℕ
+lines_in end ds = flat_map (text_of end) (map (desk_standing end.packet) ds)
 
-pub lines_from : (k j : ℕ) (ds : List Desk) (n : ℕ) → ((i : ℕ) → i < n → get_or (marks_of ds) i false ≡ false) → lines_in k j (drop n ds) ≡ lines_in k j ds
-lines_from k j ds zero none = refl
-lines_from k j [] (suc n) none = refl
-lines_from k j (d ∷ ds) (suc n) none =
-    lines_from k j ds n (λ i less. none (suc i) (omega (arith, less)))
-    ∙ ap (λ (t : List ℕ). t ++ lines_in k j ds) (sym (no_lines k j d (none 0 (omega arith))))
+pub lines_from : (end : EventEnd) (ds : List Desk) (n : ℕ) → ((i : ℕ) → i < n → get_or (marks_of ds) i false ≡ false) → lines_in end (drop n ds) ≡ lines_in end ds
+lines_from end ds zero none = refl
+lines_from end [] (suc n) none = refl
+lines_from end (d ∷ ds) (suc n) none =
+    lines_from end ds n (λ i less. none (suc i) (omega (arith, less)))
+    ∙ ap (λ (t : List ℕ). t ++ lines_in end ds) (sym (no_lines end d (none 0 (omega arith))))
 
-pub lines_between : (k j : ℕ) (ds : List Desk) (a b : ℕ) → a ≤ b → AreClear a b (marks_of ds) → lines_in k j (drop b ds) ≡ lines_in k j (drop a ds)
-lines_between k j ds zero b up clear = lines_from k j ds b (λ i less. clear i (omega arith) less)
-lines_between k j ds (suc a) zero up clear = absurd (omega (arith, up))
-lines_between k j [] (suc a) (suc b) up clear = refl
-lines_between k j (d ∷ ds) (suc a) (suc b) up clear = lines_between k j ds a b (omega (arith, up)) (λ i from less. clear (suc i) (omega (arith, from)) (omega (arith, less)))
+pub lines_between : (end : EventEnd) (ds : List Desk) (a b : ℕ) → a ≤ b → AreClear a b (marks_of ds) → lines_in end (drop b ds) ≡ lines_in end (drop a ds)
+lines_between end ds zero b up clear = lines_from end ds b (λ i less. clear i (omega arith) less)
+lines_between end ds (suc a) zero up clear = absurd (omega (arith, up))
+lines_between end [] (suc a) (suc b) up clear = refl
+lines_between end (d ∷ ds) (suc a) (suc b) up clear = lines_between end ds a b (omega (arith, up)) (λ i from less. clear (suc i) (omega (arith, from)) (omega (arith, less)))
 
-pub lines_next : (k j : ℕ) (ds : List Desk) (n : ℕ) (d : Desk) → n < length ds → lines_in k j (drop n ds) ≡ text_of k j (desk_standing k (get_or ds n d)) ++ lines_in k j (drop (n + 1) ds)
-lines_next k j ds n d less = at_drop_more (lines_in k j) ds n d less
+pub lines_next : (end : EventEnd) (ds : List Desk) (n : ℕ) (d : Desk) → n < length ds → lines_in end (drop n ds) ≡ text_of end (desk_standing end.packet (get_or ds n d)) ++ lines_in end (drop (n + 1) ds)
+lines_next end ds n d less = at_drop_more (lines_in end) ds n d less
 
 -- the desks that are passed over have no lines, and then those of the next come
-pub lines_more : (k j : ℕ) (ds : List Desk) (from n : ℕ) (d : Desk) (old new whole : List ℕ) → from ≤ n → n < length ds → AreClear from n (marks_of ds) → d ≡ get_or ds n d → new ≡ old ++ text_of k j (desk_standing k d)
-    → old ++ lines_in k j (drop from ds) ≡ whole → new ++ lines_in k j (drop (n + 1) ds) ≡ whole
-lines_more k j ds from n d old new whole up less clear at is before =
-    let text = text_of k j (desk_standing k d) in
-    let rest = lines_in k j (drop (n + 1) ds) in
-    let next : lines_in k j (drop n ds) ≡ text ++ rest = lines_next k j ds n d less ∙ ap (λ (x : Desk). text_of k j (desk_standing k x) ++ rest) (sym at) in
+pub lines_more : (end : EventEnd) (ds : List Desk) (from n : ℕ) (d : Desk) (old new whole : List ℕ) → from ≤ n → n < length ds → AreClear from n (marks_of ds) → d ≡ get_or ds n d → new ≡ old ++ text_of end (desk_standing end.packet d)
+    → old ++ lines_in end (drop from ds) ≡ whole → new ++ lines_in end (drop (n + 1) ds) ≡ whole
+lines_more end ds from n d old new whole up less clear at is before =
+    let text = text_of end (desk_standing end.packet d) in
+    let rest = lines_in end (drop (n + 1) ds) in
+    let next : lines_in end (drop n ds) ≡ text ++ rest = lines_next end ds n d less ∙ ap (λ (x : Desk). text_of end (desk_standing end.packet x) ++ rest) (sym at) in
     ap (λ (t : List ℕ). t ++ rest) is
     ∙ append_assoc old text rest
-    ∙ ap (λ (t : List ℕ). old ++ t) (sym next ∙ lines_between k j ds from n up clear)
+    ∙ ap (λ (t : List ℕ). old ++ t) (sym next ∙ lines_between end ds from n up clear)
     ∙ before
 
 -- none is left with lines
-pub lines_end : (k j : ℕ) (ds : List Desk) (from : ℕ) (text whole : List ℕ) → from ≤ length ds → AreClear from (length ds) (marks_of ds) → text ++ lines_in k j (drop from ds) ≡ whole → text ≡ whole
-lines_end k j ds from text whole up clear before =
-    let none : lines_in k j (drop from ds) ≡ [] = sym (lines_between k j ds from (length ds) up clear) ∙ ap (lines_in k j) (drop_all (length ds) ds (omega arith)) in
+pub lines_end : (end : EventEnd) (ds : List Desk) (from : ℕ) (text whole : List ℕ) → from ≤ length ds → AreClear from (length ds) (marks_of ds) → text ++ lines_in end (drop from ds) ≡ whole → text ≡ whole
+lines_end end ds from text whole up clear before =
+    let none : lines_in end (drop from ds) ≡ [] = sym (lines_between end ds from (length ds) up clear) ∙ ap (lines_in end) (drop_all (length ds) ds (omega arith)) in
     sym (append-nil text) ∙ ap (λ (t : List ℕ). text ++ t) (sym none) ∙ before
 
 -- ---- desks that are settled one after another

@@ -6,7 +6,8 @@ use Rattle.std.proofs.lemmas.List.{map-append, length-map}
 use Rattle.std.proofs.lemmas.List.Elements.{filter-append}
 use Rattle.mdp_templates.specs.Snapshot.{SnapshotContent}
 use Rattle.mdp_templates.specs.declared.instrument.Instrument.{Instrument}
-use Rattle.mdp_books.specs.Feed.{Sent, sent_in}
+use Rattle.mdp_books.specs.declared.event_end.EventEnd.{EventEnd}
+use Rattle.mdp_books.specs.Feed.{Sent, sent_in, end_at}
 use Rattle.mdp_arbiter.specs.Machine.{Move}
 use Rattle.mdp_arbiter.specs.Machine.Move.{passed, jumped}
 use Rattle.mdp_desks.specs.Lines.{Seen}
@@ -82,44 +83,44 @@ few listed moves = few_from listed (standing_after listed []) moves (opening_few
 abbrev keeps : (ℕ → Bool) → Told → Bool
 keeps mine t = mine t.slot
 
-none_told : (packet message : ℕ) (slots : List ℕ) → told_by packet message slots [] ≡ []
-none_told packet message [] = refl
-none_told packet message (slot ∷ slots) = refl
+none_told : (end : EventEnd) (slots : List ℕ) → told_by end slots [] ≡ []
+none_told end [] = refl
+none_told end (slot ∷ slots) = refl
 
-one_kept : (mine : ℕ → Bool) (packet message slot : ℕ) (s : Option Seen) → mine slot ≡ true → filter (keeps mine) (told_there packet message slot s) ≡ told_there packet message slot s
-one_kept mine packet message slot None is = refl
-one_kept mine packet message slot (Some s) is = by_printed s.printed
+one_kept : (mine : ℕ → Bool) (end : EventEnd) (slot : ℕ) (s : Option Seen) → mine slot ≡ true → filter (keeps mine) (told_there end slot s) ≡ told_there end slot s
+one_kept mine end slot None is = refl
+one_kept mine end slot (Some s) is = by_printed s.printed
   where
-    by_printed : (b : Bool) → filter (keeps mine) (cond b (told_of packet message slot s ∷ []) []) ≡ cond b (told_of packet message slot s ∷ []) []
-    by_printed true = ap (λ (b : Bool). cond b (told_of packet message slot s ∷ []) []) is
+    by_printed : (b : Bool) → filter (keeps mine) (cond b (told_of end slot s ∷ []) []) ≡ cond b (told_of end slot s ∷ []) []
+    by_printed true = ap (λ (b : Bool). cond b (told_of end slot s ∷ []) []) is
     by_printed false = refl
 
-one_left : (mine : ℕ → Bool) (packet message slot : ℕ) (s : Option Seen) → mine slot ≡ false → filter (keeps mine) (told_there packet message slot s) ≡ []
-one_left mine packet message slot None is = refl
-one_left mine packet message slot (Some s) is = by_printed s.printed
+one_left : (mine : ℕ → Bool) (end : EventEnd) (slot : ℕ) (s : Option Seen) → mine slot ≡ false → filter (keeps mine) (told_there end slot s) ≡ []
+one_left mine end slot None is = refl
+one_left mine end slot (Some s) is = by_printed s.printed
   where
-    by_printed : (b : Bool) → filter (keeps mine) (cond b (told_of packet message slot s ∷ []) []) ≡ []
-    by_printed true = ap (λ (b : Bool). cond b (told_of packet message slot s ∷ []) []) is
+    by_printed : (b : Bool) → filter (keeps mine) (cond b (told_of end slot s ∷ []) []) ≡ []
+    by_printed true = ap (λ (b : Bool). cond b (told_of end slot s ∷ []) []) is
     by_printed false = refl
 
-told_own : (mine : ℕ → Bool) (packet message slot : ℕ) (listed : List Instrument) (seen : List (Option Seen)) → length seen ≤ length listed
-    → told_by packet message (own_slots mine slot listed) (own_part mine slot seen) ≡ filter (keeps mine) (told_from packet message slot seen)
-told_own mine packet message slot listed [] within = none_told packet message (own_slots mine slot listed)
-told_own mine packet message slot [] (s ∷ seen) within = absurd (omega (arith, within))
-told_own mine packet message slot (i ∷ listed) (s ∷ seen) within = by_mine (mine slot) refl (told_own mine packet message (slot + 1) listed seen (omega (arith, within)))
+told_own : (mine : ℕ → Bool) (end : EventEnd) (slot : ℕ) (listed : List Instrument) (seen : List (Option Seen)) → length seen ≤ length listed
+    → told_by end (own_slots mine slot listed) (own_part mine slot seen) ≡ filter (keeps mine) (told_from end slot seen)
+told_own mine end slot listed [] within = none_told end (own_slots mine slot listed)
+told_own mine end slot [] (s ∷ seen) within = absurd (omega (arith, within))
+told_own mine end slot (i ∷ listed) (s ∷ seen) within = by_mine (mine slot) refl (told_own mine end (slot + 1) listed seen (omega (arith, within)))
   where
     by_mine : (b : Bool) → mine slot ≡ b
-        → told_by packet message (own_slots mine (slot + 1) listed) (own_part mine (slot + 1) seen) ≡ filter (keeps mine) (told_from packet message (slot + 1) seen)
-        → told_by packet message (cond b (slot ∷ own_slots mine (slot + 1) listed) (own_slots mine (slot + 1) listed)) (cond b (s ∷ own_part mine (slot + 1) seen) (own_part mine (slot + 1) seen))
-        ≡ filter (keeps mine) (told_there packet message slot s ++ told_from packet message (slot + 1) seen)
+        → told_by end (own_slots mine (slot + 1) listed) (own_part mine (slot + 1) seen) ≡ filter (keeps mine) (told_from end (slot + 1) seen)
+        → told_by end (cond b (slot ∷ own_slots mine (slot + 1) listed) (own_slots mine (slot + 1) listed)) (cond b (s ∷ own_part mine (slot + 1) seen) (own_part mine (slot + 1) seen))
+        ≡ filter (keeps mine) (told_there end slot s ++ told_from end (slot + 1) seen)
     by_mine true is others =
-        ap (λ (t : List Told). told_there packet message slot s ++ t) others
-        ∙ ap (λ (t : List Told). t ++ filter (keeps mine) (told_from packet message (slot + 1) seen)) (sym (one_kept mine packet message slot s is))
-        ∙ sym (filter-append (keeps mine) (told_there packet message slot s) (told_from packet message (slot + 1) seen))
+        ap (λ (t : List Told). told_there end slot s ++ t) others
+        ∙ ap (λ (t : List Told). t ++ filter (keeps mine) (told_from end (slot + 1) seen)) (sym (one_kept mine end slot s is))
+        ∙ sym (filter-append (keeps mine) (told_there end slot s) (told_from end (slot + 1) seen))
     by_mine false is others =
         others
-        ∙ ap (λ (t : List Told). t ++ filter (keeps mine) (told_from packet message (slot + 1) seen)) (sym (one_left mine packet message slot s is))
-        ∙ sym (filter-append (keeps mine) (told_there packet message slot s) (told_from packet message (slot + 1) seen))
+        ∙ ap (λ (t : List Told). t ++ filter (keeps mine) (told_from end (slot + 1) seen)) (sym (one_left mine end slot s is))
+        ∙ sym (filter-append (keeps mine) (told_there end slot s) (told_from end (slot + 1) seen))
 
 -- ---- moment by moment
 
@@ -130,12 +131,12 @@ reported mine listed starts since m within = by_end m.end
     long : length (map (start_seen since m) starts) ≤ length listed
     long = let same = length-map starts (start_seen since m) in omega (arith, same, within)
 
-    told : told_by m.packet m.message (own_slots mine 0 listed) (map (start_seen since m) (own_part mine 0 starts)) ≡ filter (keeps mine) (told_from m.packet m.message 0 (map (start_seen since m) starts))
-    told = ap (told_by m.packet m.message (own_slots mine 0 listed)) (sym (own_part-map (start_seen since m) mine 0 starts)) ∙ told_own mine m.packet m.message 0 listed (map (start_seen since m) starts) long
+    told : told_by (end_at m) (own_slots mine 0 listed) (map (start_seen since m) (own_part mine 0 starts)) ≡ filter (keeps mine) (told_from (end_at m) 0 (map (start_seen since m) starts))
+    told = ap (told_by (end_at m) (own_slots mine 0 listed)) (sym (own_part-map (start_seen since m) mine 0 starts)) ∙ told_own mine (end_at m) 0 listed (map (start_seen since m) starts) long
 
-    by_end : (e : Bool) → map (report_by (own_slots mine 0 listed)) (cond e (ended m.packet m.message (map (start_seen since m) (own_part mine 0 starts)) ∷ []) [])
-        ≡ map (report_of mine) (cond e (ended m.packet m.message (map (start_seen since m) starts) ∷ []) [])
-    by_end true = ap (λ (ts : List Told). tells m.packet m.message ts ∷ []) told
+    by_end : (e : Bool) → map (report_by (own_slots mine 0 listed)) (cond e (ended (end_at m) (map (start_seen since m) (own_part mine 0 starts)) ∷ []) [])
+        ≡ map (report_of mine) (cond e (ended (end_at m) (map (start_seen since m) starts) ∷ []) [])
+    by_end true = ap (λ (ts : List Told). tells (end_at m) ts ∷ []) told
     by_end false = refl
 
 from_reported : (mine : ℕ → Bool) (listed : List Instrument) (starts : List Start) (since ms : List Sent) → length starts ≤ length listed

@@ -15,11 +15,11 @@ use Rattle.mdp_desks.specs.declared.desk.Desk.{Desk}
 use Rattle.mdp_desks.specs.Lines.{Seen}
 use Rattle.mdp_arbiter.specs.Machine.{Move}
 use Rattle.mdp_desks.specs.Shown.{Start, Standing, starts_before_jump, standing_after, standing_through, starts_at_jump, book_since, start_seen}
-use Rattle.mdp_desks.specs.Moments.{and_then, moments_from, moments_of, text_of_moments, shown_lines}
+use Rattle.mdp_desks.specs.Moments.{moments_from, moments_of, text_of_moments, shown_lines, walk_from}
 use Rattle.mdp_desks.proofs.Moments.{same_moments, shown_lines-push}
 use Rattle.mdp_desks.specs.Due.{is_due, is_printed}
 use Rattle.mdp_arbiter.specs.Machine.Move.{passed, jumped}
-use Rattle.mdp_desks.specs.Desks.{desk_at_start, desk_with_message, desk_after, desk_seen, desks_after, passed_desks, passed_moments, desk_jumped, rebased_desks}
+use Rattle.mdp_desks.specs.Desks.{desk_at_start, desk_with_message, desk_after, desk_seen, desks_after, desks_walk, passed_desks, passed_moments, desk_jumped, rebased_desks}
 use Rattle.mdp_desks.specs.Standing.{DeskShows, Shows}
 use Rattle.mdp_desks.specs.Beside.{listed_in}
 use Rattle.mdp_desks.proofs.Marks.{is_due-push}
@@ -109,7 +109,7 @@ all_any (m ∷ ms) = (tt, all_any ms)
 pub pass_moments : (ms since : List Sent) (starts : List Start) (ds : List Desk) → AllZip (DeskShows since) starts ds → passed_moments ms ds ≡ moments_from starts since ms
 pass_moments ms since starts ds is =
     same_moments (λ (m : Sent). ⊤) (λ (desks : List Desk) (before : List Sent). AllZip (DeskShows before) starts desks)
-    (λ m desks. map (desk_seen m) desks) desks_after (λ m before. map (start_seen before m) starts) and_then
+    desks_walk (walk_from starts)
     (record { same = λ m desks before _ are. all_seen before m starts desks are; on = λ m desks before _ are. all_show before m starts desks are })
     ds since ms (all_any ms) is
 

@@ -2,8 +2,7 @@
 use Rattle.std.specs.Prelude.{◌≡◌, ◌≢◌, ◌<◌, ◌≤◌, ℕ, ℤ, Bool, true, false, ◌==◌, List, map, length, get_or, All}
 use Rattle.std.specs.List.{AllPairs}
 use Rattle.mdp_templates.specs.declared.instrument.Instrument.{Instrument}
-use Rattle.mdp_templates.specs.Instrument.{HasDepth}
-use Rattle.mdp_arbiter.specs.Channel.{ids_of}
+use Rattle.mdp_templates.specs.Instrument.{HasDepth, ids_of}
 use Rattle.mdp_desks.specs.declared.desk.Desk.{Desk}
 
 -- the listed securities, whose desks these are

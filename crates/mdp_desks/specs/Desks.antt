@@ -1,5 +1,5 @@
 -- What the code does to a security's desk, as a function. What the moves show is defined elsewhere, with no desk.
-use Rattle.std.specs.Prelude.{Option, Some, None, false, ℕ, List, [], ◌∷◌, true, not, ◌+◌, ◌&&◌, ◌||◌, if◌then◌else◌, map, nat_lt}
+use Rattle.std.specs.Prelude.{Option, Some, None, false, ℕ, List, [], ◌∷◌, true, not, ◌+◌, ◌&&◌, ◌||◌, if◌then◌else◌, map, nat_lt, slice_get}
 use Rattle.mdp_templates.specs.Snapshot.{SnapshotContent}
 use Rattle.mdp_templates.specs.declared.entry.Entry.{Entry}
 use Rattle.mdp_templates.specs.declared.instrument.Instrument.{Instrument}
@@ -8,7 +8,7 @@ use Rattle.mdp_books.specs.Book.{empty_book, book_of_snapshot, after_entry}
 use Rattle.mdp_books.specs.Feed.{Sent, names, place_at, book_after, is_named_in}
 use Rattle.mdp_desks.specs.declared.desk.Desk.{Desk}
 use Rattle.mdp_desks.specs.Lines.{Seen}
-use Rattle.mdp_desks.specs.Moments.{Moment, moment_at, moments_through}
+use Rattle.mdp_desks.specs.Moments.{Moment, Walk, moment_at, moments_through}
 
 -- before any packet
 abbrev pub desk_at_start : Instrument → Desk
@@ -79,8 +79,11 @@ passed_desks (m ∷ ms) ds = passed_desks ms (desks_after m ds)
 abbrev pub desks_moment : Sent → List Desk → List Moment
 desks_moment m ds = moment_at m (map (desk_seen m) ds)
 
+abbrev pub desks_walk : Walk (List Desk)
+desks_walk = record { shows = λ m desks. map (desk_seen m) desks; goes = desks_after }
+
 abbrev pub passed_moments : List Sent → List Desk → List Moment
-passed_moments ms ds = moments_through (λ m desks. map (desk_seen m) desks) desks_after ds ms
+passed_moments ms ds = moments_through desks_walk ds ms
 
 -- a jump: the snapshot is the base and the book, and the security is due at the first event end behind it
 abbrev pub desk_rebased : SnapshotContent → Desk → Desk
@@ -90,6 +93,10 @@ desk_rebased s d =
 abbrev pub desk_jumped : Option SnapshotContent → Desk → Desk
 desk_jumped None d = d
 desk_jumped (Some s) d = desk_rebased s d
+
+-- the snapshots at these slots, of those of all listed securities
+abbrev pub snapshots_at : List ℕ → List SnapshotContent → List (Option SnapshotContent)
+snapshots_at slots snapshots = map (λ (slot : ℕ). slice_get snapshots slot) slots
 
 -- desk by desk, each with its snapshot where there is one
 abbrev pub rebased_desks : List (Option SnapshotContent) → List Desk → List Desk

@@ -8,6 +8,7 @@ use Rattle.mdp_templates.specs.declared.instrument.InstrumentKind.TheVariants.{O
 use Rattle.mdp_books.specs.declared.book.Book.{Book}
 use Rattle.mdp_books.specs.declared.book.Sides.{Sides}
 use Rattle.mdp_books.specs.declared.book.Book.TheVariants.{Good, Fault}
+use Rattle.mdp_books.specs.declared.event_end.EventEnd.{EventEnd}
 use Rattle.mdp_quotes.specs.declared.best.Best.{Best}
 use Rattle.mdp_quotes.specs.Best.{best_of}
 use Rattle.mdp_quotes.specs.Consolidation.{quotes_of}
@@ -28,13 +29,13 @@ sides_lines head sides =
     ++ consolidated_line head (quotes_of sides).bids (quotes_of sides).offers)
 
 -- the lines of a book where an event ends: those of its sides, or the place of its fault
-abbrev pub book_lines : ℕ → ℕ → List ℕ → Book → List ℕ
-book_lines packet message name (Good sides) = sides_lines (head_text packet message name) sides
-book_lines packet message name (Fault place) = fault_line packet message name place
+abbrev pub book_lines : EventEnd → List ℕ → Book → List ℕ
+book_lines end name (Good sides) = sides_lines (head_text end name) sides
+book_lines end name (Fault place) = fault_line end name place
 
-abbrev pub text_of : ℕ → ℕ → Option Seen → List ℕ
-text_of packet message None = []
-text_of packet message (Some s) = if s.printed then book_lines packet message s.instrument.name s.book else []
+abbrev pub text_of : EventEnd → Option Seen → List ℕ
+text_of end None = []
+text_of end (Some s) = if s.printed then book_lines end s.instrument.name s.book else []
 
 -- what an event end shows of the security of an id
 abbrev pub seen_of : ℤ → List (Option Seen) → Option Seen
@@ -43,28 +44,29 @@ seen_of id (None ∷ seen) = seen_of id seen
 seen_of id (Some s ∷ seen) = if int_eq s.instrument.id id then Some s else seen_of id seen
 
 -- the line of a spread's verdicts; a fault has no best levels, and then there is none
-abbrev pub verdicts_text : ℕ → ℕ → List ℕ → Option Best → Option Best → Option Best → List ℕ
-verdicts_text packet message name (Some spread) (Some leg1) (Some leg2) =
-    audit_line packet message name (bid_verdict spread leg1 leg2) (offer_verdict spread leg1 leg2)
-verdicts_text packet message name spread leg1 leg2 = []
+abbrev pub verdicts_text : EventEnd → List ℕ → Option Best → Option Best → Option Best → List ℕ
+verdicts_text end name (Some spread) (Some leg1) (Some leg2) =
+    audit_line end name (bid_verdict spread leg1 leg2) (offer_verdict spread leg1 leg2)
+verdicts_text end name spread leg1 leg2 = []
 
 -- a spread is audited where it and both its legs are seen, and one of the three is printed
-abbrev pub spread_text : ℕ → ℕ → Option Seen → Option Seen → Option Seen → List ℕ
-spread_text packet message (Some s) (Some leg1) (Some leg2) =
+abbrev pub spread_text : EventEnd → Option Seen → Option Seen → Option Seen → List ℕ
+spread_text end (Some s) (Some leg1) (Some leg2) =
     if s.printed || leg1.printed || leg2.printed
-    then verdicts_text packet message s.instrument.name (best_of s.book) (best_of leg1.book) (best_of leg2.book)
+    then
+    verdicts_text end s.instrument.name (best_of s.book) (best_of leg1.book) (best_of leg2.book)
     else []
-spread_text packet message s leg1 leg2 = []
+spread_text end s leg1 leg2 = []
 
-abbrev pub legs_text : ℕ → ℕ → List (Option Seen) → Seen → InstrumentKind → List ℕ
-legs_text packet message seen s Outright = []
-legs_text packet message seen s (Calendar leg1 leg2) =
-    spread_text packet message (Some s) (seen_of leg1 seen) (seen_of leg2 seen)
+abbrev pub legs_text : EventEnd → List (Option Seen) → Seen → InstrumentKind → List ℕ
+legs_text end seen s Outright = []
+legs_text end seen s (Calendar leg1 leg2) =
+    spread_text end (Some s) (seen_of leg1 seen) (seen_of leg2 seen)
 
-abbrev pub audit_text : ℕ → ℕ → List (Option Seen) → Option Seen → List ℕ
-audit_text packet message seen None = []
-audit_text packet message seen (Some s) = legs_text packet message seen s s.instrument.kind
+abbrev pub audit_text : EventEnd → List (Option Seen) → Option Seen → List ℕ
+audit_text end seen None = []
+audit_text end seen (Some s) = legs_text end seen s s.instrument.kind
 
 -- the lines of an event end, in listed order: the books of the securities that are printed, and then the spreads
-unfoldable pub lines_as : ℕ → ℕ → List (Option Seen) → List ℕ
-lines_as packet message seen = flat_map (text_of packet message) seen ++ flat_map (audit_text packet message seen) seen
+unfoldable pub lines_as : EventEnd → List (Option Seen) → List ℕ
+lines_as end seen = flat_map (text_of end) seen ++ flat_map (audit_text end seen) seen

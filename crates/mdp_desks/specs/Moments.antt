@@ -3,35 +3,44 @@
 use Rattle.std.specs.Prelude.{Option, ℕ, List, [], ◌∷◌, ◌++◌, if◌then◌else◌, map}
 use Rattle.std.specs.List.{flat_map}
 use Rattle.mdp_templates.specs.declared.instrument.Instrument.{Instrument}
-use Rattle.mdp_books.specs.Feed.{Sent, sent_in}
+use Rattle.mdp_books.specs.declared.event_end.EventEnd.{EventEnd}
+use Rattle.mdp_books.specs.Feed.{Sent, sent_in, end_at}
 use Rattle.mdp_print.specs.Texts.{jump_line}
 use Rattle.mdp_arbiter.specs.Machine.{Move}
 use Rattle.mdp_arbiter.specs.Machine.Move.{passed, jumped}
 use Rattle.mdp_desks.specs.Lines.{Seen, lines_as}
 use Rattle.mdp_desks.specs.Shown.{Start, Standing, standing_after, standing_through, start_seen}
 
--- message `message` of packet `packet` ends an event; or recovery jumps from one number to a later one
+-- an event ends; or recovery jumps from one number to a later one
 pub data Moment : Type 0 where
-  ended : ℕ → ℕ → List (Option Seen) → Moment
+  ended : EventEnd → List (Option Seen) → Moment
   leapt : ℕ → ℕ → Moment
 
 -- the one of a message that ends an event, which shows this of the listed securities; none where it ends none
 abbrev pub moment_at : Sent → List (Option Seen) → List Moment
-moment_at m seen = if m.end then ended m.packet m.message seen ∷ [] else []
+moment_at m seen = if m.end then ended (end_at m) seen ∷ [] else []
 
--- at each message in turn: what it shows where things stand so, and where they stand behind it
-abbrev pub moments_through : {S : Type 0} → (Sent → S → List (Option Seen)) → (Sent → S → S) → S → List Sent
-    → List Moment
-moments_through shows goes s [] = []
-moments_through shows goes s (m ∷ ms) = moment_at m (shows m s) ++ moments_through shows goes (goes m s) ms
+-- a walk over messages: what each shows where things stand so, and where they stand after it
+pub record Walk (S : Type 0) : Type 0 where
+  pub shows : Sent → S → List (Option Seen)
+  pub goes : Sent → S → S
+
+-- the moments of messages in turn, from where things stand so
+abbrev pub moments_through : {S : Type 0} → Walk S → S → List Sent → List Moment
+moments_through walk s [] = []
+moments_through walk s (m ∷ ms) =
+    moment_at m (walk.shows m s) ++ moments_through walk (walk.goes m s) ms
 
 -- one message more
 abbrev pub and_then : Sent → List Sent → List Sent
 and_then m before = before ++ m ∷ []
 
--- from the last jump's starts on, behind the messages passed since
+-- from the last jump's starts on, where the messages passed since say how things stand
+abbrev pub walk_from : List Start → Walk (List Sent)
+walk_from starts = record { shows = λ m before. map (start_seen before m) starts; goes = and_then }
+
 abbrev pub moments_from : List Start → List Sent → List Sent → List Moment
-moments_from starts since ms = moments_through (λ m before. map (start_seen before m) starts) and_then since ms
+moments_from starts since ms = moments_through (walk_from starts) since ms
 
 -- those of a move, and of moves one after another, where things stand so
 abbrev pub moments_of : Standing → Move → List Moment
@@ -59,7 +68,7 @@ moments_by listed before (batch ∷ batches) =
 
 -- all lines of a moment
 abbrev pub moment_text : Moment → List ℕ
-moment_text (ended packet message seen) = lines_as packet message seen
+moment_text (ended end seen) = lines_as end seen
 moment_text (leapt old new) = jump_line old new
 
 -- of one moment after another

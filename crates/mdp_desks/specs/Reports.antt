@@ -2,6 +2,7 @@
 -- the top of its consolidated book.
 use Rattle.std.specs.Prelude.{Option, Some, None, ℕ, ◌+◌, Bool, List, [], ◌∷◌, ◌++◌, if◌then◌else◌}
 use Rattle.std.specs.List.{filter}
+use Rattle.mdp_books.specs.declared.event_end.EventEnd.{EventEnd}
 use Rattle.mdp_quotes.specs.declared.best.Best.{Best}
 use Rattle.mdp_quotes.specs.declared.top.TopOfBook.{TopOfBook}
 use Rattle.mdp_quotes.specs.Best.{best_of}
@@ -15,41 +16,41 @@ pub record Told : Type 0 where
   pub best : Option Best
   pub top : Option TopOfBook
 
-abbrev pub told_of : ℕ → ℕ → ℕ → Seen → Told
-told_of packet message slot s =
+abbrev pub told_of : EventEnd → ℕ → Seen → Told
+told_of end slot s =
     record {
       slot = slot;
-      lines = book_lines packet message s.instrument.name s.book;
+      lines = book_lines end s.instrument.name s.book;
       best = best_of s.book;
       top = top_of_book s.book;
     }
 
-abbrev pub told_there : ℕ → ℕ → ℕ → Option Seen → List Told
-told_there packet message slot None = []
-told_there packet message slot (Some s) = if s.printed then told_of packet message slot s ∷ [] else []
+abbrev pub told_there : EventEnd → ℕ → Option Seen → List Told
+told_there end slot None = []
+told_there end slot (Some s) = if s.printed then told_of end slot s ∷ [] else []
 
 -- of the securities at these slots
-abbrev pub told_by : ℕ → ℕ → List ℕ → List (Option Seen) → List Told
-told_by packet message [] seen = []
-told_by packet message (slot ∷ slots) [] = []
-told_by packet message (slot ∷ slots) (s ∷ seen) = told_there packet message slot s ++ told_by packet message slots seen
+abbrev pub told_by : EventEnd → List ℕ → List (Option Seen) → List Told
+told_by end [] seen = []
+told_by end (slot ∷ slots) [] = []
+told_by end (slot ∷ slots) (s ∷ seen) = told_there end slot s ++ told_by end slots seen
 
 -- of all securities, the first of which stands at this slot
-abbrev pub told_from : ℕ → ℕ → ℕ → List (Option Seen) → List Told
-told_from packet message slot [] = []
-told_from packet message slot (s ∷ seen) = told_there packet message slot s ++ told_from packet message (slot + 1) seen
+abbrev pub told_from : EventEnd → ℕ → List (Option Seen) → List Told
+told_from end slot [] = []
+told_from end slot (s ∷ seen) = told_there end slot s ++ told_from end (slot + 1) seen
 
 pub data Report : Type 0 where
-  tells : ℕ → ℕ → List Told → Report
+  tells : EventEnd → List Told → Report
   leaps : ℕ → ℕ → Report
 
 -- what the worker of these slots reports of a moment of its own securities
 abbrev pub report_by : List ℕ → Moment → Report
-report_by slots (ended packet message seen) = tells packet message (told_by packet message slots seen)
+report_by slots (ended end seen) = tells end (told_by end slots seen)
 report_by slots (leapt old new) = leaps old new
 
 -- what a worker reports of a moment of all securities
 abbrev pub report_of : (ℕ → Bool) → Moment → Report
-report_of mine (ended packet message seen) =
-    tells packet message (filter (λ (t : Told). mine t.slot) (told_from packet message 0 seen))
+report_of mine (ended end seen) =
+    tells end (filter (λ (t : Told). mine t.slot) (told_from end 0 seen))
 report_of mine (leapt old new) = leaps old new

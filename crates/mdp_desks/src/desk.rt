@@ -7,7 +7,7 @@ ghost use Rattle.mdp_desks.specs.Lines.{text_of};
 ghost use Rattle.mdp_print.specs.Pieces.{BeginsWith};
 
 use crate::lines::put_book;
-use mdp_books::Place;
+use mdp_books::{EventEnd, Place};
 use mdp_quotes::Live;
 use mdp_templates::{Entry, Instrument, Memory, Snapshot};
 use std::alloc::Allocator;
@@ -77,18 +77,13 @@ impl Desk {
     }
 
     /// Appends the lines that are owed where an event ends. Where memory runs out, what was there stays in front.
-    pub fn put<A: Allocator>(
-        &self,
-        out: &mut Vec<u8, A>,
-        packet: u32,
-        message: u64,
-    ) -> Result<(), Memory>
+    pub fn put<A: Allocator>(&self, out: &mut Vec<u8, A>, end: EventEnd) -> Result<(), Memory>
         ensures ok { OnOk result (out.new.items ≡ out.old.items
-            ++ text_of packet message (desk_standing packet self.now)) }
+            ++ text_of end (desk_standing end.packet self.now)) }
         ensures err { OnErr result (BeginsWith out.new.items out.old.items) }
     {
-        if packet > self.base && self.marked {
-            put_book(out, packet, message, &self.instrument.name, &self.book)?;
+        if end.packet > self.base && self.marked {
+            put_book(out, end, &self.instrument.name, &self.book)?;
         }
         Ok(())
     }

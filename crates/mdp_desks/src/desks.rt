@@ -2,18 +2,16 @@
 
 ghost use Rattle.std.specs.Prelude.{◌≡◌, ◌≢◌, ◌++◌, ◌≤◌, ℕ, All, AllPairs, IfOk, OnErr, OnOk, IfSome, IfNone, Some, slice_get, map, length};
 ghost use Rattle.std.specs.List.{flat_map};
-ghost use Rattle.mdp_templates.specs.Instrument.{HasDepth};
-ghost use Rattle.mdp_arbiter.specs.Channel.{ids_of};
+ghost use Rattle.mdp_templates.specs.Instrument.{HasDepth, ids_of};
 ghost use Rattle.mdp_desks.specs.Beside.{listed_in, marks_of};
-ghost use Rattle.mdp_desks.specs.Desks.{desk_at_start, desk_heard, desk_settled, desk_standing, desks_through, rebased_desks};
+ghost use Rattle.mdp_desks.specs.Desks.{desk_at_start, desk_heard, desk_jumped, desk_settled, desk_standing, desks_through, rebased_desks, snapshots_at};
 ghost use Rattle.mdp_desks.specs.Lines.{text_of};
 ghost use Rattle.mdp_print.specs.Pieces.{BeginsWith};
 
 use crate::desk::Desk;
 use crate::marked::Marked;
-use mdp_arbiter::Slots;
-use mdp_books::Place;
-use mdp_templates::{Entry, Instrument, Memory, Snapshot};
+use mdp_books::{EventEnd, Place};
+use mdp_templates::{Entry, Instrument, Memory, Slots, Snapshot};
 use std::alloc::Allocator;
 use std::marker::Model;
 
@@ -59,19 +57,18 @@ fn slot_named<A: Allocator + Copy>(
 // Appends the lines of the desks that are marked.
 fn put_marked<A: Allocator>(
     out: &mut Vec<u8, A>,
-    packet: u32,
-    message: u64,
+    end: EventEnd,
     desks: &[Desk],
     marked: &Marked<A>,
 ) -> Result<(), Memory>
     requires { marked.now ≡ marks_of desks.now }
     ensures ok { OnOk result (out.new.items ≡ out.old.items
-        ++ flat_map (text_of packet message) (map (desk_standing packet) desks.now)) }
+        ++ flat_map (text_of end) (map (desk_standing end.packet) desks.now)) }
     ensures err { OnErr result (BeginsWith out.new.items out.old.items) }
 {
     let mut from = 0;
     while let Some(n) = marked.next_from(from) {
-        desks[n].put(out, packet, message)?;
+        desks[n].put(out, end)?;
         from = n + 1;
     }
     Ok(())
@@ -101,6 +98,35 @@ fn rebase_all<A: Allocator>(desks: &mut [Desk], marked: &mut Marked<A>, bases: &
     let both = desks.len().min(bases.len());
     for n in 0..both {
         desks[n].jump(&bases[n]);
+        marked.put(n, desks[n].marked);
+    }
+}
+
+// Lets a desk jump to the snapshot at a slot, if there is one.
+fn jump_at(desk: &mut Desk, slot: u16, snapshots: &[Snapshot])
+    requires { HasDepth desk.old.instrument }
+    ensures { desk.new ≡ desk_jumped (slice_get snapshots.now slot) desk.old }
+{
+    if let Some(snapshot) = snapshots.get(usize::from(slot)) {
+        desk.rebase(snapshot);
+    }
+}
+
+// Replaces each desk's book by the snapshot at its slot, where there is one, and marks it.
+fn rebase_at<A: Allocator>(
+    desks: &mut [Desk],
+    marked: &mut Marked<A>,
+    slots: &[u16],
+    snapshots: &[Snapshot],
+)
+    requires marks { marked.old ≡ marks_of desks.old }
+    requires depths { All HasDepth (listed_in desks.old) }
+    ensures desks { desks.new ≡ rebased_desks (snapshots_at slots.now snapshots.now) desks.old }
+    ensures marks { marked.new ≡ marks_of desks.new }
+{
+    let both = desks.len().min(slots.len());
+    for n in 0..both {
+        jump_at(&mut desks[n], slots[n], snapshots);
         marked.put(n, desks[n].marked);
     }
 }
@@ -175,14 +201,14 @@ impl<A: Allocator + Copy> Desks<A> {
         }
     }
 
-    /// Appends the lines of the books that an event end in message `message` of packet `packet` prints. Where memory
-    /// runs out, what was there stays in front.
-    pub fn put_books(&self, out: &mut Vec<u8, A>, packet: u32, message: u64) -> Result<(), Memory>
+    /// Appends the lines of the books that an event end prints. Where memory runs out, what was there
+    /// stays in front.
+    pub fn put_books(&self, out: &mut Vec<u8, A>, end: EventEnd) -> Result<(), Memory>
         ensures ok { OnOk result (out.new.items ≡ out.old.items
-            ++ flat_map (text_of packet message) (map (desk_standing packet) self.now)) }
+            ++ flat_map (text_of end) (map (desk_standing end.packet) self.now)) }
         ensures err { OnErr result (BeginsWith out.new.items out.old.items) }
     {
-        put_marked(out, packet, message, &self.desks, &self.marked)
+        put_marked(out, end, &self.desks, &self.marked)
     }
 
     /// Forgets the marks where an event ended in packet `packet`.
@@ -197,5 +223,12 @@ impl<A: Allocator + Copy> Desks<A> {
         ensures { self.new ≡ rebased_desks bases.now self.old }
     {
         rebase_all(&mut self.desks, &mut self.marked, bases);
+    }
+
+    /// Replaces each book by the snapshot at the slot that stands beside it, where there is one.
+    pub fn rebase_from(&mut self, slots: &[u16], snapshots: &[Snapshot])
+        ensures { self.new ≡ rebased_desks (snapshots_at slots.now snapshots.now) self.old }
+    {
+        rebase_at(&mut self.desks, &mut self.marked, slots, snapshots);
     }
 }

@@ -7,7 +7,7 @@ ghost use Rattle.mdp_print.specs.Pieces.{BeginsWith};
 ghost use Rattle.mdp_print.specs.Texts.{consolidated_line};
 ghost use Rattle.mdp_desks.specs.Lines.{book_lines};
 
-use mdp_books::{Book, Sides};
+use mdp_books::{Book, EventEnd, Sides};
 use mdp_print::{Head, put_consolidated, put_direct, put_fault, put_implied, put_merged};
 use mdp_quotes::{Consolidated, Live, TopOfBook, are_in_order, merged_top};
 use mdp_templates::{Memory, Name};
@@ -33,31 +33,30 @@ fn put_totals<A: Allocator>(
     Ok(quotes.top())
 }
 
-/// Appends the lines of a book where message `message` of packet `packet` ends an event: its direct,
-/// implied and consolidated sides, or the place of its first impossible entry. Hands back the top of the
-/// consolidated sides; none of a faulty book. Where memory runs out, what was there stays in front.
+/// Appends the lines of a book where an event ends: its direct, implied and consolidated sides, or the
+/// place of its first impossible entry. Hands back the top of the consolidated sides; none of a faulty
+/// book. Where memory runs out, what was there stays in front.
 pub fn put_book<A: Allocator>(
     out: &mut Vec<u8, A>,
-    packet: u32,
-    message: u64,
+    end: EventEnd,
     name: &Name,
     live: &Live,
 ) -> Result<Option<TopOfBook>, Memory>
     ensures ok { OnOk result (out.new.items ≡ out.old.items
-        ++ book_lines packet message name.now live.now) }
+        ++ book_lines end name.now live.now) }
     ensures err { OnErr result (BeginsWith out.new.items out.old.items) }
     ensures top { IfOk result (λ top. top ≡ top_of_book live.now) }
 {
     match live.book() {
         Book::Good(sides) => {
-            let head = Head::new(packet, message, name);
+            let head = Head::new(end, name);
             put_direct(out, &head, sides)?;
             put_implied(out, &head, sides)?;
             let top = put_totals(out, &head, sides)?;
             Ok(Some(top))
         }
         Book::Fault(place) => {
-            put_fault(out, packet, message, name, place)?;
+            put_fault(out, end, name, place)?;
             Ok(None)
         }
     }

@@ -13,11 +13,11 @@ use Rattle.mdp_books.specs.Feed.{Sent, sent_from, sent_in, sent_by, behind, book
 use Rattle.mdp_books.proofs.Feeds.{behind-append}
 use Rattle.mdp_engine.specs.Feed.{IsFeed, IsIn, IsJumpedTo}
 use Rattle.mdp_desks.specs.Lines.{Seen}
-use Rattle.mdp_engine.specs.Owed.{Footing, footings_at_jump, footings_before_jump, seen_at, owed_moments_from, owed_moments_of, owed_moments_on}
+use Rattle.mdp_engine.specs.Owed.{Footing, footings_at_jump, footings_before_jump, owed_walk, owed_moments_from, owed_moments_of, owed_moments_on}
 use Rattle.mdp_engine.specs.Owed.Step.{pass}
 use Rattle.mdp_arbiter.specs.Machine.{Move}
 use Rattle.mdp_desks.specs.Shown.{Start, Standing, starts_at_jump, standing_after, standing_through, start_seen, starts_before_jump}
-use Rattle.mdp_desks.specs.Moments.{Moment, leapt, and_then, moments_from, moments_of, moments_on}
+use Rattle.mdp_desks.specs.Moments.{Moment, leapt, moments_from, moments_of, moments_on, walk_from}
 use Rattle.mdp_desks.proofs.Moments.{Alike, same_moments}
 use Rattle.mdp_desks.specs.Due.{is_printed}
 use Rattle.mdp_engine.specs.Owed.{steps_of}
@@ -121,7 +121,7 @@ record HearAlike (feed : List PacketContent) (fs : List Footing) (k : ℕ) (sinc
   same : AllByRecursion (SameHeard since before) (map (start_of feed) fs)
   heard : AllByRecursion (Heard feed k before) fs
 
-alike : (feed : List PacketContent) (fs : List Footing) (k : ℕ) → Alike (λ (m : Sent). m.packet ≡ k) (HearAlike feed fs k) (λ m since. map (start_seen since m) (map (start_of feed) fs)) and_then (λ m before. map (seen_at before m) fs) and_then
+alike : (feed : List PacketContent) (fs : List Footing) (k : ℕ) → Alike (λ (m : Sent). m.packet ≡ k) (HearAlike feed fs k) (walk_from (map (start_of feed) fs)) (owed_walk fs)
 alike feed fs k = record {
   same = λ m since before is both. all_same since before m (map (start_of feed) fs) both.same ∙ sym (all_seen feed before m fs (subst (λ (n : ℕ). AllByRecursion (Heard feed n before) fs) (sym is) both.heard));
   on = λ m since before is both. record {
@@ -141,7 +141,7 @@ pass_owed feed fs sh p fed at agrees =
     let here : sent_by (take 1 (drop (k - 1) feed)) ≡ sent_in p = ap sent_by (one_at feed (k - 1) p at.place) ∙ append-nil (sent_in p) in
     let both : HearAlike feed fs k sh.since front = record { same = subst (AllByRecursion (SameHeard sh.since front)) agrees.starts agrees.same; heard = all_heard feed k fs at.first fed } in
     ap (λ (starts : List Start). moments_from starts sh.since (sent_in p)) agrees.starts
-    ∙ same_moments (λ (m : Sent). m.packet ≡ k) (HearAlike feed fs k) (λ m since. map (start_seen since m) (map (start_of feed) fs)) and_then (λ m before. map (seen_at before m) fs) and_then (alike feed fs k) sh.since front (sent_in p) (of_packet k 1 p.messages) both
+    ∙ same_moments (λ (m : Sent). m.packet ≡ k) (HearAlike feed fs k) (walk_from (map (start_of feed) fs)) (owed_walk fs) (alike feed fs k) sh.since front (sent_in p) (of_packet k 1 p.messages) both
     ∙ ap (owed_moments_from fs front) (sym here)
 
 pub pass_agrees : (listed : List Instrument) (feed : List PacketContent) (fs : List Footing) (sh : Standing) (p : PacketContent) → IsIn feed p → Agrees feed p.number fs sh → Agrees feed (p.number + 1) fs (standing_through listed sh (passed p))

@@ -8,6 +8,7 @@ use Rattle.std.proofs.lemmas.Bool.{cases_Bool}
 use Rattle.std.proofs.lemmas.Bool.Decides.{Decides-int_eq}
 use Rattle.mdp_templates.specs.declared.instrument.InstrumentKind.{InstrumentKind}
 use Rattle.mdp_templates.specs.declared.instrument.InstrumentKind.TheVariants.{Outright, Calendar}
+use Rattle.mdp_books.specs.declared.event_end.EventEnd.{EventEnd}
 use Rattle.mdp_desks.specs.declared.desk.Desk.{Desk}
 use Rattle.mdp_engine.specs.declared.spreads.Spread.{Spread}
 use Rattle.mdp_desks.specs.Beside.{listed_in}
@@ -133,10 +134,10 @@ one_lacks n (Some n1) None is = inr refl
 one_lacks n None o2 is = inl refl
 
 -- a security that the event end doesn't show has no line
-at_end : (k j : ℕ) (seen : List (Option Seen)) (d : Desk) (o1 o2 : Option Seen) → legs_text k j seen (seen_as d) d.instrument.kind ≡ spread_text k j (Some (seen_as d)) o1 o2 → audit_text k j seen (desk_standing k d) ≡ spread_text k j (desk_standing k d) o1 o2
-at_end k j seen d o1 o2 is = by_base (nat_lt d.base k)
+at_end : (end : EventEnd) (seen : List (Option Seen)) (d : Desk) (o1 o2 : Option Seen) → legs_text end seen (seen_as d) d.instrument.kind ≡ spread_text end (Some (seen_as d)) o1 o2 → audit_text end seen (desk_standing end.packet d) ≡ spread_text end (desk_standing end.packet d) o1 o2
+at_end end seen d o1 o2 is = by_base (nat_lt d.base end.packet)
   where
-    by_base : (b : Bool) → audit_text k j seen (cond b (Some (seen_as d)) None) ≡ spread_text k j (cond b (Some (seen_as d)) None) o1 o2
+    by_base : (b : Bool) → audit_text end seen (cond b (Some (seen_as d)) None) ≡ spread_text end (cond b (Some (seen_as d)) None) o1 o2
     by_base true = is
     by_base false = refl
 
@@ -165,46 +166,46 @@ spread_under ds n d (Calendar id1 id2) spread at is =
     }
 
 -- a spread has the line of what is shown at its places
-audited : (k j : ℕ) (ds : List Desk) (n : ℕ) (d : Desk) (spread : Spread) → AllPairs (λ a b. a ≢ b) (ids_in ds) → slice_get ds n ≡ Some d → spread_in n (ids_in ds) d.instrument.kind ≡ Some spread
-    → audit_text k j (map (desk_standing k) ds) (desk_standing k d) ≡ spread_line k j ds spread
-audited k j ds n d spread differ at is = by_kind d.instrument.kind refl is
+audited : (end : EventEnd) (ds : List Desk) (n : ℕ) (d : Desk) (spread : Spread) → AllPairs (λ a b. a ≢ b) (ids_in ds) → slice_get ds n ≡ Some d → spread_in n (ids_in ds) d.instrument.kind ≡ Some spread
+    → audit_text end (map (desk_standing end.packet) ds) (desk_standing end.packet d) ≡ spread_line end ds spread
+audited end ds n d spread differ at is = by_kind d.instrument.kind refl is
   where
     shown : ℕ → Option Seen
-    shown slot = seen_there k (slice_get ds slot)
+    shown slot = seen_there end.packet (slice_get ds slot)
 
-    itself : n ≡ spread.slot → desk_standing k d ≡ seen_there k (slice_get ds spread.slot)
-    itself same = sym (ap (seen_there k) at) ∙ ap (λ (slot : ℕ). seen_there k (slice_get ds slot)) same
+    itself : n ≡ spread.slot → desk_standing end.packet d ≡ seen_there end.packet (slice_get ds spread.slot)
+    itself same = sym (ap (seen_there end.packet) at) ∙ ap (λ (slot : ℕ). seen_there end.packet (slice_get ds slot)) same
 
-    by_kind : (kind : InstrumentKind) → d.instrument.kind ≡ kind → spread_in n (ids_in ds) kind ≡ Some spread → audit_text k j (map (desk_standing k) ds) (desk_standing k d) ≡ spread_line k j ds spread
+    by_kind : (kind : InstrumentKind) → d.instrument.kind ≡ kind → spread_in n (ids_in ds) kind ≡ Some spread → audit_text end (map (desk_standing end.packet) ds) (desk_standing end.packet d) ≡ spread_line end ds spread
     by_kind Outright same is = absurd cc
     by_kind (Calendar id1 id2) same is =
         let places = placed n (slot_in (ids_in ds) id1) (slot_in (ids_in ds) id2) spread is in
-        let first = seen_here k id1 ds spread.leg1 differ (slot_holds (ids_in ds) id1 spread.leg1 places.leg1) in
-        let second = seen_here k id2 ds spread.leg2 differ (slot_holds (ids_in ds) id2 spread.leg2 places.leg2) in
-        let legs : legs_text k j (map (desk_standing k) ds) (seen_as d) d.instrument.kind ≡ spread_text k j (Some (seen_as d)) (seen_there k (slice_get ds spread.leg1)) (seen_there k (slice_get ds spread.leg2)) =
-        ap (legs_text k j (map (desk_standing k) ds) (seen_as d)) same
-        ∙ ap (λ (o : Option Seen). spread_text k j (Some (seen_as d)) o (seen_of id2 (map (desk_standing k) ds))) first
-        ∙ ap (λ (o : Option Seen). spread_text k j (Some (seen_as d)) (seen_there k (slice_get ds spread.leg1)) o) second in
-        at_end k j (map (desk_standing k) ds) d (seen_there k (slice_get ds spread.leg1)) (seen_there k (slice_get ds spread.leg2)) legs
-        ∙ ap (λ (o : Option Seen). spread_text k j o (seen_there k (slice_get ds spread.leg1)) (seen_there k (slice_get ds spread.leg2))) (itself places.slot)
+        let first = seen_here end.packet id1 ds spread.leg1 differ (slot_holds (ids_in ds) id1 spread.leg1 places.leg1) in
+        let second = seen_here end.packet id2 ds spread.leg2 differ (slot_holds (ids_in ds) id2 spread.leg2 places.leg2) in
+        let legs : legs_text end (map (desk_standing end.packet) ds) (seen_as d) d.instrument.kind ≡ spread_text end (Some (seen_as d)) (seen_there end.packet (slice_get ds spread.leg1)) (seen_there end.packet (slice_get ds spread.leg2)) =
+        ap (legs_text end (map (desk_standing end.packet) ds) (seen_as d)) same
+        ∙ ap (λ (o : Option Seen). spread_text end (Some (seen_as d)) o (seen_of id2 (map (desk_standing end.packet) ds))) first
+        ∙ ap (λ (o : Option Seen). spread_text end (Some (seen_as d)) (seen_there end.packet (slice_get ds spread.leg1)) o) second in
+        at_end end (map (desk_standing end.packet) ds) d (seen_there end.packet (slice_get ds spread.leg1)) (seen_there end.packet (slice_get ds spread.leg2)) legs
+        ∙ ap (λ (o : Option Seen). spread_text end o (seen_there end.packet (slice_get ds spread.leg1)) (seen_there end.packet (slice_get ds spread.leg2))) (itself places.slot)
 
-no_second : (k j : ℕ) (s : Seen) (o : Option Seen) → spread_text k j (Some s) o None ≡ []
-no_second k j s None = refl
-no_second k j s (Some leg1) = refl
+no_second : (end : EventEnd) (s : Seen) (o : Option Seen) → spread_text end (Some s) o None ≡ []
+no_second end s None = refl
+no_second end s (Some leg1) = refl
 
 -- a security with no legs there has no line
-not_audited : (k j : ℕ) (ds : List Desk) (n : ℕ) (d : Desk) → spread_in n (ids_in ds) d.instrument.kind ≡ None → audit_text k j (map (desk_standing k) ds) (desk_standing k d) ≡ []
-not_audited k j ds n d is = at_end k j (map (desk_standing k) ds) d None None (by_kind d.instrument.kind is) ∙ no_lines (desk_standing k d)
+not_audited : (end : EventEnd) (ds : List Desk) (n : ℕ) (d : Desk) → spread_in n (ids_in ds) d.instrument.kind ≡ None → audit_text end (map (desk_standing end.packet) ds) (desk_standing end.packet d) ≡ []
+not_audited end ds n d is = at_end end (map (desk_standing end.packet) ds) d None None (by_kind d.instrument.kind is) ∙ no_lines (desk_standing end.packet d)
   where
-    no_lines : (o : Option Seen) → spread_text k j o None None ≡ []
+    no_lines : (o : Option Seen) → spread_text end o None None ≡ []
     no_lines None = refl
     no_lines (Some s) = refl
 
-    by_kind : (kind : InstrumentKind) → spread_in n (ids_in ds) kind ≡ None → legs_text k j (map (desk_standing k) ds) (seen_as d) kind ≡ spread_text k j (Some (seen_as d)) None None
+    by_kind : (kind : InstrumentKind) → spread_in n (ids_in ds) kind ≡ None → legs_text end (map (desk_standing end.packet) ds) (seen_as d) kind ≡ spread_text end (Some (seen_as d)) None None
     by_kind Outright is = refl
     by_kind (Calendar id1 id2) is = elim (one_lacks n (slot_in (ids_in ds) id1) (slot_in (ids_in ds) id2) is) [
-      | inl lacks ↦ ap (λ (o : Option Seen). spread_text k j (Some (seen_as d)) o (seen_of id2 (map (desk_standing k) ds))) (unseen k id1 ds (slot_none (ids_in ds) id1 lacks))
-      | inr lacks ↦ ap (λ (o : Option Seen). spread_text k j (Some (seen_as d)) (seen_of id1 (map (desk_standing k) ds)) o) (unseen k id2 ds (slot_none (ids_in ds) id2 lacks)) ∙ no_second k j (seen_as d) (seen_of id1 (map (desk_standing k) ds))
+      | inl lacks ↦ ap (λ (o : Option Seen). spread_text end (Some (seen_as d)) o (seen_of id2 (map (desk_standing end.packet) ds))) (unseen end.packet id1 ds (slot_none (ids_in ds) id1 lacks))
+      | inr lacks ↦ ap (λ (o : Option Seen). spread_text end (Some (seen_as d)) (seen_of id1 (map (desk_standing end.packet) ds)) o) (unseen end.packet id2 ds (slot_none (ids_in ds) id2 lacks)) ∙ no_second end (seen_as d) (seen_of id1 (map (desk_standing end.packet) ds))
     ]
 
 -- ---- all spreads
@@ -222,28 +223,28 @@ later_of n d rest ds are m = let same : n + suc m ≡ n + 1 + m = omega arith in
 itself_from : (ds : List Desk) → AreFrom 0 ds ds
 itself_from ds m = let same : m ≡ 0 + m = omega arith in ap (λ (i : ℕ). slice_get ds i) same
 
-all_audited : (k j : ℕ) (ds rest : List Desk) (n : ℕ) → AllPairs (λ a b. a ≢ b) (ids_in ds) → AreFrom n rest ds
-    → flat_map (audit_text k j (map (desk_standing k) ds)) (map (desk_standing k) rest) ≡ flat_map (spread_line k j ds) (spreads_from n (ids_in ds) (listed_in rest))
-all_audited k j ds [] n differ are = refl
-all_audited k j ds (d ∷ rest) n differ are = one_more (spread_in n (ids_in ds) d.instrument.kind) refl (all_audited k j ds rest (n + 1) differ (later_of n d rest ds are))
+all_audited : (end : EventEnd) (ds rest : List Desk) (n : ℕ) → AllPairs (λ a b. a ≢ b) (ids_in ds) → AreFrom n rest ds
+    → flat_map (audit_text end (map (desk_standing end.packet) ds)) (map (desk_standing end.packet) rest) ≡ flat_map (spread_line end ds) (spreads_from n (ids_in ds) (listed_in rest))
+all_audited end ds [] n differ are = refl
+all_audited end ds (d ∷ rest) n differ are = one_more (spread_in n (ids_in ds) d.instrument.kind) refl (all_audited end ds rest (n + 1) differ (later_of n d rest ds are))
   where
     one_more : (o : Option Spread) → spread_in n (ids_in ds) d.instrument.kind ≡ o
-        → flat_map (audit_text k j (map (desk_standing k) ds)) (map (desk_standing k) rest) ≡ flat_map (spread_line k j ds) (spreads_from (n + 1) (ids_in ds) (listed_in rest))
-        → audit_text k j (map (desk_standing k) ds) (desk_standing k d) ++ flat_map (audit_text k j (map (desk_standing k) ds)) (map (desk_standing k) rest)
-        ≡ flat_map (spread_line k j ds) (with_spread (spread_in n (ids_in ds) d.instrument.kind) (spreads_from (n + 1) (ids_in ds) (listed_in rest)))
+        → flat_map (audit_text end (map (desk_standing end.packet) ds)) (map (desk_standing end.packet) rest) ≡ flat_map (spread_line end ds) (spreads_from (n + 1) (ids_in ds) (listed_in rest))
+        → audit_text end (map (desk_standing end.packet) ds) (desk_standing end.packet d) ++ flat_map (audit_text end (map (desk_standing end.packet) ds)) (map (desk_standing end.packet) rest)
+        ≡ flat_map (spread_line end ds) (with_spread (spread_in n (ids_in ds) d.instrument.kind) (spreads_from (n + 1) (ids_in ds) (listed_in rest)))
     one_more None is others =
-        ap (λ (t : List ℕ). t ++ flat_map (audit_text k j (map (desk_standing k) ds)) (map (desk_standing k) rest)) (not_audited k j ds n d is)
+        ap (λ (t : List ℕ). t ++ flat_map (audit_text end (map (desk_standing end.packet) ds)) (map (desk_standing end.packet) rest)) (not_audited end ds n d is)
         ∙ others
-        ∙ ap (λ (o : Option Spread). flat_map (spread_line k j ds) (with_spread o (spreads_from (n + 1) (ids_in ds) (listed_in rest)))) (sym is)
+        ∙ ap (λ (o : Option Spread). flat_map (spread_line end ds) (with_spread o (spreads_from (n + 1) (ids_in ds) (listed_in rest)))) (sym is)
     one_more (Some spread) is others =
-        ap (λ (t : List ℕ). t ++ flat_map (audit_text k j (map (desk_standing k) ds)) (map (desk_standing k) rest)) (audited k j ds n d spread differ (here_of n d rest ds are) is)
-        ∙ ap (λ (t : List ℕ). spread_line k j ds spread ++ t) others
-        ∙ ap (λ (o : Option Spread). flat_map (spread_line k j ds) (with_spread o (spreads_from (n + 1) (ids_in ds) (listed_in rest)))) (sym is)
+        ap (λ (t : List ℕ). t ++ flat_map (audit_text end (map (desk_standing end.packet) ds)) (map (desk_standing end.packet) rest)) (audited end ds n d spread differ (here_of n d rest ds are) is)
+        ∙ ap (λ (t : List ℕ). spread_line end ds spread ++ t) others
+        ∙ ap (λ (o : Option Spread). flat_map (spread_line end ds) (with_spread o (spreads_from (n + 1) (ids_in ds) (listed_in rest)))) (sym is)
 
 -- the lines of all spreads are those of the listed securities
-pub audits_are : (k j : ℕ) (ds : List Desk) (spreads : List Spread) → AllPairs (λ a b. a ≢ b) (ids_in ds) → spreads ≡ spreads_from 0 (ids_in ds) (listed_in ds)
-    → flat_map (audit_text k j (map (desk_standing k) ds)) (map (desk_standing k) ds) ≡ flat_map (spread_line k j ds) spreads
-audits_are k j ds spreads differ are = all_audited k j ds ds 0 differ (itself_from ds) ∙ ap (flat_map (spread_line k j ds)) (sym are)
+pub audits_are : (end : EventEnd) (ds : List Desk) (spreads : List Spread) → AllPairs (λ a b. a ≢ b) (ids_in ds) → spreads ≡ spreads_from 0 (ids_in ds) (listed_in ds)
+    → flat_map (audit_text end (map (desk_standing end.packet) ds)) (map (desk_standing end.packet) ds) ≡ flat_map (spread_line end ds) spreads
+audits_are end ds spreads differ are = all_audited end ds ds 0 differ (itself_from ds) ∙ ap (flat_map (spread_line end ds)) (sym are)
 
 all_under : (ds rest : List Desk) (n : ℕ) → AreFrom n rest ds → AllByRecursion (IsUnder (length ds)) (spreads_from n (ids_in ds) (listed_in rest))
 all_under ds [] n are = tt

@@ -8,7 +8,7 @@ use Rattle.mdp_templates.specs.Snapshot.{SnapshotContent}
 use Rattle.mdp_templates.specs.declared.instrument.Instrument.{Instrument}
 use Rattle.mdp_quotes.proofs.Prices.{int_eq_other}
 use Rattle.mdp_arbiter.specs.Accepted.{Event, came, recovered, closed, accepted_packets, accepted_snapshots, highest_of, first_of, newer_of, newest_snapshot}
-use Rattle.mdp_arbiter.specs.Channel.{ids_of}
+use Rattle.mdp_templates.specs.Instrument.{ids_of}
 use Rattle.mdp_arbiter.proofs.Appended.{first-within}
 use Rattle.mdp_engine.specs.Feed.{NumberedFrom, IsIn, IsSnapshotOf}
 use Rattle.mdp_engine.specs.Honest.{LawOfHonestFeeds}

@@ -9,7 +9,8 @@ use Rattle.mdp_templates.specs.declared.instrument.Instrument.{Instrument}
 use Rattle.mdp_arbiter.specs.Accepted.{Event, came, recovered, closed, accepted_packets, first_of, newest_snapshot}
 use Rattle.mdp_arbiter.specs.Machine.{Move, State, first_state, after, after_all, settle, go_on, Settles}
 use Rattle.mdp_arbiter.specs.Machine.Move.{passed, jumped}
-use Rattle.mdp_arbiter.specs.Channel.{ListedChannel, channel_of, ids_of}
+use Rattle.mdp_templates.specs.Instrument.{ids_of}
+use Rattle.mdp_arbiter.specs.Channel.{ListedChannel, channel_of}
 use Rattle.mdp_arbiter.proofs.Runs.{settle_settles, law_of_passes}
 use Rattle.mdp_arbiter.proofs.Jumps.{law_of_jumps}
 use Rattle.mdp_engine.specs.Feed.{IsIn, IsSnapshotOf, IsJumpedTo}
@@ -63,7 +64,7 @@ settled_are channel feed es s (passed p ∷ moves) honest is =
     let at : IsIn feed p = subst (λ (o : Option PacketContent). IfSome o (IsIn feed)) first.1 (honest.packets s.next) in
     (first.0, at, settled_are channel feed es (after s (passed p)) moves honest is.1)
 settled_are channel feed es s (jumped old new snapshots ∷ moves) honest is =
-    let recovery = law_of_jumps (channel_of channel) es s old new snapshots is.0 in
+    let recovery = (law_of_jumps (channel_of channel) es s old new snapshots is.0).1 in
     let books = honest.snapshots es [] (sym (append-nil es)) in
     (jumped_to feed es new channel.listed snapshots recovery.newest books recovery.covered, settled_are channel feed es (after s (jumped old new snapshots)) moves honest is.1)
 

@@ -5,12 +5,6 @@ pub mod HonestFeeds
 pub mod GivingUp
 pub mod Moving
 pub mod Auditing
-pub mod Merging
-pub mod Keeping
-pub mod Telling
-pub mod Collecting
-pub mod Ascending
-pub mod Batching
 pub mod Marking
 pub mod Noting
 pub mod Owing

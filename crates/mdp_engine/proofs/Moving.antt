@@ -10,7 +10,8 @@ use Rattle.mdp_print.specs.Texts.{jump_line}
 use Rattle.mdp_arbiter.specs.Accepted.{Event, came, newest_snapshots, newest_snapshot}
 use Rattle.mdp_arbiter.specs.Machine.{State, Move, Settles, first_state, next_move, after, after_all, state_at, trace}
 use Rattle.mdp_arbiter.specs.Machine.Move.{passed, jumped}
-use Rattle.mdp_arbiter.specs.Channel.{Channel, ids_of}
+use Rattle.mdp_templates.specs.Instrument.{ids_of}
+use Rattle.mdp_arbiter.specs.Channel.{Channel}
 use Rattle.mdp_arbiter.specs.Arbiter.{View as ArbiterView, state}
 use Rattle.mdp_arbiter.specs.Moves.{Answers, after_move}
 use Rattle.mdp_arbiter.specs.Standing.{HasPassed, StandsAt, StepsAs}
@@ -73,7 +74,7 @@ shown_step listed es moves drained now mid desks held (Pass q) (Some (passed p))
     ∙ sym (append_assoc drained now.held (text_of_moments (passed_moments (sent_in p) now.desks))) in
     record { move = passed p; possible = possible; state = next; shows = shows_passed listed moves p now.desks desks (drained ++ now.held) (drained ++ held) same text under.shows }
 shown_step listed es moves drained now mid desks held (Jump from to) (Some (jumped old new snapshots)) possible answers next newest under are more =
-    let recovery = law_of_jumps now.arbiter.channel es (state now.arbiter) old new snapshots possible in
+    let recovery = (law_of_jumps now.arbiter.channel es (state now.arbiter) old new snapshots possible).1 in
     let taken : mid.newest ≡ map (λ (s : SnapshotContent). Some s) snapshots = newest ∙ recovery.newest in
     let many : length snapshots ≡ length listed = as_many listed now.arbiter.channel.ids es snapshots under.ids recovery.newest in
     let same : desks ≡ rebased_desks (map (λ (s : SnapshotContent). Some s) snapshots) now.desks = are ∙ ap (λ (b : List (Option SnapshotContent)). rebased_desks b now.desks) taken in
@@ -139,19 +140,17 @@ moves_settled old now new step is so_far kept steps channel desks held listed es
     let still : next_move now.arbiter.channel es (state now.arbiter) ≡ None = no_move (next_move now.arbiter.channel es (state now.arbiter)) step is s.answer in
     let none_more : next_move old.arbiter.channel es (state now.arbiter) ≡ None =
     ap (λ (c : Channel). next_move c es (state now.arbiter)) (sym kept) ∙ still in
-    let settled = leads_settled old.arbiter.channel es (state old.arbiter) so.made (state now.arbiter) so.leads none_more in
-    record {
-      made = so.made;
-      settles = settled.0;
-      state = s.state ∙ ap (after_move (state now.arbiter)) still ∙ settled.1;
-      under_way = record {
+    let settled = leads_settled old.arbiter.channel es (state old.arbiter) so.made (state now.arbiter) so.leads none_more in (
+      so.made,
+      record { settles = settled.0; state = s.state ∙ ap (after_move (state now.arbiter)) still ∙ settled.1 },
+      record {
         stands = s.stands;
         ids = ap (λ (c : Channel). c.ids) channel ∙ so.under_way.ids;
         shows =
             subst (λ (ds : List Desk). Shows listed (moves ++ so.made) ds (drained ++ new.held)) (sym desks)
             (subst (λ (h : List ℕ). Shows listed (moves ++ so.made) now.desks (drained ++ h)) (sym held) so.under_way.shows);
-      };
-    }
+      },
+    )
 
 -- ---- an event
 
@@ -168,22 +167,22 @@ stands_further listed es e drained old mid new taken keeps channel desks held ke
           (subst (λ (h : List ℕ). Shows listed before old.desks (drained ++ h)) (sym held) stands.shows);
     } in
     let moved = advances listed (es ++ e ∷ []) before drained under in
-    let settles : Settles old.arbiter.channel (es ++ e ∷ []) (state_at old.arbiter.channel es) moved.made =
-    subst (λ (s : State). Settles old.arbiter.channel (es ++ e ∷ []) s moved.made) (keeps ∙ stands.settled.state)
-    (subst (λ (c : Channel). Settles c (es ++ e ∷ []) (state mid.arbiter) moved.made) channel moved.settles) in
-    let law = law_of_events old.arbiter.channel es e moved.made settles in
+    let settles : Settles old.arbiter.channel (es ++ e ∷ []) (state_at old.arbiter.channel es) moved.0 =
+    subst (λ (s : State). Settles old.arbiter.channel (es ++ e ∷ []) s moved.0) (keeps ∙ stands.settled.state)
+    (subst (λ (c : Channel). Settles c (es ++ e ∷ []) (state mid.arbiter) moved.0) channel moved.1.settles) in
+    let law = law_of_events old.arbiter.channel es e moved.0 settles in
     let same : new.arbiter.channel ≡ old.arbiter.channel = kept ∙ channel in
     record {
       settled = record {
-        stands = moved.under_way.stands;
-        ids = moved.under_way.ids;
+        stands = moved.2.stands;
+        ids = moved.2.ids;
         state =
-            moved.state ∙ ap (λ (s : State). after_all s moved.made) (keeps ∙ stands.settled.state) ∙ sym law.1
+            moved.1.state ∙ ap (λ (s : State). after_all s moved.0) (keeps ∙ stands.settled.state) ∙ sym law.1
             ∙ ap (λ (c : Channel). state_at c (es ++ e ∷ [])) (sym same);
       };
       shows =
           subst (λ (c : Channel). Shows listed (trace c (es ++ e ∷ [])) new.desks (drained ++ new.held)) (sym same)
-          (subst (λ (ms : List Move). Shows listed ms new.desks (drained ++ new.held)) (sym law.0) moved.under_way.shows);
+          (subst (λ (ms : List Move). Shows listed ms new.desks (drained ++ new.held)) (sym law.0) moved.2.shows);
     }
 
 -- a packet that passed at once and was shown

@@ -5,6 +5,7 @@ use Rattle.std.specs.List.{Contains, flat_map}
 use Rattle.std.proofs.lemmas.Bool.{cases_lt, cases_eq, cases_Bool}
 use Rattle.std.proofs.lemmas.List.{get_or-map, get_or_default, length-map, length-replicate, length-set, map-set, get_or-set_same, get_or-set_other, at_drop_more, drop_all, take_at}
 use Rattle.std.proofs.lemmas.List.Elements.{Contains-push, Contains-push_cases, Contains-append_left}
+use Rattle.mdp_books.specs.declared.event_end.EventEnd.{EventEnd}
 use Rattle.mdp_desks.specs.declared.desk.Desk.{Desk}
 use Rattle.mdp_desks.specs.Beside.{AreClear, IsFirstSet, marks_of}
 use Rattle.mdp_desks.specs.Lines.{Seen, spread_text}
@@ -186,27 +187,27 @@ unprinted k (d ∷ ds) zero off s is = by_base (nat_lt d.base k) refl
     by_base false under = let none : None ≡ Some s = rw under at is in absurd (cc none)
 unprinted k (d ∷ ds) (suc n) off s is = unprinted k ds n off s is
 
-no_text : (k j : ℕ) (o1 o2 o3 : Option Seen) → ((s : Seen) → o1 ≡ Some s → s.printed ≡ false) → ((s : Seen) → o2 ≡ Some s → s.printed ≡ false) → ((s : Seen) → o3 ≡ Some s → s.printed ≡ false) → spread_text k j o1 o2 o3 ≡ []
-no_text k j None o2 o3 p1 p2 p3 = refl
-no_text k j (Some a) None o3 p1 p2 p3 = refl
-no_text k j (Some a) (Some b) None p1 p2 p3 = refl
-no_text k j (Some a) (Some b) (Some e) p1 p2 p3 =
+no_text : (end : EventEnd) (o1 o2 o3 : Option Seen) → ((s : Seen) → o1 ≡ Some s → s.printed ≡ false) → ((s : Seen) → o2 ≡ Some s → s.printed ≡ false) → ((s : Seen) → o3 ≡ Some s → s.printed ≡ false) → spread_text end o1 o2 o3 ≡ []
+no_text end None o2 o3 p1 p2 p3 = refl
+no_text end (Some a) None o3 p1 p2 p3 = refl
+no_text end (Some a) (Some b) None p1 p2 p3 = refl
+no_text end (Some a) (Some b) (Some e) p1 p2 p3 =
     let x = p1 a refl in
     let y = p2 b refl in
     let z = p3 e refl in
     rw (x, y, z) refl
 
-quiet_line : (k j : ℕ) (ds : List Desk) (spread : Spread) → IsQuiet (marks_of ds) spread → spread_line k j ds spread ≡ []
-quiet_line k j ds spread quiet =
-    no_text k j (seen_there k (slice_get ds spread.slot)) (seen_there k (slice_get ds spread.leg1)) (seen_there k (slice_get ds spread.leg2))
-    (unprinted k ds spread.slot quiet.slot) (unprinted k ds spread.leg1 quiet.leg1) (unprinted k ds spread.leg2 quiet.leg2)
+quiet_line : (end : EventEnd) (ds : List Desk) (spread : Spread) → IsQuiet (marks_of ds) spread → spread_line end ds spread ≡ []
+quiet_line end ds spread quiet =
+    no_text end (seen_there end.packet (slice_get ds spread.slot)) (seen_there end.packet (slice_get ds spread.leg1)) (seen_there end.packet (slice_get ds spread.leg2))
+    (unprinted end.packet ds spread.slot quiet.slot) (unprinted end.packet ds spread.leg1 quiet.leg1) (unprinted end.packet ds spread.leg2 quiet.leg2)
 
 -- a spread of which no part is marked has no line
 abbrev pub IsSilent : List Bool → (Spread → List ℕ) → Type 0
 IsSilent marks line = (spread : Spread) → IsQuiet marks spread → line spread ≡ []
 
-pub desks_silent : (k j : ℕ) (ds : List Desk) (marks : List Bool) → marks ≡ marks_of ds → IsSilent marks (spread_line k j ds)
-desks_silent k j ds marks are spread quiet = quiet_line k j ds spread (subst (λ (ms : List Bool). IsQuiet ms spread) are quiet)
+pub desks_silent : (end : EventEnd) (ds : List Desk) (marks : List Bool) → marks ≡ marks_of ds → IsSilent marks (spread_line end ds)
+desks_silent end ds marks are spread quiet = quiet_line end ds spread (subst (λ (ms : List Bool). IsQuiet ms spread) are quiet)
 
 -- ---- the lines of the spreads from one place on, where quiet spreads have none
 

@@ -3,7 +3,8 @@ use Rattle.std.proofs.Common.{◌≡◌, ◌<◌, ℤ, ℕ, ◌+◌, List, [], �
 use Rattle.std.proofs.lemmas.List.{map-append, take_more}
 use Rattle.mdp_templates.specs.declared.instrument.Instrument.{Instrument}
 use Rattle.mdp_arbiter.specs.Accepted.{Event}
-use Rattle.mdp_arbiter.specs.Channel.{Channel, channel_of, ids_of}
+use Rattle.mdp_templates.specs.Instrument.{ids_of}
+use Rattle.mdp_arbiter.specs.Channel.{Channel, channel_of}
 use Rattle.mdp_arbiter.specs.Machine.{moves_of, trace}
 use Rattle.mdp_desks.specs.Moments.{shown_lines, text_of_moments}
 use Rattle.mdp_engine.specs.Owed.{steps_of, lines}

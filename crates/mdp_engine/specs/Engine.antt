@@ -7,7 +7,7 @@ use Rattle.mdp_templates.specs.declared.instrument.Instrument.{Instrument}
 use Rattle.mdp_books.specs.Feed.{sent_by, book_at, behind}
 use Rattle.mdp_arbiter.specs.Accepted.{Event}
 use Rattle.mdp_arbiter.specs.Machine.{Move, Settles, after_all, trace, state_at}
-use Rattle.mdp_arbiter.specs.Channel.{ids_of}
+use Rattle.mdp_templates.specs.Instrument.{ids_of}
 use Rattle.mdp_arbiter.specs.Arbiter.{View as ArbiterView, state}
 use Rattle.mdp_arbiter.specs.Codes.{view_code as arbiter_code}
 use Rattle.mdp_arbiter.specs.Standing.{StandsAt}
@@ -80,15 +80,15 @@ pub record IsUnderWay (listed : List Instrument) (es : List Event) (moves : List
   pub ids : v.arbiter.channel.ids ≡ ids_of listed
   pub shows : Shows listed moves v.desks (drained ++ v.held)
 
--- from one view to another the moves that are possible were made, until none is, and shown
-pub record HasMoved (listed : List Instrument) (es : List Event) (moves : List Move) (drained : List ℕ)
-    (old new : View) : Type 0 where
-  pub made : List Move
-  pub settles : Settles old.arbiter.channel es (state old.arbiter) made
-  pub state : state new.arbiter ≡ after_all (state old.arbiter) made
-  pub under_way : IsUnderWay listed es (moves ++ made) drained new
+-- from one arbiter's view to another the moves that are possible were made, until none is: these
+pub record HasMoved (es : List Event) (old new : ArbiterView) (made : List Move) : Type 0 where
+  pub settles : Settles old.channel es (state old) made
+  pub state : state new ≡ after_all (state old) made
 
+-- from one view to another the moves that are possible were made, and shown
 abbrev pub Advances : View → View → Type 0
 Advances old new =
     (listed : List Instrument) (es : List Event) (moves : List Move) (drained : List ℕ)
-    → IsUnderWay listed es moves drained old → HasMoved listed es moves drained old new
+    → IsUnderWay listed es moves drained old
+    → (made : List Move) × HasMoved es old.arbiter new.arbiter made
+    × IsUnderWay listed es (moves ++ made) drained new

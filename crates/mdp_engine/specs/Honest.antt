@@ -5,7 +5,8 @@ use Rattle.mdp_templates.specs.Packet.{PacketContent}
 use Rattle.mdp_templates.specs.Snapshot.{SnapshotContent}
 use Rattle.mdp_templates.specs.declared.instrument.Instrument.{Instrument}
 use Rattle.mdp_arbiter.specs.Accepted.{Event, accepted_packets, accepted_snapshots, first_of, newest_snapshot}
-use Rattle.mdp_arbiter.specs.Channel.{ListedChannel, ids_of}
+use Rattle.mdp_templates.specs.Instrument.{ids_of}
+use Rattle.mdp_arbiter.specs.Channel.{ListedChannel}
 use Rattle.mdp_engine.specs.Feed.{IsFeed, IsIn, IsSnapshotOf}
 use Rattle.mdp_engine.specs.Agreed.{AreOf}
 use Rattle.mdp_arbiter.specs.Machine.{moves_of}

@@ -6,8 +6,6 @@ pub mod Parts
 pub mod Honest
 pub mod Engine
 pub mod Steps
-pub mod Rounds
-pub mod RoundLaws
 pub mod Marks
 pub mod MomentLaws
 pub mod GivenUp

@@ -8,7 +8,7 @@ use Rattle.mdp_books.specs.Feed.{Sent, sent_by, book_at, behind}
 use Rattle.mdp_arbiter.specs.Machine.{Move}
 use Rattle.mdp_arbiter.specs.Machine.Move.{passed, jumped}
 use Rattle.mdp_desks.specs.Lines.{Seen}
-use Rattle.mdp_desks.specs.Moments.{Moment, leapt, moments_through, and_then, text_of_moments}
+use Rattle.mdp_desks.specs.Moments.{Moment, leapt, Walk, moments_through, and_then, text_of_moments}
 use Rattle.mdp_desks.specs.Due.{is_printed}
 
 -- a step of a run: a packet passes, or recovery jumps from one number to a later one and sets each listed security's
@@ -48,8 +48,11 @@ seen_at before m i =
     }) else None
 
 -- at each message in turn, behind these ones
+abbrev pub owed_walk : List Footing → Walk (List Sent)
+owed_walk fs = record { shows = λ m so_far. map (seen_at so_far m) fs; goes = and_then }
+
 abbrev pub owed_moments_from : List Footing → List Sent → List Sent → List Moment
-owed_moments_from fs before ms = moments_through (λ m so_far. map (seen_at so_far m) fs) and_then before ms
+owed_moments_from fs before ms = moments_through (owed_walk fs) before ms
 
 -- those of a step, and of steps one after another, where the listed securities have these bases
 abbrev pub owed_moments_of : List PacketContent → List Footing → Step → List Moment

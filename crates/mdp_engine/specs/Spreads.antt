@@ -6,7 +6,8 @@ use Rattle.std.specs.Ordering.{int_eq}
 use Rattle.mdp_templates.specs.declared.instrument.Instrument.{Instrument}
 use Rattle.mdp_templates.specs.declared.instrument.InstrumentKind.{InstrumentKind}
 use Rattle.mdp_templates.specs.declared.instrument.InstrumentKind.TheVariants.{Outright, Calendar}
-use Rattle.mdp_arbiter.specs.Channel.{ids_of}
+use Rattle.mdp_templates.specs.Instrument.{ids_of}
+use Rattle.mdp_books.specs.declared.event_end.EventEnd.{EventEnd}
 use Rattle.mdp_desks.specs.declared.desk.Desk.{Desk}
 use Rattle.mdp_desks.specs.Desks.{desk_standing}
 use Rattle.mdp_desks.specs.Lines.{Seen, spread_text}
@@ -53,7 +54,8 @@ seen_there packet None = None
 seen_there packet (Some d) = desk_standing packet d
 
 -- the line of the calendar spread at these places, where an event ends
-abbrev pub spread_line : ℕ → ℕ → List Desk → Spread → List ℕ
-spread_line packet message desks spread =
-    spread_text packet message (seen_there packet (slice_get desks spread.slot))
-    (seen_there packet (slice_get desks spread.leg1)) (seen_there packet (slice_get desks spread.leg2))
+abbrev pub spread_line : EventEnd → List Desk → Spread → List ℕ
+spread_line end desks spread =
+    spread_text end (seen_there end.packet (slice_get desks spread.slot))
+    (seen_there end.packet (slice_get desks spread.leg1))
+    (seen_there end.packet (slice_get desks spread.leg2))

@@ -13,7 +13,8 @@ ghost use Rattle.mdp_desks.specs.Moments.{text_of_moments};
 use crate::audits::put_audits;
 use crate::parts::{mark_spreads, parts_of};
 use crate::spreads::{Spread, spreads_of};
-use mdp_desks::{Desks, Marked};
+use mdp_books::EventEnd;
+use mdp_desks::{Desk, Desks, Marked};
 use mdp_print::put_jump;
 use mdp_templates::{Entry, Instrument, Memory, Message, Packet, Snapshot};
 use std::alloc::Allocator;
@@ -60,6 +61,13 @@ impl<A: Allocator + Copy> AuditedDesks<A> {
         })
     }
 
+    /// Lends the desks, in listed order.
+    pub fn as_slice(&self) -> &[Desk]
+        ensures { result.now ≡ self.now }
+    {
+        self.desks.as_slice()
+    }
+
     // Takes the entries of a message.
     fn hear(&mut self, packet: u32, message: u64, entries: &[Entry])
         requires { length entries.now ≤ 255 }
@@ -69,18 +77,17 @@ impl<A: Allocator + Copy> AuditedDesks<A> {
     }
 
     // Appends the lines of the calendar spreads that an event end audits.
-    fn put_spreads(&mut self, out: &mut Vec<u8, A>, packet: u32, message: u64) -> Result<(), Memory>
+    fn put_spreads(&mut self, out: &mut Vec<u8, A>, end: EventEnd) -> Result<(), Memory>
         ensures same { self.new ≡ self.old }
         ensures text { OnOk result (out.new.items ≡ out.old.items
-            ++ flat_map (audit_text packet message (map (desk_standing packet) self.old))
-            (map (desk_standing packet) self.old)) }
+            ++ flat_map (audit_text end (map (desk_standing end.packet) self.old))
+            (map (desk_standing end.packet) self.old)) }
         ensures err { OnErr result (BeginsWith out.new.items out.old.items) }
     {
         mark_spreads(&mut self.due, self.desks.marked(), &self.parts);
         put_audits(
             out,
-            packet,
-            message,
+            end,
             self.desks.as_slice(),
             self.desks.marked(),
             &self.spreads,
@@ -90,14 +97,14 @@ impl<A: Allocator + Copy> AuditedDesks<A> {
 
     // Appends the lines that an event end owes.
     #[tactic(auto, unfolding(mdp_desks::specs::Lines::lines_as))]
-    fn put(&mut self, out: &mut Vec<u8, A>, packet: u32, message: u64) -> Result<(), Memory>
+    fn put(&mut self, out: &mut Vec<u8, A>, end: EventEnd) -> Result<(), Memory>
         ensures same { self.new ≡ self.old }
         ensures text { OnOk result (out.new.items ≡ out.old.items
-            ++ lines_as packet message (map (desk_standing packet) self.old)) }
+            ++ lines_as end (map (desk_standing end.packet) self.old)) }
         ensures err { OnErr result (BeginsWith out.new.items out.old.items) }
     {
-        self.desks.put_books(out, packet, message)?;
-        self.put_spreads(out, packet, message)
+        self.desks.put_books(out, end)?;
+        self.put_spreads(out, end)
     }
 
     // Forgets the marks where an event ended.
@@ -123,7 +130,7 @@ impl<A: Allocator + Copy> AuditedDesks<A> {
     {
         self.hear(packet, message, taken.entries());
         if taken.is_end() {
-            self.put(out, packet, message)?;
+            self.put(out, EventEnd { packet, message })?;
             self.settle(packet);
         }
         Ok(())

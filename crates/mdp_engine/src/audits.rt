@@ -11,6 +11,7 @@ ghost use Rattle.mdp_engine.specs.Parts.{AreQuiet};
 ghost use Rattle.mdp_engine.specs.Spreads.{AreSpreadsOf, IsUnder};
 
 use crate::spreads::Spread;
+use mdp_books::EventEnd;
 use mdp_desks::{Desk, Marked};
 use mdp_print::put_audit;
 use mdp_quotes::{Best, audit};
@@ -20,21 +21,20 @@ use std::alloc::Allocator;
 /// Appends the verdicts of a spread against its legs, unless one of the three has no best levels.
 pub fn put_verdicts<A: Allocator>(
     out: &mut Vec<u8, A>,
-    packet: u32,
-    message: u64,
+    end: EventEnd,
     name: &Name,
     spread: Option<Best>,
     leg1: Option<Best>,
     leg2: Option<Best>,
 ) -> Result<(), Memory>
     ensures ok { OnOk result (out.new.items ≡ out.old.items
-        ++ verdicts_text packet message name.now spread leg1 leg2) }
+        ++ verdicts_text end name.now spread leg1 leg2) }
     ensures err { OnErr result (BeginsWith out.new.items out.old.items) }
 {
     match (spread, leg1, leg2) {
         (Some(spread), Some(leg1), Some(leg2)) => {
             let [bid, offer] = audit(&spread, &leg1, &leg2);
-            put_audit(out, packet, message, name, bid, offer)
+            put_audit(out, end, name, bid, offer)
         }
         _ => Ok(()),
     }
@@ -68,13 +68,11 @@ fn are_current(packet: u32, spread: &Desk, leg1: &Desk, leg2: &Desk) -> bool
     packet > spread.base && packet > leg1.base && packet > leg2.base
 }
 
-// Appends the line of a spread where message `message` of packet `packet` ends an event that prints it
-// or one of its legs, and stands behind the bases of all three. `is_one_marked` tells whether it prints
-// one; the desks are looked at only then.
+// Appends the line of a spread where an event end prints it or one of its legs, and stands behind the
+// bases of all three. `is_one_marked` tells whether it prints one; the desks are looked at only then.
 fn put_spread<A: Allocator>(
     out: &mut Vec<u8, A>,
-    packet: u32,
-    message: u64,
+    end: EventEnd,
     spread: &Desk,
     leg1: &Desk,
     leg2: &Desk,
@@ -82,20 +80,19 @@ fn put_spread<A: Allocator>(
 ) -> Result<(), Memory>
     requires { is_one_marked ≡ (spread.now.marked || leg1.now.marked || leg2.now.marked) }
     ensures ok { OnOk result (out.new.items ≡ out.old.items
-        ++ spread_text packet message (desk_standing packet spread.now)
-        (desk_standing packet leg1.now) (desk_standing packet leg2.now)) }
+        ++ spread_text end (desk_standing end.packet spread.now)
+        (desk_standing end.packet leg1.now) (desk_standing end.packet leg2.now)) }
     ensures err { OnErr result (BeginsWith out.new.items out.old.items) }
 {
     if !is_one_marked {
         return Ok(());
     }
-    if !are_current(packet, spread, leg1, leg2) {
+    if !are_current(end.packet, spread, leg1, leg2) {
         return Ok(());
     }
     put_verdicts(
         out,
-        packet,
-        message,
+        end,
         &spread.instrument.name,
         Best::of(spread.book.book()),
         Best::of(leg1.book.book()),
@@ -106,8 +103,7 @@ fn put_spread<A: Allocator>(
 // Appends the line of the spread at these places.
 fn put_audit_at<A: Allocator>(
     out: &mut Vec<u8, A>,
-    packet: u32,
-    message: u64,
+    end: EventEnd,
     desks: &[Desk],
     marked: &Marked<A>,
     spread: &Spread,
@@ -115,13 +111,12 @@ fn put_audit_at<A: Allocator>(
     requires marks { marked.now ≡ marks_of desks.now }
     requires under { IsUnder (length desks.now) spread.now }
     ensures ok { OnOk result (out.new.items ≡ out.old.items
-        ++ spread_line packet message desks.now spread.now) }
+        ++ spread_line end desks.now spread.now) }
     ensures err { OnErr result (BeginsWith out.new.items out.old.items) }
 {
     put_spread(
         out,
-        packet,
-        message,
+        end,
         &desks[spread.slot],
         &desks[spread.leg1],
         &desks[spread.leg2],
@@ -137,8 +132,7 @@ fn put_audit_at<A: Allocator>(
 /// marked in `due` are looked at, and their marks go.
 pub(crate) fn put_audits<A: Allocator>(
     out: &mut Vec<u8, A>,
-    packet: u32,
-    message: u64,
+    end: EventEnd,
     desks: &[Desk],
     marked: &Marked<A>,
     spreads: &[Spread],
@@ -150,14 +144,14 @@ pub(crate) fn put_audits<A: Allocator>(
     requires quiet { AreQuiet marked.now spreads.now due.old }
     ensures long { length due.new ≡ length due.old }
     ensures text { OnOk result (out.new.items ≡ out.old.items
-        ++ flat_map (audit_text packet message (map (desk_standing packet) desks.now))
-        (map (desk_standing packet) desks.now)) }
+        ++ flat_map (audit_text end (map (desk_standing end.packet) desks.now))
+        (map (desk_standing end.packet) desks.now)) }
     ensures err { OnErr result (BeginsWith out.new.items out.old.items) }
 {
     let mut from = 0;
     while let Some(n) = due.next_from(from) {
         due.put(n, false);
-        put_audit_at(out, packet, message, desks, marked, &spreads[n])?;
+        put_audit_at(out, end, desks, marked, &spreads[n])?;
         from = n + 1;
     }
     Ok(())

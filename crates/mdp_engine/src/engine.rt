@@ -3,11 +3,11 @@
 ghost use Rattle.std.specs.Prelude.{◌≡◌, ◌≤◌, ◌++◌, [], ◌∷◌, List, ℕ, true, false, nat_lt, map, IfOk, IfErr, IsErr, OnErr, OnOk};
 ghost use Rattle.std.specs.FinMap as map;
 ghost use Rattle.mdp_templates.specs.Packet.{PacketContent};
-ghost use Rattle.mdp_templates.specs.Instrument.{AreFit};
+ghost use Rattle.mdp_templates.specs.Instrument.{AreFit, ids_of};
 ghost use Rattle.mdp_templates.specs.declared.instrument.Instrument.{Instrument};
 ghost use Rattle.mdp_arbiter.specs.Accepted.{Event as Accepted, came};
 ghost use Rattle.mdp_arbiter.specs.Machine.{State, is_lost, moves_of, state_at};
-ghost use Rattle.mdp_arbiter.specs.Channel.{ids_of, channel_of};
+ghost use Rattle.mdp_arbiter.specs.Channel.{channel_of};
 ghost use Rattle.mdp_arbiter.specs.Arbiter.{is_lost_now, state};
 ghost use Rattle.mdp_arbiter.specs.Standing.{StandsAt};
 ghost use Rattle.mdp_print.specs.Pieces.{BeginsWith};
@@ -21,6 +21,7 @@ use crate::audited_desks::AuditedDesks;
 use crate::event::Event;
 use crate::taking::take_in;
 use mdp_arbiter::{Arbiter, Start, Step};
+use mdp_desks::Desk;
 use mdp_templates::{Instrument, Memory, Packet};
 use mdp_window::Window;
 use std::alloc::Allocator;
@@ -115,6 +116,34 @@ impl<A: Allocator + Copy, W: Window<Packet<A>> + Drop> Engine<A, W> {
         u64::from(number) < self.next()
     }
 
+    /// Lends the arbiter.
+    pub fn arbiter(&self) -> &Arbiter<A, W>
+        ensures { result.now ≡ self.now.arbiter }
+    {
+        &self.arbiter
+    }
+
+    /// Lends the desks of the listed securities, in listed order.
+    pub fn desks(&self) -> &[Desk]
+        ensures { result.now ≡ self.now.desks }
+    {
+        self.desks.as_slice()
+    }
+
+    /// Tells whether memory ran out in an earlier call.
+    pub fn has_failed(&self) -> bool
+        ensures { result ≡ self.now.has_failed }
+    {
+        self.has_failed
+    }
+
+    /// Fails, since memory ran out where what it would have taken in was made.
+    pub fn fail(&mut self)
+        ensures { self.new ≡ record self.old { has_failed = true } }
+    {
+        self.has_failed = true;
+    }
+
     /// Takes in an event and makes all moves that are then possible; the lines that they owe are held.
     ///
     /// # Errors
@@ -127,7 +156,7 @@ impl<A: Allocator + Copy, W: Window<Packet<A>> + Drop> Engine<A, W> {
         ensures channel { OnOk result (self.new.arbiter.channel ≡ self.old.arbiter.channel) }
         ensures sound { OnOk result (self.new.has_failed ≡ false) }
         ensures fails { IfErr result (λ _. self.new.has_failed ≡ true) }
-        ensures err { OnErr result (BeginsWith self.new.held self.old.held) }
+        ensures front { BeginsWith self.new.held self.old.held }
         ensures stays { self.old.has_failed ≡ true → IsErr result }
     {
         self.still_sound()?;
@@ -198,7 +227,7 @@ impl<A: Allocator + Copy, W: Window<Packet<A>> + Drop> Engine<A, W> {
             → Stands listed (es ++ event_of event ∷ []) drained self.new) }
         ensures channel { OnOk result (self.new.arbiter.channel ≡ self.old.arbiter.channel) }
         ensures sound { OnOk result (self.new.has_failed ≡ self.old.has_failed) }
-        ensures err { OnErr result (BeginsWith self.new.held self.old.held) }
+        ensures front { BeginsWith self.new.held self.old.held }
     {
         if self.pass_at_once(&event)? {
             return Ok(());
@@ -216,7 +245,7 @@ impl<A: Allocator + Copy, W: Window<Packet<A>> + Drop> Engine<A, W> {
         ensures kept { IfOk result (λ passed. passed ≡ false → self.new ≡ self.old) }
         ensures channel { OnOk result (self.new.arbiter.channel ≡ self.old.arbiter.channel) }
         ensures sound { OnOk result (self.new.has_failed ≡ self.old.has_failed) }
-        ensures err { OnErr result (BeginsWith self.new.held self.old.held) }
+        ensures front { BeginsWith self.new.held self.old.held }
     {
         let Event::Packet(packet) = event else {
             return Ok(false);
@@ -235,7 +264,7 @@ impl<A: Allocator + Copy, W: Window<Packet<A>> + Drop> Engine<A, W> {
         ensures keeps { OnOk result (state self.new.arbiter ≡ state self.old.arbiter) }
         ensures channel { OnOk result (self.new.arbiter.channel ≡ self.old.arbiter.channel) }
         ensures rest { OnOk result (self.new ≡ record self.old { arbiter = self.new.arbiter }) }
-        ensures err { OnErr result (BeginsWith self.new.held self.old.held) }
+        ensures front { BeginsWith self.new.held self.old.held }
     {
         take_in(&mut self.arbiter, event)
     }
@@ -245,7 +274,7 @@ impl<A: Allocator + Copy, W: Window<Packet<A>> + Drop> Engine<A, W> {
         ensures advances { OnOk result (Advances self.old self.new) }
         ensures channel { OnOk result (self.new.arbiter.channel ≡ self.old.arbiter.channel) }
         ensures sound { OnOk result (self.new.has_failed ≡ self.old.has_failed) }
-        ensures err { OnErr result (BeginsWith self.new.held self.old.held) }
+        ensures front { BeginsWith self.new.held self.old.held }
     {
         while let Some(step) = self.arbiter.step() {
             self.take_step(step)?;
@@ -261,7 +290,7 @@ impl<A: Allocator + Copy, W: Window<Packet<A>> + Drop> Engine<A, W> {
             ++ stepped_text step self.old.desks) }
         ensures arbiter { OnOk result (self.new.arbiter ≡ self.old.arbiter) }
         ensures sound { OnOk result (self.new.has_failed ≡ self.old.has_failed) }
-        ensures err { OnErr result (BeginsWith self.new.held self.old.held) }
+        ensures front { BeginsWith self.new.held self.old.held }
     {
         match step {
             Step::Pass(packet) => {

@@ -5,7 +5,6 @@ ghost use Rattle.mdp_engine.specs.GivenUp.{LawOfARecovery};
 ghost use Rattle.mdp_engine.specs.Honest.{HonestMovesAgree, LawOfHonestFeeds};
 ghost use Rattle.mdp_engine.specs.Marks.{LawOfMarks};
 ghost use Rattle.mdp_engine.specs.MomentLaws.{LawOfHonestMoments, LawOfOwedMoments};
-ghost use Rattle.mdp_engine.specs.RoundLaws.{LawOfAscent, LawOfBatches, LawOfCuts, LawOfFirstRounds, LawOfRuns, LawOfWorkers};
 
 /// Proves that the moves of events that agree with a complete feed are that feed's: each packet that passes is the
 /// feed's next, and each jump's snapshots are its books.
@@ -41,38 +40,6 @@ pub fn law_of_a_recovery()
 /// same.
 pub fn marks_are_the_feeds()
     ensures { LawOfMarks }
-{}
-
-/// Proves that whatever the number of workers, what the collector makes of their reports is what the moves show.
-pub fn law_of_workers()
-    ensures { LawOfWorkers }
-{}
-
-/// Proves that the recovery machine's moves ascend, whatever came: packets pass in number order, and each jump has a
-/// snapshot of each listed security.
-pub fn law_of_ascent()
-    ensures { LawOfAscent }
-{}
-
-/// Proves that batches of reports are the rounds of all their moments, wherever they are cut.
-pub fn law_of_batches()
-    ensures { LawOfBatches }
-{}
-
-/// Proves that what is made of the first rounds begins what is made of all.
-pub fn law_of_first_rounds()
-    ensures { LawOfFirstRounds }
-{}
-
-/// Proves that the moments of moves that come batch by batch are those of all of them.
-pub fn law_of_cuts()
-    ensures { LawOfCuts }
-{}
-
-/// Proves that whatever the number of workers and wherever their reports are cut into batches, the collector's text
-/// is the one that a complete feed owes which agrees with the events.
-pub fn law_of_runs()
-    ensures { LawOfRuns }
 {}
 
 /// Proves that moves that are a complete feed's have exactly the moments that the feed owes.

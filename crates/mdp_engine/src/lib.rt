@@ -9,16 +9,13 @@ mod laws;
 mod parts;
 mod spreads;
 mod taking;
-#[cfg(test)]
-mod tests;
 
 pub use audits::{is_one_marked, put_verdicts};
 pub use engine::{Engine, replay};
 pub use event::Event;
 pub use laws::{
-    honest_feeds_exist, honest_moves_agree, law_of_a_recovery, law_of_ascent, law_of_batches,
-    law_of_cuts, law_of_first_rounds, law_of_honest_moments, law_of_owed_books,
-    law_of_owed_moments, law_of_owed_text, law_of_runs, law_of_workers, marks_are_the_feeds,
+    honest_feeds_exist, honest_moves_agree, law_of_a_recovery, law_of_honest_moments,
+    law_of_owed_books, law_of_owed_moments, law_of_owed_text, marks_are_the_feeds,
 };
 pub use parts::{mark_spreads, parts_of};
 pub use spreads::{Spread, spreads_of};

@@ -3,8 +3,7 @@
 ghost use Rattle.std.specs.Prelude.{◌≡◌, IfOk};
 ghost use Rattle.mdp_engine.specs.Spreads.{slot_in, spread_at, spread_in, spreads_from};
 
-use mdp_arbiter::Slots;
-use mdp_templates::{Instrument, InstrumentKind, Memory};
+use mdp_templates::{Instrument, InstrumentKind, Memory, Slots};
 use std::alloc::Allocator;
 
 /// The places of a calendar spread and of its legs among the listed securities, from 0.

@@ -1,4 +1,5 @@
--- What each exit status says: of the words, of the input, of what the output took, and of what was told.
+-- What each exit status says: of the words, of the input, of what the output took, and of what was
+-- told.
 use Rattle.std.specs.Prelude.{◌≡◌, ℕ, ◌+◌, List, [], ◌++◌, ◌⊎◌, Option, Ok, Err, IfSome}
 use Rattle.clap.specs.Words.{Text}
 use Rattle.mdp_capture.specs.Capture.{CaptureContent, capture_of}
@@ -26,51 +27,71 @@ HasRun input settings before after Told =
 -- Status 0: a run to its end; or the help or the version was shown, and nothing told.
 abbrev pub HasDone : List Text → Option (List ℕ) → List ℕ → List ℕ → (List ℕ → Type 0) → Type 0
 HasDone words input before after Told =
-    (AsksToRun words × ((settings : Settings) × AreSettings words settings × HasRun input settings before after Told))
+    (AsksToRun words × ((settings : Settings) × AreSettings words settings
+    × HasRun input settings before after Told))
     ⊎ (AsksToShow words × ((text : List ℕ) × (after ≡ before ++ text)) × Told [])
 
+-- ---- an early end
+
+-- What the program did to its outputs: how many writes failed, what the output had taken before and
+-- has taken after, and what was told.
+pub record Effects : Type 1 where
+  pub FailedWrites : ℕ → Type 0
+  pub before : List ℕ
+  pub after : List ℕ
+  pub Told : List ℕ → Type 0
+
+abbrev pub effects : (ℕ → Type 0) → List ℕ → List ℕ → (List ℕ → Type 0) → Effects
+effects FailedWrites before after Told =
+    record { FailedWrites = FailedWrites; before = before; after = after; Told = Told }
+
 -- Memory ran out before anything was printed, and that alone is told.
-abbrev pub HasNoMemory : (ℕ → Type 0) → List ℕ → List ℕ → (List ℕ → Type 0) → Type 0
-HasNoMemory FailedWrites before after Told = FailedWrites 0 × (after ≡ before) × Told memory_line
+abbrev pub HasNoMemory : Effects → Type 0
+HasNoMemory did = did.FailedWrites 0 × (did.after ≡ did.before) × did.Told memory_line
 
--- A write failed, and behind these lines it is told after how many bytes.
-abbrev pub HasFailedWrite : List ℕ → (ℕ → Type 0) → List ℕ → List ℕ → (List ℕ → Type 0) → Type 0
-HasFailedWrite lines FailedWrites before after Told =
-    FailedWrites 1 × ((written : ℕ) × HasCounted before after written × Told (lines ++ output_line written))
+-- A write failed, and after these lines it is told after how many bytes.
+abbrev pub HasFailedWrite : List ℕ → Effects → Type 0
+HasFailedWrite lines did =
+    did.FailedWrites 1 × ((written : ℕ) × HasCounted did.before did.after written
+    × did.Told (lines ++ output_line written))
 
--- A run over a capture ended early, for want of memory or by a failed write: a front of its text was printed, and
--- behind each skipped line it is told why it ended.
-abbrev pub HasStopped : CaptureContent → Settings → (ℕ → Type 0) → List ℕ → List ℕ → (List ℕ → Type 0) → Type 0
-HasStopped capture settings FailedWrites before after Told =
+-- A run over a capture ended early, for want of memory or by a failed write: a front of its text
+-- was printed, and after each skipped line it is told why it ended.
+abbrev pub HasStopped : CaptureContent → Settings → Effects → Type 0
+HasStopped capture settings did =
     let lines = skipped_lines capture.skipped in
-    HasBegun capture settings before after
-    × ((FailedWrites 0 × Told (lines ++ memory_line)) ⊎ HasFailedWrite lines FailedWrites before after Told)
+    HasBegun capture settings did.before did.after
+    × ((did.FailedWrites 0 × did.Told (lines ++ memory_line)) ⊎ HasFailedWrite lines did)
 
--- A read failed before anything was printed, and that alone is told; or a run over the capture ended early.
-abbrev pub HasFailedRun : Option (List ℕ) → Settings → (ℕ → Type 0) → (ℕ → Type 0) → List ℕ → List ℕ → (List ℕ → Type 0)
-    → Type 0
-HasFailedRun input settings FailedReads FailedWrites before after Told =
-    (FailedReads 1 × FailedWrites 0 × (after ≡ before) × Told input_line)
+-- A read failed before anything was printed, and that alone is told; or a run over the capture
+-- ended early.
+abbrev pub HasFailedRun : Option (List ℕ) → Settings → (ℕ → Type 0) → Effects → Type 0
+HasFailedRun input settings FailedReads did =
+    (FailedReads 1 × did.FailedWrites 0 × (did.after ≡ did.before) × did.Told input_line)
     ⊎ (FailedReads 0 × ((capture : CaptureContent) × HasCapture input capture
-    × HasStopped capture settings FailedWrites before after Told))
+    × HasStopped capture settings did))
 
--- Status 1: memory ran out while the words or the capture were read; a run failed; or not all of the help or the
--- version went out.
-abbrev pub HasFailed : List Text → Option (List ℕ) → (ℕ → Type 0) → (ℕ → Type 0) → List ℕ → List ℕ → (List ℕ → Type 0)
-    → Type 0
-HasFailed words input FailedReads FailedWrites before after Told =
-    (FailedReads 0 × HasNoMemory FailedWrites before after Told)
+-- Status 1: memory ran out while the words or the capture were read; a run failed; or not all of
+-- the help or the version went out.
+abbrev pub HasFailed : List Text → Option (List ℕ) → (ℕ → Type 0) → Effects → Type 0
+HasFailed words input FailedReads did =
+    (FailedReads 0 × HasNoMemory did)
     ⊎ ((AsksToRun words × ((settings : Settings) × AreSettings words settings
-    × HasFailedRun input settings FailedReads FailedWrites before after Told))
-    ⊎ (AsksToShow words × HasFailedWrite [] FailedWrites before after Told))
+    × HasFailedRun input settings FailedReads did))
+    ⊎ (AsksToShow words × HasFailedWrite [] did))
+
+-- ---- what is refused
 
 -- The capture is refused, at its first refusal where the reader tells its text, and that is told.
 abbrev pub HasRefusedCapture : Option (List ℕ) → (List ℕ → Type 0) → Type 0
 HasRefusedCapture input Told =
     (line : ℕ) × (refusal : CaptureRefusal) × IfSome input
-    (λ text. capture_of text ≡ Err (record { line = line; refusal = refusal })) × Told (refused_line line refusal)
+    (λ text. capture_of text ≡ Err (record { line = line; refusal = refusal }))
+    × Told (refused_line line refusal)
 
--- Status 2: the words have a fault, of which a text was told; or they ask for a run, and the capture is refused.
+-- Status 2: the words have a fault, of which a text was told; or they ask for a run, and the
+-- capture is refused.
 abbrev pub HasRefused : List Text → Option (List ℕ) → (List ℕ → Type 0) → Type 0
 HasRefused words input Told =
-    (HasFault words × ((text : List ℕ) × Told text)) ⊎ (AsksToRun words × HasRefusedCapture input Told)
+    (HasFault words × ((text : List ℕ) × Told text))
+    ⊎ (AsksToRun words × HasRefusedCapture input Told)

@@ -4,7 +4,7 @@ ghost use Rattle.std.specs.Prelude.{◌≡◌, ◌≢◌, ◌≤◌, ◌<◌, �
 ghost use Rattle.clap.specs.Words.{IsAmong, kind_of};
 ghost use Rattle.mdp_handler.specs.CommandLine.{AreLawful, AsksToRun, shown_kinds, texts_of};
 ghost use Rattle.mdp_handler.specs.Faults.{Tells, skipped_lines};
-ghost use Rattle.mdp_handler.specs.Outcome.{Fails, HasDone, HasFailed, HasFailedRun, HasFailedWrite, HasNoMemory, HasRefused, HasRefusedCapture, HasRun, HasStopped};
+ghost use Rattle.mdp_handler.specs.Outcome.{Fails, HasDone, HasFailed, HasFailedRun, HasFailedWrite, HasNoMemory, HasRefused, HasRefusedCapture, HasRun, HasStopped, effects};
 ghost use Rattle.mdp_handler.specs.Printed.{HasBegun, HasPrinted};
 ghost use Rattle.mdp_crew.specs.Counted.{HasCounted};
 ghost use Rattle.mdp_pipeline.specs.Counted.{written_before};
@@ -30,13 +30,14 @@ pub const FAILED: u8 = 1;
 /// The exit status where the command line or the capture is refused.
 pub const REFUSED: u8 = 2;
 
-/// Runs the program: reads the command line `words`, of which the first is the program's name, then a capture from
-/// `input`, writes the text of the run to `output`, and tells what went wrong on `faults`. Answers the exit status:
-/// 0 for a run to the end and for help, 1 where memory ran out or a read or a write of the output failed, and 2 where
-/// the command line or the capture is refused; then nothing is written to `output`. Only where the words ask for a run
-/// is anything read. A run goes over threads, unless the words say `--in-order`. It tells a line for each line of the
-/// capture that was skipped, then at status 1 why it ended. Why no run began is told alone. A write to `faults` that
-/// fails is passed over.
+/// Runs the program: reads the command line `words`, of which the first is the program's name, then
+/// a capture from `input`, writes the text of the run to `output`, and tells what went wrong on
+/// `faults`. Answers the exit status: 0 for a run to the end and for help, 1 where memory ran out
+/// or a read or a write of the output failed, and 2 where the command line or the capture is
+/// refused; then nothing is written to `output`. Only where the words ask for a run is anything
+/// read. A run goes over threads, unless the words say `--in-order`. It tells a line for each line
+/// of the capture that was skipped, then at status 1 why it ended. Why no run began is told alone.
+/// A write to `faults` that fails is passed over.
 pub fn program<R, I, O, F, A>(
     rt: &R,
     words_alloc: Global,
@@ -58,8 +59,9 @@ where
     ensures done { result ≡ 0 → HasDone (texts_of words.now) (I.rest input.old)
         (O.taken output.old) (O.taken output.new) (Tells F.failed F.taken faults.old faults.new) }
     ensures failed { result ≡ 1 → HasFailed (texts_of words.now) (I.rest input.old)
-        (Fails I.failed input.old input.new) (Fails O.failed output.old output.new)
-        (O.taken output.old) (O.taken output.new) (Tells F.failed F.taken faults.old faults.new) }
+        (Fails I.failed input.old input.new)
+        (effects (Fails O.failed output.old output.new) (O.taken output.old) (O.taken output.new)
+        (Tells F.failed F.taken faults.old faults.new)) }
     ensures refused { result ≡ 2 → HasRefused (texts_of words.now) (I.rest input.old)
         (Tells F.failed F.taken faults.old faults.new) }
     ensures unprinted { result ≡ 2 → output.new ≡ output.old }
@@ -87,11 +89,10 @@ fn show<O: CountedWrite, F: CountedWrite, A: Allocator>(
         × ((text : List ℕ) × (O.taken output.new ≡ O.taken output.old ++ text))
         × Tells F.failed F.taken faults.old faults.new [] }
     ensures failed { result ≡ 1 →
-        let Failed = Fails O.failed output.old output.new in
-        let Told = Tells F.failed F.taken faults.old faults.new in
-        HasNoMemory Failed (O.taken output.old) (O.taken output.new) Told
-        ⊎ (IsAmong (kind_of error.now) shown_kinds
-        × HasFailedWrite [] Failed (O.taken output.old) (O.taken output.new) Told) }
+        let did = effects (Fails O.failed output.old output.new) (O.taken output.old)
+        (O.taken output.new) (Tells F.failed F.taken faults.old faults.new) in
+        HasNoMemory did
+        ⊎ (IsAmong (kind_of error.now) shown_kinds × HasFailedWrite [] did) }
     ensures refused { result ≡ 2 → (¬ (IsAmong (kind_of error.now) shown_kinds))
         × ((text : List ℕ) × Tells F.failed F.taken faults.old faults.new text) }
     ensures unprinted { result ≡ 2 → output.new ≡ output.old }
@@ -142,11 +143,10 @@ where
         (O.taken output.old) (O.taken output.new) (Tells F.failed F.taken faults.old faults.new) }
     ensures failed { result ≡ 1 →
         let FailedReads = Fails I.failed input.old input.new in
-        let FailedWrites = Fails O.failed output.old output.new in
-        let Told = Tells F.failed F.taken faults.old faults.new in
-        (FailedReads 0 × HasNoMemory FailedWrites (O.taken output.old) (O.taken output.new) Told)
-        ⊎ HasFailedRun (I.rest input.old) settings FailedReads FailedWrites
-        (O.taken output.old) (O.taken output.new) Told }
+        let did = effects (Fails O.failed output.old output.new) (O.taken output.old)
+        (O.taken output.new) (Tells F.failed F.taken faults.old faults.new) in
+        (FailedReads 0 × HasNoMemory did)
+        ⊎ HasFailedRun (I.rest input.old) settings FailedReads did }
     ensures refused { result ≡ 2 → HasRefusedCapture (I.rest input.old)
         (Tells F.failed F.taken faults.old faults.new) }
     ensures unprinted { result ≡ 2 → output.new ≡ output.old }
@@ -198,8 +198,8 @@ where
     ensures told { result ≡ 0 →
         Tells F.failed F.taken faults.old faults.new (skipped_lines capture.now.skipped) }
     ensures failed { result ≡ 1 → HasStopped capture.now settings
-        (Fails O.failed output.old output.new)
-        (O.taken output.old) (O.taken output.new) (Tells F.failed F.taken faults.old faults.new) }
+        (effects (Fails O.failed output.old output.new) (O.taken output.old) (O.taken output.new)
+        (Tells F.failed F.taken faults.old faults.new)) }
     ensures writes { result ≢ 1 → O.failed output.new ≡ O.failed output.old }
 {
     tell_skipped(faults, capture.skipped());
@@ -216,7 +216,8 @@ where
     }
 }
 
-// Runs over the records of all feeds: over threads, or on one thread in the order of the capture's lines.
+// Runs over the records of all feeds: over threads, or on one thread in the order of the capture's
+// lines.
 fn run_records<R, O, A>(
     rt: &R,
     alloc: A,

@@ -3,9 +3,7 @@ use Rattle.std.specs.Prelude.{◌≡◌, ℕ, List, []}
 use Rattle.atomic_table.specs.Seated.{TableId}
 use Rattle.atomic_table.specs.declared.badge.Badge.{Badge}
 use Rattle.crossbeam_channel.specs.declared.flavors.array.Key.{Key}
-use Rattle.crossbeam_channel.specs.declared.flavors.array.Rows.{Rows}
 use Rattle.crossbeam_channel.specs.Claims.{Pass}
-use Rattle.crossbeam_channel.specs.Ends.{ruled_capacity}
 use Rattle.mdp_templates.specs.declared.feed.Feed.{Feed}
 
 -- which queue of messages of type M an end belongs to, and for how many messages it has room
@@ -14,9 +12,9 @@ pub record Queue (M : Type 0) : Type 0 where
   pub store : Badge (Key M)
   pub room : ℕ
 
--- the queue that a pass belongs to, on its channel
-abbrev pub queue_of : {M V S D Q N K L A : Type 0} → Pass M V → Rows S D Q N K L A → Queue M
-queue_of pass channel = record { table = pass.table_id; store = pass.me.0.of; room = ruled_capacity channel }
+-- the queue that a pass belongs to, which has this room
+abbrev pub queue_of : {M V : Type 0} → Pass M V → ℕ → Queue M
+queue_of pass room = record { table = pass.table_id; store = pass.me.0.of; room = room }
 
 -- an intake's sender: its intake, its tag, and all that it has put
 pub record IntakeSenderView (I : Type 0) : Type 0 where

@@ -76,7 +76,7 @@ impl<I: Ends, A: Allocator + Copy> Model for IntakeSender<I, A> {
     ghost use Rattle.std.specs.Prelude.{◌≡◌, [], ◌∷◌};
     ghost use Rattle.std.specs.List.{list_any};
     ghost use Rattle.crossbeam_channel.specs.Claims.{view as known, IsSeatAt};
-    ghost use Rattle.crossbeam_channel.specs.Ends.{sends_on};
+    ghost use Rattle.crossbeam_channel.specs.Ends.{sends_on, ruled_capacity};
     ghost use Rattle.mdp_lanes.specs.Rule.{sender, first_list};
     ghost use Rattle.mdp_lanes.specs.Items.{EndsLast};
     ghost use Rattle.mdp_lanes.specs.Queues.{IntakeSenderView, queue_of};
@@ -84,7 +84,7 @@ impl<I: Ends, A: Allocator + Copy> Model for IntakeSender<I, A> {
     ghost Value = { IntakeSenderView I };
 
     ghost view = { λ s. record {
-      intake = queue_of s.pass (sends_on s.channel);
+      intake = queue_of s.pass (ruled_capacity (sends_on s.channel));
       tag = s.tag;
       sent = first_list (known s.pass).rights;
     } };
@@ -108,7 +108,7 @@ pub struct IntakeReceiver<I: Ends, A: Allocator + Copy> {
 impl<I: Ends, A: Allocator + Copy> Model for IntakeReceiver<I, A> {
     ghost use Rattle.std.specs.Prelude.{◌≡◌, ◌≤◌, []};
     ghost use Rattle.crossbeam_channel.specs.Claims.{view as known, IsSeatAt};
-    ghost use Rattle.crossbeam_channel.specs.Ends.{receives_on};
+    ghost use Rattle.crossbeam_channel.specs.Ends.{receives_on, ruled_capacity};
     ghost use Rattle.mdp_lanes.specs.Rule.{receiver};
     ghost use Rattle.mdp_lanes.specs.Items.{ends_taken};
     ghost use Rattle.mdp_lanes.specs.Queues.{IntakeReceiverView, queue_of};
@@ -116,7 +116,7 @@ impl<I: Ends, A: Allocator + Copy> Model for IntakeReceiver<I, A> {
     ghost Value = { IntakeReceiverView I };
 
     ghost view = { λ r. record {
-      intake = queue_of r.pass (receives_on r.channel);
+      intake = queue_of r.pass (ruled_capacity (receives_on r.channel));
       taken = (known r.pass).taken;
     } };
 

@@ -68,7 +68,7 @@ pub struct LaneSender<T: Drop, A: Allocator + Copy> {
 impl<T: Drop, A: Allocator + Copy> Model for LaneSender<T, A> {
     ghost use Rattle.std.specs.Prelude.{◌≡◌};
     ghost use Rattle.crossbeam_channel.specs.Claims.{view as known, IsSeatAt};
-    ghost use Rattle.crossbeam_channel.specs.Ends.{sends_on};
+    ghost use Rattle.crossbeam_channel.specs.Ends.{sends_on, ruled_capacity};
     ghost use Rattle.mdp_lanes.specs.Rule.{sender, first_list};
     ghost use Rattle.mdp_lanes.specs.Lanes.{only_right};
     ghost use Rattle.mdp_lanes.specs.Queues.{LaneSenderView, queue_of};
@@ -76,7 +76,7 @@ impl<T: Drop, A: Allocator + Copy> Model for LaneSender<T, A> {
     ghost Value = { LaneSenderView T };
 
     ghost view = { λ s. record {
-      lane = queue_of s.pass (sends_on s.channel);
+      lane = queue_of s.pass (ruled_capacity (sends_on s.channel));
       sent = first_list (known s.pass).rights;
     } };
 
@@ -95,14 +95,14 @@ pub struct LaneReceiver<T: Drop, A: Allocator + Copy> {
 impl<T: Drop, A: Allocator + Copy> Model for LaneReceiver<T, A> {
     ghost use Rattle.std.specs.Prelude.{◌≡◌, []};
     ghost use Rattle.crossbeam_channel.specs.Claims.{view as known, IsSeatAt};
-    ghost use Rattle.crossbeam_channel.specs.Ends.{receives_on};
+    ghost use Rattle.crossbeam_channel.specs.Ends.{receives_on, ruled_capacity};
     ghost use Rattle.mdp_lanes.specs.Rule.{receiver};
     ghost use Rattle.mdp_lanes.specs.Queues.{LaneReceiverView, queue_of};
 
     ghost Value = { LaneReceiverView T };
 
     ghost view = { λ r. record {
-      lane = queue_of r.pass (receives_on r.channel);
+      lane = queue_of r.pass (ruled_capacity (receives_on r.channel));
       taken = (known r.pass).taken;
     } };
 

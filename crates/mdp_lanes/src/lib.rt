@@ -29,8 +29,6 @@ mod rule;
 mod sheet;
 mod shown;
 mod step;
-#[cfg(test)]
-mod tests;
 mod told;
 mod update;
 

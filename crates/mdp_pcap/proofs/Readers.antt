@@ -7,8 +7,8 @@ use Rattle.mdp_pcap.specs.Frame.{CapturedContent}
 use Rattle.mdp_pcap.specs.Block.{Reading, BlockContent, read_on, frames_of}
 use Rattle.mdp_pcap.specs.File.{FrontContent, Whole, Faulty, front_of, cut_end, EndsAs}
 use Rattle.mdp_pcap.specs.Placing.{block_in}
-use Rattle.mdp_pcap.specs.Reader.{NumberedFrame, numbered, number_after, next_number, ReaderContent, IsReadOn, StandsAs, IsReadWhole, ending_with, at_first, HasHandedOn, IsReadSome, HasHalted}
-use Rattle.mdp_pcap.specs.Stepping.{HasTaken, HasMovedOn, HasGoneOn, IsStop}
+use Rattle.mdp_pcap.specs.Reader.{NumberedFrame, Takes, numbered, number_after, next_number, ReaderContent, IsReadOn, StandsAs, IsReadWhole, ending_with, at_first, HasHandedOn, IsReadSome, HasHalted}
+use Rattle.mdp_pcap.specs.Stepping.{HasMovedOn, HasGoneOn, IsStop}
 use Rattle.mdp_pcap.specs.declared.block.Block.{Block}
 use Rattle.mdp_pcap.specs.declared.layout.Layout.{Layout}
 use Rattle.mdp_pcap.specs.declared.layout.PcapFault.{PcapFault}
@@ -26,11 +26,11 @@ number_after-append number [] others = refl
 number_after-append number (frame ∷ frames) others = number_after-append (next_number number) frames others
 
 -- nothing is read
-pub reads_none : {S : Type 0} (holds : S → List NumberedFrame → Type 0) (now : ReaderContent) (text : List ℕ) (sink : S) → IsReadOn holds now now text text sink sink
+pub reads_none : {S : Type 0} (holds : S → List NumberedFrame → Type 0) (now : ReaderContent) (text : List ℕ) (sink : S) → IsReadOn (Takes holds sink sink) now now text text
 reads_none holds now text sink = record { blocks = []; follow = (refl, refl); taken = λ frames held. subst (holds sink) (sym (append-nil frames)) held; counted = refl }
 
 -- what is read and then read on is read
-pub reads_join : {S : Type 0} (holds : S → List NumberedFrame → Type 0) (old middle now : ReaderContent) (text rest left : List ℕ) (before between after : S) → IsReadOn holds old middle text rest before between → IsReadOn holds middle now rest left between after → IsReadOn holds old now text left before after
+pub reads_join : {S : Type 0} (holds : S → List NumberedFrame → Type 0) (old middle now : ReaderContent) (text rest left : List ℕ) (before between after : S) → IsReadOn (Takes holds before between) old middle text rest → IsReadOn (Takes holds between after) middle now rest left → IsReadOn (Takes holds before after) old now text left
 reads_join holds old middle now text rest left before between after first second =
     let frames = flat_map frames_of first.blocks in
     let others = flat_map frames_of second.blocks in
@@ -46,12 +46,12 @@ reads_join holds old middle now text rest left before between after first second
       counted = ap (number_after old.number) both ∙ number_after-append old.number frames others ∙ ap (λ (n : ℕ). number_after n others) first.counted ∙ second.counted;
     }
 
-pub whole_join : {S : Type 0} (holds : S → List NumberedFrame → Type 0) (old middle now : ReaderContent) (text rest : List ℕ) (before between after : S) → IsReadOn holds old middle text rest before between → IsReadWhole holds middle now rest between after → IsReadWhole holds old now text before after
+pub whole_join : {S : Type 0} (holds : S → List NumberedFrame → Type 0) (old middle now : ReaderContent) (text rest : List ℕ) (before between after : S) → IsReadOn (Takes holds before between) old middle text rest → IsReadWhole (Takes holds between after) middle now rest → IsReadWhole (Takes holds before after) old now text
 whole_join holds old middle now text rest before between after first second =
     record { left = second.left; so_far = reads_join holds old middle now text rest second.left before between after first second.so_far; stands = second.stands }
 
 -- one block is read
-reads_one : {S : Type 0} (holds : S → List NumberedFrame → Type 0) (old now : ReaderContent) (text : List ℕ) (before after : S) (count : ℕ) (block : BlockContent) → front_of old.reading.layout old.reading.interfaces text ≡ Whole count block → read_on old.reading block ≡ now.reading → number_after old.number (frames_of block) ≡ now.number → HasTaken holds old.number block before after → IsReadOn holds old now text (drop count text) before after
+reads_one : {S : Type 0} (holds : S → List NumberedFrame → Type 0) (old now : ReaderContent) (text : List ℕ) (before after : S) (count : ℕ) (block : BlockContent) → front_of old.reading.layout old.reading.interfaces text ≡ Whole count block → read_on old.reading block ≡ now.reading → number_after old.number (frames_of block) ≡ now.number → Takes holds before after (numbered old.number (frames_of block)) → IsReadOn (Takes holds before after) old now text (drop count text)
 reads_one holds old now text before after count block front reading counted taken =
     let alone : flat_map frames_of (block ∷ []) ≡ frames_of block = append-nil (frames_of block) in
     record {
@@ -62,7 +62,7 @@ reads_one holds old now text before after count block front reading counted take
     }
 
 -- the block lay whole in the piece
-pub went_in_piece : {S : Type 0} (holds : S → List NumberedFrame → Type 0) (old now : ReaderContent) (rest : List ℕ) (before after : S) (count : ℕ) (block : Block) → old.held ≡ [] → old.fault ≡ None → front_of old.reading.layout old.reading.interfaces rest ≡ Whole count (block_in (take count rest) block) → HasMovedOn block old now → HasTaken holds old.number (block_in (take count rest) block) before after → HasGoneOn holds old now rest before after count
+pub went_in_piece : {S : Type 0} (holds : S → List NumberedFrame → Type 0) (old now : ReaderContent) (rest : List ℕ) (before after : S) (count : ℕ) (block : Block) → old.held ≡ [] → old.fault ≡ None → front_of old.reading.layout old.reading.interfaces rest ≡ Whole count (block_in (take count rest) block) → HasMovedOn block old now → Takes holds before after (numbered old.number (frames_of (block_in (take count rest) block))) → HasGoneOn (Takes holds before after) old now rest count
 went_in_piece holds old now rest before after count block empty going front moved taken =
     let said = block_in (take count rest) block in
     let least = whole_least old.reading.layout old.reading.interfaces rest count said front in
@@ -72,13 +72,13 @@ went_in_piece holds old now rest before after count block empty going front move
     let last : drop count rest ≡ now.held ++ drop count rest = sym (ap (λ (h : List ℕ). h ++ drop count rest) held) in
     record {
       fits = least.1;
-      read = subst (λ (t : List ℕ). IsReadOn holds old now t (now.held ++ drop count rest) before after) first (subst (λ (t : List ℕ). IsReadOn holds old now rest t before after) last one);
+      read = subst (λ (t : List ℕ). IsReadOn (Takes holds before after) old now t (now.held ++ drop count rest)) first (subst (λ (t : List ℕ). IsReadOn (Takes holds before after) old now rest t) last one);
       going = moved.going ∙ going;
       less = omega (arith, least.0, least.1, ap length held, ap length empty);
     }
 
 -- the block was held whole
-pub went_in_held : {S : Type 0} (holds : S → List NumberedFrame → Type 0) (old middle now : ReaderContent) (rest : List ℕ) (before after : S) (count : ℕ) (block : Block) → middle ≡ record old { held = drop count old.held } → old.fault ≡ None → front_of old.reading.layout old.reading.interfaces old.held ≡ Whole count (block_in (take count old.held) block) → HasMovedOn block middle now → HasTaken holds old.number (block_in (take count old.held) block) before after → HasGoneOn holds old now rest before after 0
+pub went_in_held : {S : Type 0} (holds : S → List NumberedFrame → Type 0) (old middle now : ReaderContent) (rest : List ℕ) (before after : S) (count : ℕ) (block : Block) → middle ≡ record old { held = drop count old.held } → old.fault ≡ None → front_of old.reading.layout old.reading.interfaces old.held ≡ Whole count (block_in (take count old.held) block) → HasMovedOn block middle now → Takes holds before after (numbered old.number (frames_of (block_in (take count old.held) block))) → HasGoneOn (Takes holds before after) old now rest 0
 went_in_held holds old middle now rest before after count block dropped going front moved taken =
     let said = block_in (take count old.held) block in
     let least = whole_least old.reading.layout old.reading.interfaces old.held count said front in
@@ -88,34 +88,34 @@ went_in_held holds old middle now rest before after count block dropped going fr
     let left : drop count text ≡ now.held ++ drop 0 rest = drop-append-le count old.held rest least.1 ∙ ap (λ (h : List ℕ). h ++ rest) (sym same.held) in
     record {
       fits = omega arith;
-      read = subst (λ (t : List ℕ). IsReadOn holds old now text t before after) left one;
+      read = subst (λ (t : List ℕ). IsReadOn (Takes holds before after) old now text t) left one;
       going = same.going ∙ going;
       less = omega (arith, least.0, least.1, ap length same.held, length-drop count old.held);
     }
 
 -- what is held begins no block
-pub stopped_in_held : {S : Type 0} (holds : S → List NumberedFrame → Type 0) (old now : ReaderContent) (rest : List ℕ) (sink : S) (fault : PcapFault) → now ≡ record old { held = []; fault = Some fault } → front_of old.reading.layout old.reading.interfaces old.held ≡ Faulty fault → IsReadWhole holds old now (old.held ++ rest) sink sink
+pub stopped_in_held : {S : Type 0} (holds : S → List NumberedFrame → Type 0) (old now : ReaderContent) (rest : List ℕ) (sink : S) (fault : PcapFault) → now ≡ record old { held = []; fault = Some fault } → front_of old.reading.layout old.reading.interfaces old.held ≡ Faulty fault → IsReadWhole (Takes holds sink sink) old now (old.held ++ rest)
 stopped_in_held holds old now rest sink fault is front =
     let stopped : ReaderContent = record old { held = []; fault = Some fault } in
-    let so_far : IsReadOn holds old stopped (old.held ++ rest) (old.held ++ rest) sink sink = record { blocks = []; follow = (refl, refl); taken = λ frames held. subst (holds sink) (sym (append-nil frames)) held; counted = refl } in
-    let whole : IsReadWhole holds old stopped (old.held ++ rest) sink sink =
+    let so_far : IsReadOn (Takes holds sink sink) old stopped (old.held ++ rest) (old.held ++ rest) = record { blocks = []; follow = (refl, refl); taken = λ frames held. subst (holds sink) (sym (append-nil frames)) held; counted = refl } in
+    let whole : IsReadWhole (Takes holds sink sink) old stopped (old.held ++ rest) =
     record { left = old.held ++ rest; so_far = so_far; stands = (refl, faulty_more old.reading.layout old.reading.interfaces old.held rest fault front) } in
-    subst (λ (n : ReaderContent). IsReadWhole holds old n (old.held ++ rest) sink sink) (sym is) whole
+    subst (λ (n : ReaderContent). IsReadWhole (Takes holds sink sink) old n (old.held ++ rest)) (sym is) whole
 
 -- ---- halts
 
-pub halts_stopped : {S E : Type 0} (holds : S → List NumberedFrame → Type 0) (old : ReaderContent) (text : List ℕ) (before after : S) (halt : Halt E) → IsStop halt → HasHalted holds old text before after halt
+pub halts_stopped : {S E : Type 0} (holds : S → List NumberedFrame → Type 0) (old : ReaderContent) (text : List ℕ) (before after : S) (halt : Halt E) → IsStop halt → HasHalted (Takes holds before after) old text halt
 halts_stopped holds old text before after halts.Memory is = absurd is
 halts_stopped holds old text before after (halts.Stop stop) is = tt
 
 -- what was read before a halt is read
-pub halts_later : {S E : Type 0} (holds : S → List NumberedFrame → Type 0) (old middle : ReaderContent) (text rest : List ℕ) (before between after : S) (halt : Halt E) → IsReadOn holds old middle text rest before between → HasHalted holds middle rest between after halt → HasHalted holds old text before after halt
+pub halts_later : {S E : Type 0} (holds : S → List NumberedFrame → Type 0) (old middle : ReaderContent) (text rest : List ℕ) (before between after : S) (halt : Halt E) → IsReadOn (Takes holds before between) old middle text rest → HasHalted (Takes holds between after) middle rest halt → HasHalted (Takes holds before after) old text halt
 halts_later holds old middle text rest before between after halts.Memory first halted =
     (halted.0, (halted.1.0, reads_join holds old middle halted.0 text rest halted.1.0 before between after first halted.1.1))
 halts_later holds old middle text rest before between after (halts.Stop stop) first halted = tt
 
 -- a block was read, and then memory ran out
-pub halts_after : {S : Type 0} (holds : S → List NumberedFrame → Type 0) (old : ReaderContent) (text : List ℕ) (before after : S) (count : ℕ) (block : BlockContent) → front_of old.reading.layout old.reading.interfaces text ≡ Whole count block → HasTaken holds old.number block before after → IsReadSome holds old text before after
+pub halts_after : {S : Type 0} (holds : S → List NumberedFrame → Type 0) (old : ReaderContent) (text : List ℕ) (before after : S) (count : ℕ) (block : BlockContent) → front_of old.reading.layout old.reading.interfaces text ≡ Whole count block → Takes holds before after (numbered old.number (frames_of block)) → IsReadSome (Takes holds before after) old text
 halts_after holds old text before after count block front taken =
     let now : ReaderContent = record { reading = read_on old.reading block; held = []; number = number_after old.number (frames_of block); fault = None } in
     (now, (drop count text, reads_one holds old now text before after count block front refl refl taken))
@@ -123,7 +123,7 @@ halts_after holds old text before after count block front taken =
 -- ---- whole texts
 
 -- a reader with no fault has read no more than what stands before the bytes that it holds
-reads_more : {S : Type 0} (holds : S → List NumberedFrame → Type 0) (old now : ReaderContent) (text left more : List ℕ) (before after : S) → IsReadOn holds old now text left before after → IsReadOn holds old now (text ++ more) (left ++ more) before after
+reads_more : {S : Type 0} (holds : S → List NumberedFrame → Type 0) (old now : ReaderContent) (text left more : List ℕ) (before after : S) → IsReadOn (Takes holds before after) old now text left → IsReadOn (Takes holds before after) old now (text ++ more) (left ++ more)
 reads_more holds old now text left more before after read =
     record { blocks = read.blocks; follow = blocks_more old.reading text more read.blocks now.reading left read.follow; taken = read.taken; counted = read.counted }
 
@@ -131,18 +131,18 @@ stands_held : (left held : List ℕ) (fault : Option PcapFault) (front : FrontCo
 stands_held left held None front none stands = stands.0
 stands_held left held (Some fault) front none stands = cc
 
-pub pieces_add : {S : Type 0} (holds : S → List NumberedFrame → Type 0) (old middle now : ReaderContent) (text piece : List ℕ) (before between after : S) → IsReadWhole holds old middle text before between → middle.fault ≡ None → IsReadWhole holds middle now (middle.held ++ piece) between after → IsReadWhole holds old now (text ++ piece) before after
+pub pieces_add : {S : Type 0} (holds : S → List NumberedFrame → Type 0) (old middle now : ReaderContent) (text piece : List ℕ) (before between after : S) → IsReadWhole (Takes holds before between) old middle text → middle.fault ≡ None → IsReadWhole (Takes holds between after) middle now (middle.held ++ piece) → IsReadWhole (Takes holds before after) old now (text ++ piece)
 pieces_add holds old middle now text piece before between after first going second =
     let held : first.left ≡ middle.held = stands_held first.left middle.held middle.fault (front_of middle.reading.layout middle.reading.interfaces first.left) going first.stands in
     let read = reads_more holds old middle text first.left piece before between first.so_far in
-    let then = subst (λ (t : List ℕ). IsReadOn holds old middle (text ++ piece) (t ++ piece) before between) held read in
+    let then = subst (λ (t : List ℕ). IsReadOn (Takes holds before between) old middle (text ++ piece) (t ++ piece)) held read in
     whole_join holds old middle now (text ++ piece) (middle.held ++ piece) before between after then second
 
 stands_more : (reading : Reading) (left more held : List ℕ) (fault : Option PcapFault) (found : PcapFault) → fault ≡ Some found → StandsAs left held fault (front_of reading.layout reading.interfaces left) → StandsAs (left ++ more) held fault (front_of reading.layout reading.interfaces (left ++ more))
 stands_more reading left more held None found some stands = cc
 stands_more reading left more held (Some fault) found some stands = (stands.0, faulty_more reading.layout reading.interfaces left more fault stands.1)
 
-pub faults_stay : {S : Type 0} (holds : S → List NumberedFrame → Type 0) (old now : ReaderContent) (text piece : List ℕ) (before after : S) (fault : PcapFault) → IsReadWhole holds old now text before after → now.fault ≡ Some fault → IsReadWhole holds old now (text ++ piece) before after
+pub faults_stay : {S : Type 0} (holds : S → List NumberedFrame → Type 0) (old now : ReaderContent) (text piece : List ℕ) (before after : S) (fault : PcapFault) → IsReadWhole (Takes holds before after) old now text → now.fault ≡ Some fault → IsReadWhole (Takes holds before after) old now (text ++ piece)
 faults_stay holds old now text piece before after fault whole stopped =
     record {
       left = whole.left ++ piece;
@@ -155,7 +155,7 @@ ends_so layout left held None front stands =
     subst (EndsAs layout left (cut_end layout held)) (sym stands.1.1) (ap (cut_end layout) (sym stands.0))
 ends_so layout left held (Some fault) front stands = subst (EndsAs layout left (Some fault)) (sym stands.1) refl
 
-pub whole_file : {S : Type 0} (holds : S → List NumberedFrame → Type 0) (now : ReaderContent) (text : List ℕ) (before after : S) → IsReadWhole holds at_first now text before after → HasHandedOn holds now text before after
+pub whole_file : {S : Type 0} (holds : S → List NumberedFrame → Type 0) (now : ReaderContent) (text : List ℕ) (before after : S) → IsReadWhole (Takes holds before after) at_first now text → HasHandedOn (Takes holds before after) now text
 whole_file holds now text before after whole =
     let read = whole.so_far in
     record {

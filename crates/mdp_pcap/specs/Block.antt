@@ -8,6 +8,7 @@ use Rattle.mdp_pcap.specs.Frame.{CapturedContent}
 use Rattle.mdp_pcap.specs.Extent.{file_order, section_order, is_section_header}
 use Rattle.mdp_pcap.specs.declared.number.Endianness.{Endianness}
 use Rattle.mdp_pcap.specs.declared.link.Link.{Link}
+use Rattle.mdp_pcap.specs.declared.packet.Body.{Body}
 use Rattle.mdp_pcap.specs.declared.layout.Interface.{Interface}
 use Rattle.mdp_pcap.specs.declared.layout.Layout.{Layout}
 use Rattle.mdp_pcap.specs.declared.layout.Layout.TheVariants as layouts
@@ -63,24 +64,34 @@ abbrev pub packet_over : Option Link → List ℕ → ℕ → Result BlockConten
 packet_over None bytes original = Err faults.LinkType
 packet_over (Some link) bytes original = Ok (Packet (record { link = link; bytes = bytes; original = original }))
 
--- a frame whose captured bytes stand in a block from an offset on, with so many bytes of the block behind them
-abbrev pub packet_in : ℕ → ℕ → ℕ → ℕ → Interface → List ℕ → Result BlockContent PcapFault
-packet_in start tail captured original interface block =
+-- where a kind of block has the captured bytes of its frame: from an offset on, with so many bytes after them
+abbrev pub record_body : Body
+record_body = record { start = 16; tail = 0 }
+
+abbrev pub enhanced_body : Body
+enhanced_body = record { start = 28; tail = 4 }
+
+abbrev pub simple_body : Body
+simple_body = record { start = 12; tail = 4 }
+
+-- a frame of so many captured bytes, of so many on the wire
+abbrev pub packet_in : Body → ℕ → ℕ → Interface → List ℕ → Result BlockContent PcapFault
+packet_in body captured original interface block =
     if nat_lt 262144 captured then Err faults.RecordSize
-    else if nat_lt (length block) (start + captured + tail) then Err faults.RecordSize
-    else packet_over (link_of interface.link_type) (take captured (drop start block)) original
+    else if nat_lt (length block) (body.start + captured + body.tail) then Err faults.RecordSize
+    else packet_over (link_of interface.link_type) (take captured (drop body.start block)) original
 
 -- a record of a classic pcap
 abbrev pub packet_record : Endianness → Option Interface → List ℕ → Result BlockContent PcapFault
 packet_record order None block = Err faults.RecordSize
 packet_record order (Some interface) block =
-    packet_in 16 0 (number_in order 8 4 block) (number_in order 12 4 block) interface block
+    packet_in record_body (number_in order 8 4 block) (number_in order 12 4 block) interface block
 
 -- an enhanced packet block
 abbrev pub enhanced_packet : Endianness → Option Interface → List ℕ → Result BlockContent PcapFault
 enhanced_packet order None block = Err faults.RecordSize
 enhanced_packet order (Some interface) block =
-    packet_in 28 4 (number_in order 20 4 block) (number_in order 24 4 block) interface block
+    packet_in enhanced_body (number_in order 20 4 block) (number_in order 24 4 block) interface block
 
 -- how many bytes of a frame are captured where so many are at most, and all of them where that is 0
 abbrev pub snapped : ℕ → ℕ → ℕ
@@ -91,7 +102,7 @@ abbrev pub simple_packet : Endianness → Option Interface → List ℕ → Resu
 simple_packet order None block = Err faults.RecordSize
 simple_packet order (Some interface) block =
     let original = number_in order 8 4 block in
-    packet_in 12 4 (snapped interface.snap_length original) original interface block
+    packet_in simple_body (snapped interface.snap_length original) original interface block
 
 -- a block of a section, by its type
 abbrev pub section_block : Endianness → List Interface → List ℕ → Result BlockContent PcapFault

@@ -37,9 +37,11 @@ unread cut = if cut then CutBeforeGroup else Other
 abbrev pub unended : Bool → ℕ → ℕ → FrameContent
 unended cut group port = if cut then Cut group port else Broken group port
 
--- a UDP datagram that says it has so many bytes, where the IPv4 packet has room for so many
-abbrev pub sized : Bool → ℕ → ℕ → ℕ → ℕ → List ℕ → FrameContent
-sized cut group port size room udp =
+-- a UDP datagram with a whole header, which says how many bytes it has; the IPv4 packet has room for so many
+abbrev pub sized : Bool → ℕ → ℕ → List ℕ → FrameContent
+sized cut group room udp =
+    let port = big_at 2 2 udp in
+    let size = big_at 4 2 udp in
     if nat_lt size 8 then Broken group port
     else if nat_lt room size then Broken group port
     else if nat_lt (length udp) size then unended cut group port
@@ -49,7 +51,7 @@ abbrev pub udp_of : Bool → ℕ → ℕ → List ℕ → FrameContent
 udp_of cut group room udp =
     if nat_lt (length udp) 4 then (if cut then CutBeforePort group else Other)
     else if nat_lt (length udp) 8 then unended cut group (big_at 2 2 udp)
-    else sized cut group (big_at 2 2 udp) (big_at 4 2 udp) room udp
+    else sized cut group room udp
 
 -- the length of an IPv4 header, in its low four bits as a number of words
 abbrev pub header_length : List ℕ → ℕ

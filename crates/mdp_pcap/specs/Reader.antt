@@ -45,14 +45,17 @@ content_of reader = record {
   fault = reader.fault;
 }
 
--- Of a text the blocks up to `left` were read, and their frames were handed on, with their numbers, to what takes
--- frames: whatever that held before, it holds these after it.
-pub record IsReadOn {S : Type 0} (holds : S → List NumberedFrame → Type 0) (old now : ReaderContent)
-    (text left : List ℕ) (before after : S) : Type 0 where
+-- what takes frames took these: whatever it held before, it holds these after it
+abbrev pub Takes : {S : Type 0} → (S → List NumberedFrame → Type 0) → S → S → List NumberedFrame → Type 0
+Takes holds before after frames =
+    (earlier : List NumberedFrame) → holds before earlier → holds after (earlier ++ frames)
+
+-- of a text the blocks up to `left` were read, and their frames, with their numbers, were taken
+pub record IsReadOn (Taken : List NumberedFrame → Type 0) (old now : ReaderContent)
+    (text left : List ℕ) : Type 0 where
   pub blocks : List BlockContent
   pub follow : AreBlocks old.reading text blocks now.reading left
-  pub taken : (frames : List NumberedFrame) → holds before frames →
-      holds after (frames ++ numbered old.number (flat_map frames_of blocks))
+  pub taken : Taken (numbered old.number (flat_map frames_of blocks))
   pub counted : number_after old.number (flat_map frames_of blocks) ≡ now.number
 
 -- No block stands at the front of these bytes: a reader with no fault holds them, since they are the beginning of one;
@@ -62,23 +65,21 @@ StandsAs left held None front = (left ≡ held) × ((count : ℕ) × (front ≡ 
 StandsAs left held (Some fault) front = (held ≡ []) × (front ≡ Faulty fault)
 
 -- all that is whole of a text was read
-pub record IsReadWhole {S : Type 0} (holds : S → List NumberedFrame → Type 0) (old now : ReaderContent)
-    (text : List ℕ) (before after : S) : Type 0 where
+pub record IsReadWhole (Taken : List NumberedFrame → Type 0) (old now : ReaderContent)
+    (text : List ℕ) : Type 0 where
   pub left : List ℕ
-  pub so_far : IsReadOn holds old now text left before after
+  pub so_far : IsReadOn Taken old now text left
   pub stands : StandsAs left now.held now.fault (front_of now.reading.layout now.reading.interfaces left)
 
 -- some blocks at the front of a text were read
-abbrev pub IsReadSome : {S : Type 0} → (S → List NumberedFrame → Type 0) → ReaderContent → List ℕ → S → S → Type 0
-IsReadSome holds old text before after =
-    (now : ReaderContent) × ((left : List ℕ) × IsReadOn holds old now text left before after)
+abbrev pub IsReadSome : (List NumberedFrame → Type 0) → ReaderContent → List ℕ → Type 0
+IsReadSome Taken old text = (now : ReaderContent) × ((left : List ℕ) × IsReadOn Taken old now text left)
 
--- Of a text not all that is whole was read. Where memory ran out, the frames that were handed on are its first ones.
--- Where what takes the frames took no more, that says itself what it holds.
-abbrev pub HasHalted : {S E : Type 0} → (S → List NumberedFrame → Type 0) →
-    ReaderContent → List ℕ → S → S → Halt E → Type 0
-HasHalted holds old text before after halts.Memory = IsReadSome holds old text before after
-HasHalted holds old text before after (halts.Stop stop) = Unit {0}
+-- Of a text not all that is whole was read. Where memory ran out, the frames that were taken are its first ones. Where
+-- what takes the frames took no more, that says itself what it holds.
+abbrev pub HasHalted : {E : Type 0} → (List NumberedFrame → Type 0) → ReaderContent → List ℕ → Halt E → Type 0
+HasHalted Taken old text halts.Memory = IsReadSome Taken old text
+HasHalted Taken old text (halts.Stop stop) = Unit {0}
 
 -- how the file ends where its input does
 abbrev pub ending_with : Layout → List ℕ → Option PcapFault → Option PcapFault
@@ -92,9 +93,8 @@ ending_of now = ending_with now.reading.layout now.held now.fault
 abbrev pub at_first : ReaderContent
 at_first = record { reading = at_start; held = []; number = 1; fault = None }
 
--- of a text that ends here the frames were handed on, from number 1 on, and the fault is the reader's
-pub record HasHandedOn {S : Type 0} (holds : S → List NumberedFrame → Type 0) (now : ReaderContent)
-    (text : List ℕ) (before after : S) : Type 0 where
+-- of a text that ends here the frames were taken, from number 1 on, and the fault is the reader's
+pub record HasHandedOn (Taken : List NumberedFrame → Type 0) (now : ReaderContent) (text : List ℕ) : Type 0 where
   pub frames : List CapturedContent
   pub is : IsPcap text (record { frames = frames; fault = ending_of now })
-  pub taken : (earlier : List NumberedFrame) → holds before earlier → holds after (earlier ++ numbered 1 frames)
+  pub taken : Taken (numbered 1 frames)

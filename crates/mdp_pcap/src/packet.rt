@@ -22,6 +22,20 @@ pub(crate) struct Packet {
     pub(crate) original: u32,
 }
 
+/// Where a kind of block has the captured bytes of its frame: from an offset on, with so many bytes after them.
+#[derive(Clone, Copy)]
+pub(crate) struct Body {
+    start: usize,
+    tail: usize,
+}
+
+/// That of a record of a classic pcap.
+const RECORD: Body = Body { start: 16, tail: 0 };
+/// That of an enhanced packet block.
+const ENHANCED: Body = Body { start: 28, tail: 4 };
+/// That of a simple packet block.
+const SIMPLE: Body = Body { start: 12, tail: 4 };
+
 /// Reads a record of a classic pcap.
 pub(crate) fn packet_record(
     order: Endianness,
@@ -36,14 +50,8 @@ pub(crate) fn packet_record(
         return Err(PcapFault::RecordSize);
     };
     let captured = number32(order, block, 8) as usize;
-    packet_in(
-        16,
-        0,
-        captured,
-        number32(order, block, 12),
-        interface,
-        block,
-    )
+    let original = number32(order, block, 12);
+    packet_in(RECORD, captured, original, interface, block)
 }
 
 /// Reads an enhanced packet block.
@@ -60,14 +68,8 @@ pub(crate) fn enhanced_packet(
         return Err(PcapFault::RecordSize);
     };
     let captured = number32(order, block, 20) as usize;
-    packet_in(
-        28,
-        4,
-        captured,
-        number32(order, block, 24),
-        interface,
-        block,
-    )
+    let original = number32(order, block, 24);
+    packet_in(ENHANCED, captured, original, interface, block)
 }
 
 /// Reads a simple packet block.
@@ -85,7 +87,7 @@ pub(crate) fn simple_packet(
     };
     let original = number32(order, block, 8);
     let captured = snapped(interface.snap_length, original) as usize;
-    packet_in(12, 4, captured, original, interface, block)
+    packet_in(SIMPLE, captured, original, interface, block)
 }
 
 fn snapped(snap_length: u32, original: u32) -> u32
@@ -97,25 +99,23 @@ fn snapped(snap_length: u32, original: u32) -> u32
     snap_length.min(original)
 }
 
-// Reads a frame whose captured bytes stand in a block from an offset on, with so many bytes behind them.
+// Reads a frame of so many captured bytes, of so many on the wire.
 fn packet_in(
-    start: usize,
-    tail: usize,
+    body: Body,
     captured: usize,
     original: u32,
     interface: Interface,
     block: &[u8],
 ) -> Result<Block, PcapFault>
-    requires starts { start ≤ 28 }
-    requires tails { tail ≤ 4 }
-    ensures said { said_in block.now result
-        ≡ packet_in start tail captured original interface block.now }
+    requires starts { body.start ≤ 28 }
+    requires tails { body.tail ≤ 4 }
+    ensures said { said_in block.now result ≡ packet_in body captured original interface block.now }
     ensures inside { IfOk result (IsInside block.now) }
 {
     if captured > 262_144 {
         return Err(PcapFault::RecordSize);
     }
-    if block.len() < start + captured + tail {
+    if block.len() < body.start + captured + body.tail {
         return Err(PcapFault::RecordSize);
     }
     let Some(link) = link_of(interface.link_type) else {
@@ -123,7 +123,7 @@ fn packet_in(
     };
     Ok(Block::Packet(Packet {
         link,
-        start,
+        start: body.start,
         captured,
         original,
     }))

@@ -2,8 +2,9 @@
 
 ghost use Rattle.std.specs.Prelude.{◌≡◌, ◌≤◌, ◌++◌, ◌∷◌, [], List, drop, length, OnOk, IfOk, IfErr, IsOk, IsSome, None};
 ghost use Rattle.mdp_pcap.specs.Frame.{captured_content};
-ghost use Rattle.mdp_pcap.specs.Reader.{NumberedFrame, content_of, IsReadWhole, HasHalted, ending_of, at_first};
-ghost use Rattle.mdp_pcap.specs.Stepping.{HasStepped, HasMovedOn, HasTaken, IsStop};
+ghost use Rattle.mdp_pcap.specs.Block.{frames_of};
+ghost use Rattle.mdp_pcap.specs.Reader.{NumberedFrame, Takes, content_of, numbered, IsReadWhole, HasHalted, ending_of, at_first};
+ghost use Rattle.mdp_pcap.specs.Stepping.{HasStepped, HasMovedOn, IsStop};
 ghost use Rattle.mdp_pcap.specs.Placing.{block_in, IsInside};
 ghost use Rattle.mdp_pcap.specs.File.{cut_end, cut_short};
 
@@ -26,8 +27,8 @@ pub trait TakesFrames {
     ///
     /// Where it takes no more.
     fn take(&mut self, number: u32, frame: CapturedFrame<'_>) -> Result<(), Self::Stop>
-        ensures { OnOk result ((frames : List NumberedFrame) → holds self.old frames →
-            holds self.new (frames ++ record { number = number; frame = captured_content frame.entry } ∷ [])) };
+        ensures { OnOk result (Takes holds self.old self.new
+            (record { number = number; frame = captured_content frame.entry } ∷ [])) };
 }
 
 /// Why a piece was not read to its end.
@@ -108,10 +109,11 @@ impl<A: Allocator + Copy> PcapReader<A> {
         piece: &[u8],
         sink: &mut S,
     ) -> Result<(), Halt<S::Stop>>
-        ensures read { (content_of self.old).fault ≡ None → OnOk result (IsReadWhole S.holds
-            (content_of self.old) (content_of self.new) ((content_of self.old).held ++ piece.now) sink.old sink.new) }
-        ensures halted { IfErr result (HasHalted S.holds
-            (content_of self.old) ((content_of self.old).held ++ piece.now) sink.old sink.new) }
+        ensures read { (content_of self.old).fault ≡ None → OnOk result (IsReadWhole
+            (Takes S.holds sink.old sink.new) (content_of self.old) (content_of self.new)
+            ((content_of self.old).held ++ piece.now)) }
+        ensures halted { IfErr result (HasHalted (Takes S.holds sink.old sink.new)
+            (content_of self.old) ((content_of self.old).held ++ piece.now)) }
         ensures stopped { IsSome (content_of self.old).fault →
             (content_of self.new ≡ content_of self.old) × (sink.new ≡ sink.old) × (IsOk result) }
     {
@@ -125,10 +127,11 @@ impl<A: Allocator + Copy> PcapReader<A> {
     // Reads a piece where no fault was met.
     fn read_on<S: TakesFrames>(&mut self, piece: &[u8], sink: &mut S) -> Result<(), Halt<S::Stop>>
         requires { self.old.fault ≡ None }
-        ensures read { OnOk result (IsReadWhole S.holds (content_of self.old) (content_of self.new)
-            (self.old.held.items ++ piece.now) sink.old sink.new) }
-        ensures halted { IfErr result (HasHalted S.holds (content_of self.old)
-            (self.old.held.items ++ piece.now) sink.old sink.new) }
+        ensures read { OnOk result (IsReadWhole
+            (Takes S.holds sink.old sink.new) (content_of self.old) (content_of self.new)
+            (self.old.held.items ++ piece.now)) }
+        ensures halted { IfErr result (HasHalted (Takes S.holds sink.old sink.new)
+            (content_of self.old) (self.old.held.items ++ piece.now)) }
     {
         let mut from = 0;
         loop {
@@ -142,10 +145,10 @@ impl<A: Allocator + Copy> PcapReader<A> {
     // Reads one block more, or takes in what it lacks.
     fn step<S: TakesFrames>(&mut self, rest: &[u8], sink: &mut S) -> Result<Step, Halt<S::Stop>>
         requires { self.old.fault ≡ None }
-        ensures stepped { IfOk result (HasStepped S.holds
-            (content_of self.old) (content_of self.new) rest.now sink.old sink.new) }
-        ensures halted { IfErr result (HasHalted S.holds (content_of self.old)
-            (self.old.held.items ++ rest.now) sink.old sink.new) }
+        ensures stepped { IfOk result (HasStepped (Takes S.holds sink.old sink.new)
+            (content_of self.old) (content_of self.new) rest.now) }
+        ensures halted { IfErr result (HasHalted (Takes S.holds sink.old sink.new)
+            (content_of self.old) (self.old.held.items ++ rest.now)) }
     {
         if self.held.is_empty() {
             let step = self.step_in_piece(rest, sink)?;
@@ -163,10 +166,10 @@ impl<A: Allocator + Copy> PcapReader<A> {
     ) -> Result<Step, Halt<S::Stop>>
         requires going { self.old.fault ≡ None }
         requires empty { self.old.held.items ≡ [] }
-        ensures stepped { IfOk result (HasStepped S.holds
-            (content_of self.old) (content_of self.new) rest.now sink.old sink.new) }
-        ensures halted { IfErr result (HasHalted S.holds (content_of self.old)
-            (self.old.held.items ++ rest.now) sink.old sink.new) }
+        ensures stepped { IfOk result (HasStepped (Takes S.holds sink.old sink.new)
+            (content_of self.old) (content_of self.new) rest.now) }
+        ensures halted { IfErr result (HasHalted (Takes S.holds sink.old sink.new)
+            (content_of self.old) (self.old.held.items ++ rest.now)) }
     {
         match front_of(self.layout, self.interfaces.as_slice(), rest) {
             Front::Unfinished(_) => {
@@ -196,10 +199,10 @@ impl<A: Allocator + Copy> PcapReader<A> {
         sink: &mut S,
     ) -> Result<Step, Halt<S::Stop>>
         requires { self.old.fault ≡ None }
-        ensures stepped { IfOk result (HasStepped S.holds
-            (content_of self.old) (content_of self.new) rest.now sink.old sink.new) }
-        ensures halted { IfErr result (HasHalted S.holds (content_of self.old)
-            (self.old.held.items ++ rest.now) sink.old sink.new) }
+        ensures stepped { IfOk result (HasStepped (Takes S.holds sink.old sink.new)
+            (content_of self.old) (content_of self.new) rest.now) }
+        ensures halted { IfErr result (HasHalted (Takes S.holds sink.old sink.new)
+            (content_of self.old) (self.old.held.items ++ rest.now)) }
     {
         match front_of(
             self.layout,
@@ -294,8 +297,8 @@ fn hand_on<S: TakesFrames>(
     sink: &mut S,
 ) -> Result<(), Halt<S::Stop>>
     requires { IsInside bytes.now block }
-    ensures taken { OnOk result
-        (HasTaken S.holds number (block_in bytes.now block) sink.old sink.new) }
+    ensures taken { OnOk result (Takes S.holds sink.old sink.new
+        (numbered number (frames_of (block_in bytes.now block)))) }
     ensures halted { IfErr result IsStop }
 {
     match block {

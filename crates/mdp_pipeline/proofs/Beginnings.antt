@@ -16,13 +16,12 @@ use Rattle.mdp_arbiter.specs.Accepted.{Event, came, recovered, closed}
 use Rattle.mdp_arbiter.specs.Machine.{go_on, moves_of, stands_after, state_at, trace}
 use Rattle.mdp_arbiter.specs.Channel.{Channel, ListedChannel, channel_of}
 use Rattle.mdp_arbiter.proofs.Runs.{law_of_fronts}
-use Rattle.mdp_engine.specs.Engine.{View}
 use Rattle.mdp_desks.specs.Moments.{moments_after, shown_lines, text_of_moments}
 use Rattle.mdp_pipeline.specs.declared.progress.Run.{Run}
 use Rattle.mdp_pipeline.specs.Merge.{Arrival, FeedRecords, in_order}
-use Rattle.mdp_pipeline.specs.Reading.{Reading, Said, Says, brings, refused, IsReading, AreReadings, brought_by, by_feed, events_of, kind_of, refusals_text}
+use Rattle.mdp_pipeline.specs.Reading.{Reading, Says, IsReading, AreReadings, by_feed, events_of, refusals_text}
+use Rattle.mdp_receiver.specs.Said.{Said, brings, refused, brought_by, kind_of}
 use Rattle.mdp_pipeline.specs.Output.{end_lines, shown_output}
-use Rattle.mdp_pipeline.specs.RefusalTexts.{RefusalTexts}
 use Rattle.mdp_pipeline.specs.Running.{BeginsAll, PrintsAll, TakesAs, Writes}
 use Rattle.mdp_desks.proofs.Moments.{shown_lines-append}
 use Rattle.mdp_pipeline.proofs.Written.{HasTaken, taken_more}
@@ -121,17 +120,17 @@ text_begins channel readings more sent held n shown =
     ∙ append_assoc (sent ++ take n held) (drop n held) (later ++ end)
 
 -- The first records were taken, and of the text that is held so many bytes went out.
-pub begins_so_far : (channel : ListedChannel) (arrivals done left : List Arrival) (start taken taken' : List ℕ) (engine : View) (refusals : RefusalTexts) (n : ℕ)
-    → arrivals ≡ done ++ left → taken' ≡ taken ++ take n engine.held → Writes channel done start taken engine refusals → BeginsAll channel arrivals start taken'
-begins_so_far channel arrivals done left start taken taken' engine refusals n parts went so_far =
+pub begins_so_far : {A : Type 0} (channel : ListedChannel) (arrivals done left : List Arrival) (start taken taken' : List ℕ) (run : Run A) (n : ℕ)
+    → arrivals ≡ done ++ left → taken' ≡ taken ++ take n run.handler.held → Writes channel done start taken run → BeginsAll channel arrivals start taken'
+begins_so_far channel arrivals done left start taken taken' run n parts went so_far =
     let readings = so_far.over.readings in
     let more = readings_exist left in
     let all = readings ++ more.0 in
-    let run = so_far.over.run in
-    let held = engine.held in
+    let over = so_far.over.run in
+    let held = run.handler.held in
     let shown : so_far.sent ++ held ≡ shown_lines channel.listed (moves_of channel (events_of readings)) =
-    run.stands.shows.text_is
-    ∙ ap (λ (c : Channel). shown_lines channel.listed (trace c (events_of readings))) run.channel_is in
+    over.stands.shows.text_is
+    ∙ ap (λ (c : Channel). shown_lines channel.listed (trace c (events_of readings))) over.channel_is in
     record {
       text = text_of channel all;
       standing = stands_after channel (events_of all);
@@ -145,18 +144,18 @@ begins_so_far channel arrivals done left start taken taken' engine refusals n pa
 -- ---- a run
 
 -- a run whose records are not all taken
-pub taken_begins : (channel : ListedChannel) (records : FeedRecords) (start taken : List ℕ) (engine : View) (refusals : RefusalTexts) (ahead : FeedRecords)
-    → HasTaken channel records start taken engine refusals ahead → BeginsAll channel (in_order records) start taken
-taken_begins channel records start taken engine refusals ahead so_far =
-    begins_so_far channel (in_order records) so_far.done (in_order ahead) start taken taken engine refusals 0 so_far.left (sym (append-nil taken)) so_far.writes
+pub taken_begins : {A : Type 0} (channel : ListedChannel) (records : FeedRecords) (start taken : List ℕ) (run : Run A) (ahead : FeedRecords)
+    → HasTaken channel records start taken run ahead → BeginsAll channel (in_order records) start taken
+taken_begins channel records start taken run ahead so_far =
+    begins_so_far channel (in_order records) so_far.done (in_order ahead) start taken taken run 0 so_far.left (sym (append-nil taken)) so_far.writes
 
 -- a run whose text was to go out after one record more
 pub piece_begins : {A : Type 0} (channel : ListedChannel) (records : FeedRecords) (start taken taken' : List ℕ) (old new : Run A) (ahead ahead' : FeedRecords) (feed : Feed) (entry : RecordContent) (n : ℕ)
     → in_order ahead ≡ (record { feed = feed; entry = entry }) ∷ in_order ahead'
-    → TakesAs (kind_of feed) feed entry.line entry.received old new
-    → taken' ≡ taken ++ take n new.engine.held
-    → HasTaken channel records start taken old.engine old.refusals ahead
+    → TakesAs (kind_of feed) (record { feed = feed; entry = entry }) old new
+    → taken' ≡ taken ++ take n new.handler.held
+    → HasTaken channel records start taken old ahead
     → BeginsAll channel (in_order records) start taken'
 piece_begins channel records start taken taken' old new ahead ahead' feed entry n next takes went so_far =
     let on = taken_more channel records start taken taken old new new ahead ahead' feed entry next takes (λ arrivals writes. writes) so_far in
-    begins_so_far channel (in_order records) on.done (in_order ahead') start taken taken' new.engine new.refusals n on.left went on.writes
+    begins_so_far channel (in_order records) on.done (in_order ahead') start taken taken' new n on.left went on.writes

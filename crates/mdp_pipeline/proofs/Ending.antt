@@ -11,7 +11,8 @@ use Rattle.mdp_desks.specs.Moments.{Moment, moments, moments_after, shown_lines,
 use Rattle.mdp_engine.specs.Engine.{View, Stands}
 use Rattle.mdp_arbiter.specs.declared.arbiter.Standing.{Standing}
 use Rattle.mdp_crew.specs.declared.stop.Stop.{Stop}
-use Rattle.mdp_crew.specs.Running.{HasShown as HasShownOf, HasShownAll, WentOut}
+use Rattle.mdp_crew.specs.Outlets.{out}
+use Rattle.mdp_crew.specs.Running.{HasShown, HasShownAll, WentOut}
 use Rattle.mdp_desks.proofs.Moments.{moments-append, shown_lines-append}
 use Rattle.mdp_lanes.specs.Boards.{Published}
 use Rattle.mdp_reports.specs.Behind.{IsBehind}
@@ -25,12 +26,12 @@ use Rattle.mdp_pipeline.specs.Merge.{Arrival}
 use Rattle.mdp_pipeline.specs.Output.{end_lines, end_text, shown_output, standing_in}
 use Rattle.mdp_pipeline.specs.Reading.{by_feed, events_of, refusals_text}
 use Rattle.mdp_pipeline.specs.RefusalTexts.{RefusalTexts}
-use Rattle.mdp_pipeline.specs.Running.{BeginsAll, EndsAs, EndsEarly, HandsOn, HasShown, PrintsAll, RunsOver, Writes, joined_texts}
+use Rattle.mdp_pipeline.specs.Running.{BeginsAll, EndsAs, EndsEarly, HandsOn, HasWritten, PrintsAll, Writes, joined_texts}
 
 -- ---- the text so far
 
 -- what was sent and what is held is what the moves show
-shown_so_far : (channel : ListedChannel) (events : List Event) (start taken : List ℕ) (engine : View) → (so_far : HasShown channel events start taken engine) → so_far.sent ++ engine.held ≡ shown_lines channel.listed (moves_of channel events)
+shown_so_far : (channel : ListedChannel) (events : List Event) (start taken : List ℕ) (engine : View) → (so_far : HasWritten channel events start taken engine) → so_far.sent ++ engine.held ≡ shown_lines channel.listed (moves_of channel events)
 shown_so_far channel events start taken engine so_far =
     so_far.stands.shows.text_is ∙ ap (λ (c : Channel). shown_lines channel.listed (trace c events)) so_far.channel_is
 
@@ -48,7 +49,7 @@ shown_front channel events more =
 
 -- of the text that is held so many bytes went out; whatever comes behind these events, it is a beginning of the whole
 pub early : (channel : ListedChannel) (events more : List Event) (refusals start taken taken' : List ℕ) (engine : View) (n : ℕ) → taken' ≡ taken ++ take n engine.held
-    → HasShown channel events start taken engine → EndsEarly channel (events ++ more) refusals start taken'
+    → HasWritten channel events start taken engine → EndsEarly channel (events ++ more) refusals start taken'
 early channel events more refusals start taken taken' engine n went so_far =
     let held = engine.held in
     let later = shown_later channel events more in
@@ -67,7 +68,7 @@ early channel events more refusals start taken taken' engine n went so_far =
     }
 
 pub early_here : (channel : ListedChannel) (events : List Event) (refusals start taken taken' : List ℕ) (engine : View) (n : ℕ) → taken' ≡ taken ++ take n engine.held
-    → HasShown channel events start taken engine → EndsEarly channel events refusals start taken'
+    → HasWritten channel events start taken engine → EndsEarly channel events refusals start taken'
 early_here channel events refusals start taken taken' engine n went so_far =
     subst (λ (es : List Event). EndsEarly channel es refusals start taken') (append-nil events) (early channel events [] refusals start taken taken' engine n went so_far)
 
@@ -88,25 +89,26 @@ tells_both engine next lost next_is lost_is = λ listed es drained stands i. rec
 
 pub ends_as : (channel : ListedChannel) (events : List Event) (start taken taken' : List ℕ) (engine : View) (end : List ℕ) (refusals : RefusalTexts) (standing : Standing)
     → taken' ≡ (taken ++ engine.held) ++ end → end ≡ end_text (joined_texts refusals) standing → Tells engine standing
-    → HasShown channel events start taken engine → EndsAs channel events (joined_texts refusals) start taken' standing
+    → HasWritten channel events start taken engine → (text : List ℕ) × (taken' ≡ start ++ text) × EndsAs channel events (joined_texts refusals) text standing
 ends_as channel events start taken taken' engine end refusals standing went end_is tells so_far =
     let held = engine.held in
     let front = so_far.sent ++ held in
     let there : standing ≡ stands_after channel events = tells channel.listed events so_far.sent so_far.stands ∙ ap (λ (c : Channel). stands_at c events) so_far.channel_is in
-    let ending : end ≡ end_lines channel (joined_texts refusals) events = end_is ∙ ap (end_text (joined_texts refusals)) there in
-    record {
-      text = front ++ end;
-      taken_is = went ∙ ap (λ (t : List ℕ). (t ++ held) ++ end) so_far.taken_is ∙ ap (λ (t : List ℕ). t ++ end) (append_assoc start so_far.sent held) ∙ append_assoc start front end;
-      standing_is = there;
-      shown =
-          ap (λ (t : List ℕ). t ++ end) (shown_so_far channel events start taken engine so_far)
-          ∙ ap (λ (t : List ℕ). shown_lines channel.listed (moves_of channel events) ++ t) ending;
-    }
+    let ending : end ≡ end_lines channel (joined_texts refusals) events = end_is ∙ ap (end_text (joined_texts refusals)) there in (
+      front ++ end,
+      went ∙ ap (λ (t : List ℕ). (t ++ held) ++ end) so_far.taken_is ∙ ap (λ (t : List ℕ). t ++ end) (append_assoc start so_far.sent held) ∙ append_assoc start front end,
+      record {
+        standing_is = there;
+        shown =
+            ap (λ (t : List ℕ). t ++ end) (shown_so_far channel events start taken engine so_far)
+            ∙ ap (λ (t : List ℕ). shown_lines channel.listed (moves_of channel events) ++ t) ending;
+      },
+    )
 
 -- the text went out, and of the refusals and the last line so many bytes
 pub early_in_end : (channel : ListedChannel) (events : List Event) (start taken taken' : List ℕ) (engine : View) (end : List ℕ) (refusals : RefusalTexts) (standing : Standing) (n : ℕ)
     → taken' ≡ (taken ++ engine.held) ++ take n end → end ≡ end_text (joined_texts refusals) standing → Tells engine standing
-    → HasShown channel events start taken engine → EndsEarly channel events (joined_texts refusals) start taken'
+    → HasWritten channel events start taken engine → EndsEarly channel events (joined_texts refusals) start taken'
 unfolding ends_as
 early_in_end channel events start taken taken' engine end refusals standing n went end_is tells so_far =
     let held = engine.held in
@@ -116,20 +118,20 @@ early_in_end channel events start taken taken' engine end refusals standing n we
       sent = front ++ take n end;
       rest = drop n end;
       taken_is = went ∙ ap (λ (t : List ℕ). (t ++ held) ++ take n end) so_far.taken_is ∙ ap (λ (t : List ℕ). t ++ take n end) (append_assoc start so_far.sent held) ∙ append_assoc start front (take n end);
-      whole = sym all.shown ∙ ap (λ (t : List ℕ). front ++ t) (sym (take-append-drop n end)) ∙ sym (append_assoc front (take n end) (drop n end));
+      whole = sym all.2.shown ∙ ap (λ (t : List ℕ). front ++ t) (sym (take-append-drop n end)) ∙ sym (append_assoc front (take n end) (drop n end));
     }
 
 -- ends told of the same standing
 pub told_as : (channel : ListedChannel) (events : List Event) (refusals start taken : List ℕ) (standing standing' : Standing) → standing' ≡ standing
-    → EndsAs channel events refusals start taken standing → EndsAs channel events refusals start taken standing'
-told_as channel events refusals start taken standing standing' same ends = subst (EndsAs channel events refusals start taken) (sym same) ends
+    → (text : List ℕ) × (taken ≡ start ++ text) × EndsAs channel events refusals text standing → (text : List ℕ) × (taken ≡ start ++ text) × EndsAs channel events refusals text standing'
+told_as channel events refusals start taken standing standing' same ends = subst (λ (s : Standing). (text : List ℕ) × (taken ≡ start ++ text) × EndsAs channel events refusals text s) (sym same) ends
 
 -- what the end comes to, where all of the text went out
 pub ends_of : (taken mid after : List ℕ) (engine : View) (refusals : RefusalTexts) (standing : Standing) (result : Result Summary RunFault)
     → Tells engine standing → mid ≡ taken ++ engine.held
     → IfOk result (λ (summary : Summary). standing_in summary ≡ standing) → OnOk result (after ≡ mid ++ (end_text (joined_texts refusals) standing))
-    → IfOk result (λ (summary : Summary). (channel : ListedChannel) (events : List Event) (start : List ℕ) → HasShown channel events start taken engine
-    → EndsAs channel events (joined_texts refusals) start after (standing_in summary))
+    → IfOk result (λ (summary : Summary). (channel : ListedChannel) (events : List Event) (start : List ℕ) → HasWritten channel events start taken engine
+    → (text : List ℕ) × (after ≡ start ++ text) × EndsAs channel events (joined_texts refusals) text (standing_in summary))
 ends_of taken mid after engine refusals standing (Ok summary) tells text same went = λ channel events start so_far.
     let end = end_text (joined_texts refusals) standing in
     let ends = ends_as channel events start taken after engine end refusals standing (went ∙ ap (λ (t : List ℕ). t ++ end) text) refl tells so_far in
@@ -139,7 +141,7 @@ ends_of taken mid after engine refusals standing (Err fault) tells text same wen
 pub early_of : (taken mid after : List ℕ) (engine : View) (refusals : RefusalTexts) (standing : Standing) (result : Result Summary RunFault)
     → Tells engine standing → mid ≡ taken ++ engine.held
     → IfErr result (λ (fault : RunFault). (n : ℕ) × (after ≡ mid ++ take n (end_text (joined_texts refusals) standing)))
-    → IfErr result (λ (fault : RunFault). (channel : ListedChannel) (events : List Event) (start : List ℕ) → HasShown channel events start taken engine
+    → IfErr result (λ (fault : RunFault). (channel : ListedChannel) (events : List Event) (start : List ℕ) → HasWritten channel events start taken engine
     → EndsEarly channel events (joined_texts refusals) start after)
 early_of taken mid after engine refusals standing (Ok summary) tells text begins = tt
 early_of taken mid after engine refusals standing (Err fault) tells text begins = λ channel events start so_far.
@@ -150,22 +152,23 @@ early_of taken mid after engine refusals standing (Err fault) tells text begins 
 
 -- the refusals and the last line went out behind what the moves show
 pub ends_behind : (channel : ListedChannel) (events : List Event) (start taken after : List ℕ) (was now : Option Published) (standing : Standing) (refusals : RefusalTexts)
-    → after ≡ taken ++ (end_text (joined_texts refusals) standing) → HasShownAll channel events start taken was now standing
-    → EndsAs channel events (joined_texts refusals) start after standing
+    → after ≡ taken ++ (end_text (joined_texts refusals) standing) → HasShownAll channel events (out start was) (out taken now) standing
+    → (text : List ℕ) × (after ≡ start ++ text) × EndsAs channel events (joined_texts refusals) text standing
 ends_behind channel events start taken after was now standing refusals went shown =
     let lines = shown_lines channel.listed (moves_of channel events) in
-    let end = end_text (joined_texts refusals) standing in
-    record {
-      text = lines ++ end;
-      taken_is = went ∙ ap (λ (t : List ℕ). t ++ end) shown.shown ∙ append_assoc start lines end;
-      standing_is = shown.standing_is;
-      shown = ap (λ (s : Standing). lines ++ end_text (joined_texts refusals) s) shown.standing_is;
-    }
+    let end = end_text (joined_texts refusals) standing in (
+      lines ++ end,
+      went ∙ ap (λ (t : List ℕ). t ++ end) shown.shown ∙ append_assoc start lines end,
+      record {
+        standing_is = shown.standing_is;
+        shown = ap (λ (s : Standing). lines ++ end_text (joined_texts refusals) s) shown.standing_is;
+      },
+    )
 
 -- so many bytes of them went out, behind a text whose steps were published
 pub out_in_end : (channel : ListedChannel) (events : List Event) (start taken after : List ℕ) (was now : Option Published) (standing : Standing) (refusals : RefusalTexts) (n : ℕ)
-    → after ≡ taken ++ take n (end_text (joined_texts refusals) standing) → HasShownAll channel events start taken was now standing
-    → WentOut (moments channel.listed (moves_of channel events)) (end_lines channel (joined_texts refusals) events) start after was now
+    → after ≡ taken ++ take n (end_text (joined_texts refusals) standing) → HasShownAll channel events (out start was) (out taken now) standing
+    → WentOut (moments channel.listed (moves_of channel events)) (end_lines channel (joined_texts refusals) events) (out start was) (out after now)
 out_in_end channel events start taken after was now standing refusals n went shown =
     let ms = moments channel.listed (moves_of channel events) in
     let end = end_lines channel (joined_texts refusals) events in
@@ -182,50 +185,50 @@ out_in_end channel events start taken after was now standing refusals n went sho
     }
 
 -- whatever the crew came to, a beginning went out of what it was to show
-went_out : (channel : ListedChannel) (events : List Event) (start taken : List ℕ) (was now : Option Published) (outcome : Result Standing Stop) → HasShownOf channel events start taken was now outcome
-    → WentOut (moments channel.listed (moves_of channel events)) [] start taken was now
+went_out : (channel : ListedChannel) (events : List Event) (start taken : List ℕ) (was now : Option Published) (outcome : Result Standing Stop) → HasShown channel events (out start was) (out taken now) outcome
+    → WentOut (moments channel.listed (moves_of channel events)) [] (out start was) (out taken now)
 went_out channel events start taken was now (Ok standing) shown = all_out (moments channel.listed (moves_of channel events)) start taken was now shown.all.shown shown.all.published
 went_out channel events start taken was now (Err stop) shown = shown.some
 
 -- and of what more events show too, whatever stands behind that
-pub out_early : (channel : ListedChannel) (events more : List Event) (end start taken : List ℕ) (was now : Option Published) (outcome : Result Standing Stop) → HasShownOf channel events start taken was now outcome
-    → WentOut (moments channel.listed (moves_of channel (events ++ more))) end start taken was now
+pub out_early : (channel : ListedChannel) (events more : List Event) (end start taken : List ℕ) (was now : Option Published) (outcome : Result Standing Stop) → HasShown channel events (out start was) (out taken now) outcome
+    → WentOut (moments channel.listed (moves_of channel (events ++ more))) end (out start was) (out taken now)
 out_early channel events more end start taken was now outcome shown =
     let machine = channel_of channel in
     let before = moves_of channel events in
     let later = go_on machine events (state_at machine events) more in
-    subst (λ (ms : List Moment). WentOut ms end start taken was now) (sym (ap (moments channel.listed) (law_of_fronts machine events more) ∙ moments-append channel.listed [] before later))
-    (out_more (moments channel.listed before) (moments_after channel.listed before later) end start taken was now (went_out channel events start taken was now outcome shown))
+    subst (λ (ms : List Moment). WentOut ms end (out start was) (out taken now)) (sym (ap (moments channel.listed) (law_of_fronts machine events more) ∙ moments-append channel.listed [] before later))
+    (out_more (moments channel.listed before) (moments_after channel.listed before later) end (out start was) (out taken now) (went_out channel events start taken was now outcome shown))
 
 -- ---- runs over records of all feeds in one list
 
-pub writes_shown : (channel : ListedChannel) (arrivals : List Arrival) (start taken : List ℕ) (engine : View) (refusals : RefusalTexts)
-    → (so_far : Writes channel arrivals start taken engine refusals) → HasShown channel (events_of so_far.over.readings) start taken engine
-writes_shown channel arrivals start taken engine refusals so_far = record {
+pub writes_shown : {A : Type 0} (channel : ListedChannel) (arrivals : List Arrival) (start taken : List ℕ) (run : Run A)
+    → (so_far : Writes channel arrivals start taken run) → HasWritten channel (events_of so_far.over.readings) start taken run.handler
+writes_shown channel arrivals start taken run so_far = record {
   sent = so_far.sent;
   taken_is = so_far.taken_is;
   stands = so_far.over.run.stands;
   channel_is = so_far.over.run.channel_is;
 }
 
-pub prints_all : (channel : ListedChannel) (arrivals : List Arrival) (start taken taken' : List ℕ) (engine : View) (refusals : RefusalTexts) (standing : Standing)
-    → (so_far : Writes channel arrivals start taken engine refusals) → EndsAs channel (events_of so_far.over.readings) (joined_texts refusals) start taken' standing
+pub prints_all : {A : Type 0} (channel : ListedChannel) (arrivals : List Arrival) (start taken taken' : List ℕ) (run : Run A) (standing : Standing)
+    → (so_far : Writes channel arrivals start taken run) → (ends : (text : List ℕ) × (taken' ≡ start ++ text) × EndsAs channel (events_of so_far.over.readings) (joined_texts run.refusals) text standing)
     → (text : List ℕ) × (taken' ≡ start ++ text) × PrintsAll channel arrivals text standing
-prints_all channel arrivals start taken taken' engine refusals standing so_far ends = (
-  ends.text,
-  ends.taken_is,
+prints_all channel arrivals start taken taken' run standing so_far ends = (
+  ends.0,
+  ends.1,
   record {
     readings = so_far.over.readings;
     are = so_far.over.are;
-    standing_is = ends.standing_is;
-    shown = ends.shown ∙ ap (λ (t : RefusalTexts). shown_output channel (joined_texts t) (events_of so_far.over.readings)) so_far.over.run.refusals_are;
+    standing_is = ends.2.standing_is;
+    shown = ends.2.shown ∙ ap (λ (t : RefusalTexts). shown_output channel (joined_texts t) (events_of so_far.over.readings)) so_far.over.run.refusals_are;
   },
 )
 
-pub begins_all : (channel : ListedChannel) (arrivals : List Arrival) (start taken taken' : List ℕ) (engine : View) (refusals : RefusalTexts)
-    → (so_far : Writes channel arrivals start taken engine refusals) → EndsEarly channel (events_of so_far.over.readings) (joined_texts refusals) start taken'
+pub begins_all : {A : Type 0} (channel : ListedChannel) (arrivals : List Arrival) (start taken taken' : List ℕ) (run : Run A)
+    → (so_far : Writes channel arrivals start taken run) → EndsEarly channel (events_of so_far.over.readings) (joined_texts run.refusals) start taken'
     → BeginsAll channel arrivals start taken'
-begins_all channel arrivals start taken taken' engine refusals so_far ends =
+begins_all channel arrivals start taken taken' run so_far ends =
     let events = events_of so_far.over.readings in
     record {
       text = shown_output channel (refusals_text (by_feed so_far.over.readings)) events;
@@ -240,7 +243,7 @@ begins_all channel arrivals start taken taken' engine refusals so_far ends =
 -- ---- lines of the engine go out
 
 pub writes_on : {A : Type 0} (channel : ListedChannel) (arrivals : List Arrival) (start taken taken' : List ℕ) (old new : Run A) → HandsOn taken taken' old new
-    → Writes channel arrivals start taken old.engine old.refusals → Writes channel arrivals start taken' new.engine new.refusals
+    → Writes channel arrivals start taken old → Writes channel arrivals start taken' new
 writes_on channel arrivals start taken taken' old new on so_far =
     let over = so_far.over in
     record {

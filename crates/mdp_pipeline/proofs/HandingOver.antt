@@ -1,11 +1,13 @@
 -- What a reader has handed over, record by record.
 use Rattle.std.proofs.Common.{Vec, ◌≡◌, ℕ, ◌+◌, ◌<◌, Bool, true, false, List, [], ◌∷◌, ◌++◌, map, take, length, get_or, refl, sym, ap, subst, ◌∙◌, append_assoc}
-use Rattle.std.specs.Prelude.{◌||◌}
+use Rattle.std.specs.Prelude.{◌||◌, Result, Ok, Err, OnOk}
 use Rattle.std.proofs.lemmas.List.{append-nil, map-append, take_more}
 use Rattle.std.proofs.lemmas.List.Concat.{flat_map-append}
 use Rattle.std.proofs.lemmas.List.Folds.{list_any-append}
 use Rattle.mdp_templates.specs.declared.feed.Feed.{Feed}
-use Rattle.mdp_capture.specs.Record.{RecordContent}
+use Rattle.mdp_templates.specs.Refused.{FeedKind as Kind}
+use Rattle.mdp_templates.specs.Refused.FeedKind.{incremental, recovery}
+use Rattle.mdp_capture.specs.Record.{Close, Received, RecordContent}
 use Rattle.mdp_arbiter.specs.Accepted.{Event}
 use Rattle.mdp_engine.specs.Steps.{event_of}
 use Rattle.mdp_lanes.specs.Queues.{IntakeSenderView}
@@ -13,8 +15,9 @@ use Rattle.mdp_crew.specs.declared.batch.Batch.{Batch}
 use Rattle.mdp_crew.specs.Batches.{all_events, batch_events}
 use Rattle.mdp_pipeline.specs.declared.reader.Reader.{Reader}
 use Rattle.mdp_pipeline.specs.Merge.{Arrival, arrivals}
-use Rattle.mdp_pipeline.specs.Reading.{Reading, AreReadings, brought_by, events_of, refusal_lines, refusal_text}
-use Rattle.mdp_pipeline.specs.Readers.{HasHandedOver, HasPut, HasReadOne, HasReadSoFar, events_held, has_ended}
+use Rattle.mdp_pipeline.specs.Reading.{Reading, AreReadings, Says, close_said, events_of, refusal_lines, refusal_text}
+use Rattle.mdp_receiver.specs.Said.{brought_by, kind_of}
+use Rattle.mdp_pipeline.specs.Readers.{HoldsOne, HasHandedOver, HasPut, HasReadOne, HasReadSoFar, events_held, has_ended}
 use Rattle.mdp_pipeline.proofs.Beginnings.{readings_exist, readings-append}
 
 module _ {A : Type 0} where
@@ -129,3 +132,21 @@ module _ {A : Type 0} where
   handed_over_none feed records before =
       let more = readings_exist (arrivals feed records) in
       record { batches = []; put = puts_none before before refl; readings = more.0; are = more.1; rest = events_of more.0; front = refl }
+
+-- ---- a close
+
+no_refusal : (feed : Feed) (line : ℕ) (kind : Kind) → refusal_text feed line (close_said kind) ≡ []
+no_refusal feed line incremental = refl
+no_refusal feed line recovery = refl
+
+pub holds_close : {A T E : Type 0} (feed : Feed) (entry : RecordContent) (old new : Reader A) (result : Result T E) → entry.received ≡ Close → OnOk result (events_held new ≡ events_held old ++ brought_by (close_said (kind_of feed))) → new.refusals ≡ old.refusals → OnOk result (HoldsOne feed entry old new)
+holds_close feed entry old new (Ok done) is events same = record {
+  said = close_said (kind_of feed);
+  says = subst (λ (r : Received). Says (kind_of feed) r (close_said (kind_of feed))) (sym is) refl;
+  events = events;
+  refusals =
+      ap (λ (v : Vec ℕ _). v.items) same
+      ∙ sym (append-nil old.refusals.items)
+      ∙ ap (λ (t : List ℕ). old.refusals.items ++ t) (sym (no_refusal feed entry.line (kind_of feed)));
+}
+holds_close feed entry old new (Err fault) is events same = tt

@@ -1,6 +1,6 @@
 -- What was taken of three readers, with what they did not hand over, is a merge of what their records bring.
 use Rattle.std.proofs.Common.{◌≡◌, ℕ, Bool, true, false, cond, List, [], ◌∷◌, ◌++◌, take, refl, sym, ap, subst, ◌∙◌}
-use Rattle.std.specs.Prelude.{Option, Result, Ok, Err, IfOk, IfErr, OnOk, ◌==◌, ◌<◌}
+use Rattle.std.specs.Prelude.{MatchResult, Option, Result, Ok, Err, IfOk, IfErr, OnOk, ◌==◌, ◌<◌}
 use Rattle.std.specs.List.{filter}
 use Rattle.std.proofs.lemmas.List.{append-nil, map-append}
 use Rattle.std.proofs.lemmas.List.Elements.{filter-append}
@@ -23,6 +23,7 @@ use Rattle.mdp_arbiter.specs.declared.arbiter.Standing.{Standing}
 use Rattle.mdp_crew.specs.declared.batch.Batch.{Batch}
 use Rattle.mdp_crew.specs.declared.stop.Stop.{Stop}
 use Rattle.mdp_crew.specs.Batches.{HasTakenMore, all_events, batch_events, events_taken}
+use Rattle.mdp_crew.specs.Outlets.{out}
 use Rattle.mdp_crew.specs.Publishing.{published_on}
 use Rattle.mdp_crew.specs.Running.{HasShown, HasShownAll, WentOut}
 use Rattle.mdp_crew.proofs.Boards.{published_nothing}
@@ -33,7 +34,7 @@ use Rattle.mdp_pipeline.specs.declared.summary.Summary.{Summary}
 use Rattle.mdp_pipeline.specs.Taken.{HasReadFor, tagged_as, tagged_taken}
 use Rattle.mdp_pipeline.specs.Merge.{FeedRecords, arrivals}
 use Rattle.mdp_pipeline.specs.Merging.{Tagged, IsMerge, events_from, events_in, is_from}
-use Rattle.mdp_pipeline.specs.Output.{BeginsToPublish, Prints, SaysAll, SaysSome, end_lines, end_text, out, shown_output, standing_in}
+use Rattle.mdp_pipeline.specs.Output.{BeginsToPublish, Prints, SaysAll, SaysSome, end_lines, end_text, shown_output, standing_in}
 use Rattle.mdp_pipeline.specs.Reading.{Readings, events_of, refusals_text}
 use Rattle.mdp_pipeline.specs.Readers.{HasRead}
 use Rattle.mdp_pipeline.specs.RefusalTexts.{RefusalTexts}
@@ -42,6 +43,17 @@ use Rattle.mdp_pipeline.proofs.Beginnings.{readings_exist}
 use Rattle.mdp_pipeline.proofs.OnBoards.{publishes}
 use Rattle.mdp_pipeline.proofs.Ending.{ends_behind, out_early, out_in_end, told_as}
 use Rattle.mdp_arbiter.specs.Machine.{moves_of, stands_after}
+
+-- ---- a reader that was begun
+
+-- what it has come to, in its thread or here
+module _ {A X : Type 0} (feed_of : X → Feed) (records_of : X → List RecordContent) (before_of : X → IntakeSenderView (Batch A)) where
+  pub read_there : (begun : Result X (ReaderOutcome A)) (feed : Feed) (records : List RecordContent) (before : IntakeSenderView (Batch A)) (outcome : ReaderOutcome A)
+      → MatchResult begun (λ h. (feed_of h ≡ feed) × (records_of h ≡ records) × (before_of h ≡ before)) (λ o. HasRead feed records before o)
+      → MatchResult begun (λ h. HasRead (feed_of h) (records_of h) (before_of h) outcome) (λ o. outcome ≡ o) → HasRead feed records before outcome
+  read_there (Ok h) feed records before outcome is kept =
+      subst (λ (p : Feed × List RecordContent × IntakeSenderView (Batch A)). HasRead p.0 p.1 p.2 outcome) (λ i. (is.0 i, is.1 i, is.2 i)) kept
+  read_there (Err o) feed records before outcome is same = subst (HasRead feed records before) (sym same) is
 
 -- ---- one feed's events among those with feeds
 
@@ -278,14 +290,14 @@ module _ {A : Type 0} where
       }
 
   pub begins_merge : (receiver : IntakeReceiverView (Batch A)) (records : FeedRecords) (left_a left_b left_s : ReaderOutcome A) (joined : Joined receiver records left_a left_b left_s) (channel : ListedChannel) (start taken : List ℕ) (was now : Option Published)
-      → WentOut (moments channel.listed (moves_of channel (events_taken receiver.taken ++ rest_in joined))) (end_lines channel (refusals_text (readings_in joined)) (events_taken receiver.taken ++ rest_in joined)) start taken was now
+      → WentOut (moments channel.listed (moves_of channel (events_taken receiver.taken ++ rest_in joined))) (end_lines channel (refusals_text (readings_in joined)) (events_taken receiver.taken ++ rest_in joined)) (out start was) (out taken now)
       → SaysSome channel records (out start was) (out taken now)
   unfolding prints
   begins_merge receiver records left_a left_b left_s joined channel start taken was now went =
       let es = events_in (merge_in joined) in
       let end = end_lines channel (refusals_text (readings_in joined)) es in
-      let gone : WentOut (moments channel.listed (moves_of channel es)) end start taken was now =
-      subst (λ (events : List Event). WentOut (moments channel.listed (moves_of channel events)) (end_lines channel (refusals_text (readings_in joined)) events) start taken was now)
+      let gone : WentOut (moments channel.listed (moves_of channel es)) end (out start was) (out taken now) =
+      subst (λ (events : List Event). WentOut (moments channel.listed (moves_of channel events)) (end_lines channel (refusals_text (readings_in joined)) events) (out start was) (out taken now))
       (sym (merge_events receiver records left_a left_b left_s joined)) went in
       let left = (law_of_early_ends (moments channel.listed (moves_of channel es)) end gone.sent gone.steps gone.behind).0 in (
         gone.steps,
@@ -306,7 +318,7 @@ module _ {A : Type 0} where
       )
 
   pub prints_merge : (receiver : IntakeReceiverView (Batch A)) (records : FeedRecords) (left_a left_b left_s : ReaderOutcome A) (joined : Joined receiver records left_a left_b left_s) (channel : ListedChannel) (refusals start taken : List ℕ) (standing : Standing) (was now : Option Published)
-      → rest_in joined ≡ [] → refusals ≡ refusals_text (readings_in joined) → EndsAs channel (events_taken receiver.taken) refusals start taken standing
+      → rest_in joined ≡ [] → refusals ≡ refusals_text (readings_in joined) → (text : List ℕ) × (taken ≡ start ++ text) × EndsAs channel (events_taken receiver.taken) refusals text standing
       → now ≡ published_on was (board_steps channel.listed (moves_of channel (events_taken receiver.taken)))
       → SaysAll channel records (out start was) (out taken now) standing
   unfolding prints
@@ -314,10 +326,10 @@ module _ {A : Type 0} where
       let es = events_in (merge_in joined) in
       let all : events_taken receiver.taken ≡ es = sym (append-nil (events_taken receiver.taken)) ∙ ap (λ (t : List Event). events_taken receiver.taken ++ t) (sym none) ∙ sym (merge_events receiver records left_a left_b left_s joined) in
       let is = prints receiver records left_a left_b left_s joined channel in
-      let text_is : ends.text ≡ shown_output channel (refusals_text (readings_in joined)) es = ends.shown ∙ ap (λ (r : List ℕ). shown_output channel r (events_taken receiver.taken)) told ∙ ap (shown_output channel (refusals_text (readings_in joined))) all in (
-        ends.text,
+      let text_is : ends.0 ≡ shown_output channel (refusals_text (readings_in joined)) es = ends.2.shown ∙ ap (λ (r : List ℕ). shown_output channel r (events_taken receiver.taken)) told ∙ ap (shown_output channel (refusals_text (readings_in joined))) all in (
+        ends.0,
         board_steps channel.listed (moves_of channel es),
-        ends.taken_is,
+        ends.1,
         published ∙ ap (λ (events : List Event). published_on was (board_steps channel.listed (moves_of channel events))) all,
         (
           merge_in joined,
@@ -325,7 +337,7 @@ module _ {A : Type 0} where
             readings = is.readings;
             are = is.are;
             merges = is.merges;
-            standing_is = ends.standing_is ∙ ap (stands_after channel) all;
+            standing_is = ends.2.standing_is ∙ ap (stands_after channel) all;
             shown = text_is;
             owed = λ feed honest. text_is ∙ is.owed feed honest;
           },
@@ -347,11 +359,11 @@ module _ {A : Type 0} where
       (taken after : List ℕ) (outcome : Result Standing Stop) (standing : Standing) (refusals : RefusalTexts) (result : Result Summary RunFault)
       → outcome ≡ Ok standing → rest_in joined ≡ [] → joined_texts refusals ≡ refusals_text (readings_in joined)
       → IfOk result (λ (summary : Summary). standing_in summary ≡ standing) → OnOk result (after ≡ taken ++ end_text (joined_texts refusals) standing)
-      → IfOk result (λ (summary : Summary). (channel : ListedChannel) (start : List ℕ) (was now : Option Published) → HasShown channel (events_taken receiver.taken) start taken was now outcome
+      → IfOk result (λ (summary : Summary). (channel : ListedChannel) (start : List ℕ) (was now : Option Published) → HasShown channel (events_taken receiver.taken) (out start was) (out taken now) outcome
       → SaysAll channel records (out start was) (out after now) (standing_in summary))
   ends_well receiver records left_a left_b left_s joined taken after outcome standing refusals (Ok summary) is none told tells went = λ channel start was now shown.
       let events = events_taken receiver.taken in
-      let all = subst (λ (o : Result Standing Stop). IfOk o (λ (st : Standing). HasShownAll channel events start taken was now st)) is shown.all in
+      let all = subst (λ (o : Result Standing Stop). IfOk o (λ (st : Standing). HasShownAll channel events (out start was) (out taken now) st)) is shown.all in
       prints_merge receiver records left_a left_b left_s joined channel (joined_texts refusals) start after (standing_in summary) was now none told
       (told_as channel events (joined_texts refusals) start after standing (standing_in summary) tells (ends_behind channel events start taken after was now standing refusals went all)) all.published
   ends_well receiver records left_a left_b left_s joined taken after outcome standing refusals (Err fault) is none told tells went = tt
@@ -360,20 +372,20 @@ module _ {A : Type 0} where
       (taken after : List ℕ) (outcome : Result Standing Stop) (standing : Standing) (refusals : RefusalTexts) (result : Result Summary RunFault)
       → outcome ≡ Ok standing → rest_in joined ≡ [] → joined_texts refusals ≡ refusals_text (readings_in joined)
       → IfErr result (λ (fault : RunFault). (n : ℕ) × (after ≡ taken ++ take n (end_text (joined_texts refusals) standing)))
-      → IfErr result (λ (fault : RunFault). (channel : ListedChannel) (start : List ℕ) (was now : Option Published) → HasShown channel (events_taken receiver.taken) start taken was now outcome
+      → IfErr result (λ (fault : RunFault). (channel : ListedChannel) (start : List ℕ) (was now : Option Published) → HasShown channel (events_taken receiver.taken) (out start was) (out taken now) outcome
       → SaysSome channel records (out start was) (out after now))
   ends_early receiver records left_a left_b left_s joined taken after outcome standing refusals (Ok summary) is none told begins = tt
   ends_early receiver records left_a left_b left_s joined taken after outcome standing refusals (Err fault) is none told begins = λ channel start was now shown.
       let events = events_taken receiver.taken in
-      let all = subst (λ (o : Result Standing Stop). IfOk o (λ (st : Standing). HasShownAll channel events start taken was now st)) is shown.all in
+      let all = subst (λ (o : Result Standing Stop). IfOk o (λ (st : Standing). HasShownAll channel events (out start was) (out taken now) st)) is shown.all in
       begins_merge receiver records left_a left_b left_s joined channel start after was now
-      (subst (λ (r : List ℕ). WentOut (moments channel.listed (moves_of channel (events ++ rest_in joined))) (end_lines channel r (events ++ rest_in joined)) start after was now) told
-      (subst (λ (es : List Event). WentOut (moments channel.listed (moves_of channel es)) (end_lines channel (joined_texts refusals) es) start after was now) (sym (append-nil events) ∙ ap (λ (t : List Event). events ++ t) (sym none))
+      (subst (λ (r : List ℕ). WentOut (moments channel.listed (moves_of channel (events ++ rest_in joined))) (end_lines channel r (events ++ rest_in joined)) (out start was) (out after now)) told
+      (subst (λ (es : List Event). WentOut (moments channel.listed (moves_of channel es)) (end_lines channel (joined_texts refusals) es) (out start was) (out after now)) (sym (append-nil events) ∙ ap (λ (t : List Event). events ++ t) (sym none))
       (out_in_end channel events start taken after was now standing refusals begins.0 begins.1 all)))
 
   -- the crew stopped early, or a reader met want of memory
   pub ends_short : (receiver : IntakeReceiverView (Batch A)) (records : FeedRecords) (left_a left_b left_s : ReaderOutcome A) → Joined receiver records left_a left_b left_s
-      → (taken : List ℕ) (outcome : Result Standing Stop) (channel : ListedChannel) (start : List ℕ) (was now : Option Published) → HasShown channel (events_taken receiver.taken) start taken was now outcome
+      → (taken : List ℕ) (outcome : Result Standing Stop) (channel : ListedChannel) (start : List ℕ) (was now : Option Published) → HasShown channel (events_taken receiver.taken) (out start was) (out taken now) outcome
       → SaysSome channel records (out start was) (out taken now)
   ends_short receiver records left_a left_b left_s joined taken outcome channel start was now shown =
       begins_merge receiver records left_a left_b left_s joined channel start taken was now

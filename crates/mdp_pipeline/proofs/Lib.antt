@@ -7,4 +7,3 @@ pub mod HandingOver
 pub mod Ending
 pub mod OnBoards
 pub mod Joining
-mod Copying

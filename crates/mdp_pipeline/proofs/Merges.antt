@@ -15,7 +15,8 @@ use Rattle.mdp_desks.specs.Moments.{text_of_moments}
 use Rattle.mdp_pipeline.specs.declared.summary.Summary.{Summary}
 use Rattle.mdp_pipeline.specs.declared.summary.RunFault.{RunFault}
 use Rattle.mdp_pipeline.specs.Merge.{Arrival, FeedRecords, arrivals, by_line, in_order}
-use Rattle.mdp_pipeline.specs.Reading.{Reading, AreReadings, AreReadingsOf, IsReading, brought_by, by_feed, events_of, is_on, readings_on, refusals_text}
+use Rattle.mdp_pipeline.specs.Reading.{Reading, AreReadings, AreReadingsOf, IsReading, by_feed, events_of, is_on, readings_on, refusals_text}
+use Rattle.mdp_receiver.specs.Said.{brought_by}
 use Rattle.mdp_pipeline.specs.Merging.{Tagged, IsMerge, events_from, events_in, is_from, tagged_by}
 use Rattle.mdp_pipeline.specs.Output.{BeginsByLine, Prints, PrintsByLine, end_lines, shown_output, standing_in}
 use Rattle.mdp_pipeline.specs.Running.{BeginsAll, PrintsAll}

@@ -1,16 +1,17 @@
 -- What a run has published of the events that it took.
 use Rattle.std.proofs.Common.{◌≡◌, ℕ, List, ◌++◌, map, refl, sym, ap, ◌∙◌}
-use Rattle.std.specs.Prelude.{Option, Some, None, Result, Ok, Err, IfOk, IfErr}
+use Rattle.std.specs.Prelude.{Option, Some, None, Result, Ok, Err}
 use Rattle.mdp_arbiter.specs.Channel.{ListedChannel}
 use Rattle.mdp_arbiter.specs.Accepted.{Event}
 use Rattle.mdp_lanes.specs.Boards.{Published}
 use Rattle.mdp_lanes.specs.declared.step.Step.{Step}
 use Rattle.mdp_reports.specs.BoardSteps.{board_steps, step_of_moment}
 use Rattle.mdp_engine.proofs.Owing.{law_of_honest_moments}
+use Rattle.mdp_crew.specs.Outlets.{out}
 use Rattle.mdp_crew.specs.Publishing.{published_on}
 use Rattle.mdp_pipeline.specs.declared.summary.RunFault.{RunFault}
 use Rattle.mdp_pipeline.specs.declared.summary.Summary.{Summary}
-use Rattle.mdp_pipeline.specs.Output.{BeginsMerge, BeginsToPublishMerge, Ends, PrintsMerge, Publishes, PublishesMerge, SaysAll, SaysSome, out}
+use Rattle.mdp_pipeline.specs.Output.{BeginsMerge, BeginsToPublishMerge, Ends, PrintsMerge, Publishes, PublishesMerge, SaysAll, SaysSome}
 use Rattle.mdp_arbiter.specs.Machine.{moves_of}
 use Rattle.mdp_arbiter.specs.declared.arbiter.Standing.{Standing}
 use Rattle.mdp_pipeline.specs.Merge.{FeedRecords}

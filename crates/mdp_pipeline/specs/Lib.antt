@@ -1,7 +1,6 @@
 pub mod Merge
 pub mod Reading
 pub mod Merging
-pub mod Decoding
 pub mod Counted
 pub mod Output
 pub mod RefusalTexts
@@ -9,4 +8,3 @@ pub mod Running
 pub mod Faults
 pub mod Readers
 pub mod Taken
-pub mod Copies

@@ -23,10 +23,14 @@ pub record Arrival : Type 0 where
   pub feed : Feed
   pub entry : RecordContent
 
-abbrev pub arrivals : Feed → List RecordContent → List Arrival
-arrivals feed records = map (λ (entry : RecordContent). record { feed = feed; entry = entry }) records
+abbrev pub arrival_on : Feed → RecordContent → Arrival
+arrival_on feed entry = record { feed = feed; entry = entry }
 
--- turn by turn the first record of that list whose first record has the lesser line; of equal lines the first list's
+abbrev pub arrivals : Feed → List RecordContent → List Arrival
+arrivals feed records = map (arrival_on feed) records
+
+-- turn by turn the first record of that list whose first record has the lesser line; of equal lines
+-- the first list's
 abbrev pub by_line : List Arrival → List Arrival → List Arrival
 by_line [] ys = ys
 by_line (x ∷ xs) [] = x ∷ xs
@@ -36,7 +40,8 @@ by_line (x ∷ xs) (y ∷ ys) =
 -- of equal lines feed A's record, then B's, then S's
 abbrev pub in_order : FeedRecords → List Arrival
 in_order records =
-    by_line (by_line (arrivals feeds.A records.a) (arrivals feeds.B records.b)) (arrivals feeds.S records.s)
+    by_line (by_line (arrivals feeds.A records.a) (arrivals feeds.B records.b))
+    (arrivals feeds.S records.s)
 
 -- ---- which list goes first
 
@@ -52,7 +57,10 @@ is_first (Some line) (Some other) = nat_le line other
 -- the feed whose first record is the next, S where there is none
 abbrev pub first_of_lines : Option ℕ → Option ℕ → Option ℕ → Feed
 first_of_lines a b s =
-    if is_first a b then (if is_first a s then feeds.A else feeds.S) else (if is_first b s then feeds.B else feeds.S)
+    if is_first a b
+    then (if is_first a s then feeds.A else feeds.S)
+    else (if is_first b s then feeds.B else feeds.S)
 
 abbrev pub first_feed : FeedRecords → Feed
-first_feed records = first_of_lines (head_line records.a) (head_line records.b) (head_line records.s)
+first_feed records =
+    first_of_lines (head_line records.a) (head_line records.b) (head_line records.s)

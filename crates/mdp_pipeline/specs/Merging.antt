@@ -6,7 +6,8 @@ use Rattle.mdp_templates.specs.declared.feed.Feed.TheVariants as feeds
 use Rattle.mdp_templates.specs.Feed.{feed_letter}
 use Rattle.mdp_arbiter.specs.Accepted.{Event}
 use Rattle.mdp_pipeline.specs.Merge.{FeedRecords, in_order}
-use Rattle.mdp_pipeline.specs.Reading.{Reading, Readings, AreReadings, brought_by, events_of}
+use Rattle.mdp_pipeline.specs.Reading.{Reading, Readings, AreReadings, events_of}
+use Rattle.mdp_receiver.specs.Said.{brought_by}
 
 -- an event, and the feed that brought it
 pub record Tagged : Type 0 where

@@ -1,6 +1,6 @@
--- What a run over the records of a channel's feeds prints and publishes, and what a complete feed that agrees with them
--- has to do with it.
-use Rattle.std.specs.Prelude.{◌≡◌, ℕ, List, ◌++◌, Option, Result, IfOk, IfErr}
+-- What a run over the records of a channel's feeds prints and publishes, and what a complete feed
+-- that agrees with them has to do with it.
+use Rattle.std.specs.Prelude.{◌≡◌, ℕ, List, ◌++◌, Result, IfOk, IfErr}
 use Rattle.mdp_templates.specs.Packet.{PacketContent}
 use Rattle.mdp_print.specs.Texts.{last_line}
 use Rattle.mdp_arbiter.specs.Accepted.{Event}
@@ -10,12 +10,12 @@ use Rattle.mdp_arbiter.specs.Channel.{ListedChannel}
 use Rattle.mdp_desks.specs.Moments.{Moment, moments, shown_lines}
 use Rattle.mdp_engine.specs.Honest.{IsHonest}
 use Rattle.mdp_engine.specs.Owed.{lines, owed_moments, steps_of}
-use Rattle.mdp_lanes.specs.Boards.{Published}
 use Rattle.mdp_lanes.specs.declared.step.Step.{Step}
 use Rattle.mdp_reports.specs.Behind.{IsBehind}
 use Rattle.mdp_reports.specs.BoardSteps.{board_steps, owed_board_steps}
 use Rattle.mdp_crew.specs.Arbitrating.{IsNextNumber}
 use Rattle.mdp_crew.specs.Counted.{HasCounted}
+use Rattle.mdp_crew.specs.Outlets.{Outlet}
 use Rattle.mdp_crew.specs.Publishing.{published_on}
 use Rattle.mdp_pipeline.specs.declared.summary.RunFault.{RunFault}
 use Rattle.mdp_pipeline.specs.declared.summary.Summary.{Summary}
@@ -45,14 +45,15 @@ shown_output channel refusals events =
 -- the text that a complete feed defines: the lines that it owes for the moves
 abbrev pub output : ListedChannel → List PacketContent → List ℕ → List Event → List ℕ
 output channel feed refusals events =
-    lines channel.listed feed (steps_of (moves_of channel events)) ++ end_lines channel refusals events
+    lines channel.listed feed (steps_of (moves_of channel events))
+    ++ end_lines channel refusals events
 
 -- ---- a run
 
--- What a run over these records prints, where this is the merge of what they brought: the text that the merge's moves
--- show. It is the text of every complete feed that agrees with the merge.
-pub record Prints (channel : ListedChannel) (records : FeedRecords) (merge : List Tagged) (text : List ℕ)
-    (standing : Standing) : Type 0 where
+-- What a run over these records prints, where this is the merge of what they brought: the text that
+-- the merge's moves show. It is the text of every complete feed that agrees with the merge.
+pub record Prints (channel : ListedChannel) (records : FeedRecords) (merge : List Tagged)
+    (text : List ℕ) (standing : Standing) : Type 0 where
   pub readings : Readings
   pub are : AreReadingsOf records readings
   pub merges : IsMerge readings merge
@@ -74,10 +75,12 @@ pub record Begins (channel : ListedChannel) (records : FeedRecords) (merge : Lis
 
 -- the same of some merge
 abbrev pub PrintsMerge : ListedChannel → FeedRecords → List ℕ → Standing → Type 0
-PrintsMerge channel records text standing = (merge : List Tagged) × Prints channel records merge text standing
+PrintsMerge channel records text standing =
+    (merge : List Tagged) × Prints channel records merge text standing
 
 abbrev pub BeginsMerge : ListedChannel → FeedRecords → List ℕ → List ℕ → Type 0
-BeginsMerge channel records start taken = (merge : List Tagged) × Begins channel records merge start taken
+BeginsMerge channel records start taken =
+    (merge : List Tagged) × Begins channel records merge start taken
 
 -- the same of the one merge that follows the capture's lines
 abbrev pub PrintsByLine : ListedChannel → FeedRecords → List ℕ → Standing → Type 0
@@ -90,15 +93,17 @@ BeginsByLine channel records start taken =
 
 -- ---- a run that publishes on a board
 
--- The steps for these events: those that the moves themselves show. They are those of every complete feed that agrees
--- with the events.
-pub record Publishes (channel : ListedChannel) (events : List Event) (steps : List Step) : Type 0 where
+-- The steps for these events: those that the moves themselves show. They are those of every
+-- complete feed that agrees with the events.
+pub record Publishes (channel : ListedChannel) (events : List Event)
+    (steps : List Step) : Type 0 where
   pub shown : steps ≡ board_steps channel.listed (moves_of channel events)
   pub owed : (feed : List PacketContent) → IsHonest channel.listed feed events
       → steps ≡ owed_board_steps channel.listed feed (steps_of (moves_of channel events))
 
--- What went out before an early end, as text and on the board: both are read off one list of moments, those that the
--- moves show. They are those of every complete feed that agrees with the events.
+-- What went out before an early end, as text and on the board: both are read off one list of
+-- moments, those that the moves show. They are those of every complete feed that agrees with the
+-- events.
 pub record BeginsToPublish (channel : ListedChannel) (events : List Event) (end sent : List ℕ)
     (steps : List Step) : Type 0 where
   pub shown : List Moment
@@ -110,9 +115,11 @@ pub record BeginsToPublish (channel : ListedChannel) (events : List Event) (end 
 -- the text and the steps are those of one merge
 abbrev pub PublishesMerge : ListedChannel → FeedRecords → List ℕ → Standing → List Step → Type 0
 PublishesMerge channel records text standing steps =
-    (merge : List Tagged) × Prints channel records merge text standing × Publishes channel (events_in merge) steps
+    (merge : List Tagged) × Prints channel records merge text standing
+    × Publishes channel (events_in merge) steps
 
--- what went out is a beginning of the text of one merge, and what was published is no further than that text
+-- what went out is a beginning of the text of one merge, and what was published is no further than
+-- that text
 abbrev pub BeginsToPublishMerge : ListedChannel → FeedRecords → List ℕ → List ℕ → List Step → Type 0
 BeginsToPublishMerge channel records start taken steps =
     (merge : List Tagged) × (begins : Begins channel records merge start taken)
@@ -121,18 +128,11 @@ BeginsToPublishMerge channel records start taken steps =
 
 -- ---- what a run has done to its writer and its board
 
--- the bytes that the writer took, and the board, if there is one
-pub record Outlet : Type 0 where
-  pub taken : List ℕ
-  pub board : Option Published
-
-abbrev pub out : List ℕ → Option Published → Outlet
-out taken board = record { taken = taken; board = board }
-
 -- the text and the steps of one merge went out, after what had gone out before
 abbrev pub SaysAll : ListedChannel → FeedRecords → Outlet → Outlet → Standing → Type 0
 SaysAll channel records old new standing =
-    (text : List ℕ) × (steps : List Step) × (new.taken ≡ old.taken ++ text) × (new.board ≡ published_on old.board steps)
+    (text : List ℕ) × (steps : List Step) × (new.taken ≡ old.taken ++ text)
+    × (new.board ≡ published_on old.board steps)
     × PublishesMerge channel records text standing steps
 
 -- beginnings of them did
@@ -141,8 +141,8 @@ SaysSome channel records old new =
     (steps : List Step) × (new.board ≡ published_on old.board steps)
     × BeginsToPublishMerge channel records old.taken new.taken steps
 
--- What became of a run: all went out, and it tells where the channel stands; or beginnings did. It tells how many
--- bytes.
+-- What became of a run: all went out, and it tells where the channel stands; or beginnings did. It
+-- tells how many bytes.
 pub record Ends (channel : ListedChannel) (records : FeedRecords) (old new : Outlet)
     (result : Result Summary RunFault) : Type 0 where
   pub text : IfOk result (λ summary. SaysAll channel records old new (standing_in summary))

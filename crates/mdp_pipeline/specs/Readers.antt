@@ -11,7 +11,8 @@ use Rattle.mdp_crew.specs.Batches.{all_events}
 use Rattle.mdp_pipeline.specs.declared.reader.Reader.{Reader}
 use Rattle.mdp_pipeline.specs.declared.reader.ReaderOutcome.{ReaderOutcome}
 use Rattle.mdp_pipeline.specs.Merge.{arrivals}
-use Rattle.mdp_pipeline.specs.Reading.{Reading, AreReadings, Said, Says, brought_by, events_of, kind_of, refusal_lines, refusal_text}
+use Rattle.mdp_pipeline.specs.Reading.{Reading, AreReadings, Says, events_of, refusal_lines, refusal_text}
+use Rattle.mdp_receiver.specs.Said.{Said, brought_by, kind_of}
 
 -- its last batch was put
 abbrev pub has_ended : {A : Type 0} → IntakeSenderView (Batch A) → Bool
@@ -24,6 +25,13 @@ HasPut before batches after = after ≡ record before { sent = before.sent ++ ba
 -- the events that are read and not handed over yet
 abbrev pub events_held : {A : Type 0} → Reader A → List Event
 events_held reader = map event_of reader.events.items
+
+-- One record's events are held behind the others, or its refusal is told.
+pub record HoldsOne {A : Type 0} (feed : Feed) (entry : RecordContent) (old new : Reader A) : Type 0 where
+  pub said : Said
+  pub says : Says (kind_of feed) entry.received said
+  pub events : events_held new ≡ events_held old ++ brought_by said
+  pub refusals : new.refusals.items ≡ old.refusals.items ++ refusal_text feed entry.line said
 
 -- One record was read: its events are held behind the others, but for those that were handed over, or its refusal is
 -- told.

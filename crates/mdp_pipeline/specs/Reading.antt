@@ -1,40 +1,26 @@
 -- What the records of a channel's feeds say: the events that each brings, or why it is refused.
 use Rattle.std.specs.Prelude.{◌≡◌, ◌==◌, ℕ, Bool, List, [], ◌∷◌, ◌++◌, map}
 use Rattle.std.specs.List.{AllByRecursion, filter, flat_map}
-use Rattle.mdp_sbe.specs.declared.refusal.Refusal.{Refusal}
-use Rattle.mdp_templates.specs.Packet.{PacketContent}
-use Rattle.mdp_templates.specs.Snapshot.{SnapshotContent}
-use Rattle.mdp_templates.specs.Incremental.{IsPacket}
-use Rattle.mdp_templates.specs.Recovery.{AreSnapshots}
-use Rattle.mdp_templates.specs.Refused.{FeedKind as Kind, IsRefusedAs}
+use Rattle.mdp_templates.specs.Refused.{FeedKind as Kind}
 use Rattle.mdp_templates.specs.Refused.FeedKind.{incremental, recovery}
 use Rattle.mdp_capture.specs.Record.{Received, Datagram, Close}
 use Rattle.mdp_templates.specs.declared.feed.Feed.{Feed}
 use Rattle.mdp_templates.specs.declared.feed.Feed.TheVariants as feeds
 use Rattle.mdp_templates.specs.Feed.{feed_letter}
 use Rattle.mdp_print.specs.Texts.{refusal_line}
-use Rattle.mdp_arbiter.specs.Accepted.{Event, came, recovered, closed}
+use Rattle.mdp_arbiter.specs.Accepted.{Event, closed}
+use Rattle.mdp_receiver.specs.Said.{Said, IsSaid, brings, refused, brought_by, kind_of}
 use Rattle.mdp_pipeline.specs.Merge.{Arrival, FeedRecords, arrivals}
 
--- a record brings events, in order, or is refused
-pub data Said : Type 0 where
-  brings : List Event → Said
-  refused : Refusal → Said
+-- a close counts on feed S alone
+abbrev pub close_said : Kind → Said
+close_said incremental = brings []
+close_said recovery = brings (closed ∷ [])
 
--- A datagram of feed A or B brings its packet, one of feed S its snapshots; and feed S can close the channel.
+-- a record says what its datagram says, or closes the channel
 abbrev pub Says : Kind → Received → Said → Type 0
-Says incremental (Datagram bytes) (brings events) =
-    (packet : PacketContent) × IsPacket bytes packet × (events ≡ came packet ∷ [])
-Says recovery (Datagram bytes) (brings events) =
-    (snapshots : List SnapshotContent) × AreSnapshots bytes snapshots × (events ≡ map recovered snapshots)
-Says kind (Datagram bytes) (refused refusal) = IsRefusedAs kind bytes refusal
-Says incremental Close said = said ≡ brings []
-Says recovery Close said = said ≡ brings (closed ∷ [])
-
-abbrev pub kind_of : Feed → Kind
-kind_of feeds.A = incremental
-kind_of feeds.B = incremental
-kind_of feeds.S = recovery
+Says kind (Datagram bytes) said = IsSaid kind bytes said
+Says kind Close said = said ≡ close_said kind
 
 -- a record of a feed, and what it says
 pub record Reading : Type 0 where
@@ -48,10 +34,6 @@ IsReading r = Says (kind_of r.arrival.feed) r.arrival.entry.received r.said
 pub record AreReadings (arrivals : List Arrival) (readings : List Reading) : Type 0 where
   pub of : map (λ (r : Reading). r.arrival) readings ≡ arrivals
   pub each : AllByRecursion IsReading readings
-
-abbrev pub brought_by : Said → List Event
-brought_by (brings events) = events
-brought_by (refused refusal) = []
 
 -- the events that were brought, in order
 abbrev pub events_of : List Reading → List Event

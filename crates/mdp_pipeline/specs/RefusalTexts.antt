@@ -1,5 +1,5 @@
 -- The lines of refused datagrams, feed by feed.
-use Rattle.std.specs.Prelude.{ℕ, List, [], ◌++◌, refl}
+use Rattle.std.specs.Prelude.{ℕ, List, [], ◌++◌, Option, Some, None, refl}
 use Rattle.std.specs.Coded.{Coded, code_by, coded×, coded_ℕ, coded_list}
 use Rattle.mdp_sbe.specs.declared.refusal.Refusal.{Refusal}
 use Rattle.mdp_templates.specs.declared.feed.Feed.{Feed}
@@ -20,7 +20,7 @@ refusal_texts_code =
 abbrev pub no_refusals : RefusalTexts
 no_refusals = record { a = []; b = []; s = [] }
 
--- one more
+-- one more on a feed
 abbrev pub with_refusal : Feed → ℕ → Refusal → RefusalTexts → RefusalTexts
 with_refusal feeds.A line refusal texts =
     record { a = texts.a ++ refusal_line feeds.A line refusal; b = texts.b; s = texts.s }
@@ -28,3 +28,8 @@ with_refusal feeds.B line refusal texts =
     record { a = texts.a; b = texts.b ++ refusal_line feeds.B line refusal; s = texts.s }
 with_refusal feeds.S line refusal texts =
     record { a = texts.a; b = texts.b; s = texts.s ++ refusal_line feeds.S line refusal }
+
+-- where there is a refusal
+abbrev pub with_told : Feed → ℕ → Option Refusal → RefusalTexts → RefusalTexts
+with_told feed line None texts = texts
+with_told feed line (Some refusal) texts = with_refusal feed line refusal texts

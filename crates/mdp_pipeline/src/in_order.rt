@@ -8,7 +8,7 @@ ghost use Rattle.mdp_pipeline.specs.Counted.{written_before};
 ghost use Rattle.mdp_pipeline.specs.Faults.{FailsBy};
 ghost use Rattle.mdp_pipeline.specs.Merge.{records_in};
 ghost use Rattle.mdp_pipeline.specs.Output.{BeginsByLine, PrintsByLine, end_text, standing_in};
-ghost use Rattle.mdp_pipeline.specs.Running.{EndsAs, EndsEarly, HandsOn, HasShown, joined_texts};
+ghost use Rattle.mdp_pipeline.specs.Running.{EndsAs, EndsEarly, HandsOn, HasWritten, joined_texts};
 ghost use Rattle.mdp_arbiter.specs.Accepted.{Event};
 ghost use Rattle.mdp_arbiter.specs.Channel.{ListedChannel};
 
@@ -49,7 +49,7 @@ fn hand_on<W: CountedWrite>(writer: &mut W, text: &[u8], written: &mut u64) -> R
     }
 }
 
-// Writes the lines that the engine holds where they are a piece, and lets them go.
+// Writes the lines that the handler holds where they are a piece, and lets them go.
 fn hand_on_pieces<W: CountedWrite, A: Allocator + Copy>(
     writer: &mut W,
     run: &mut Run<A>,
@@ -59,7 +59,7 @@ fn hand_on_pieces<W: CountedWrite, A: Allocator + Copy>(
     ensures hands_on { OnOk result (HandsOn (W.taken writer.old)
         (W.taken writer.new) run.old run.new) }
     ensures begins { IfErr result (λ _. (n : ℕ)
-        × (W.taken writer.new ≡ W.taken writer.old ++ take n run.old.engine.held)) }
+        × (W.taken writer.new ≡ W.taken writer.old ++ take n run.old.handler.held)) }
     ensures counts { OnOk result ((start : List ℕ)
         → HasCounted start (W.taken writer.old) written.old
         → HasCounted start (W.taken writer.new) written.new) }
@@ -68,22 +68,22 @@ fn hand_on_pieces<W: CountedWrite, A: Allocator + Copy>(
         → HasCounted start (W.taken writer.new) (written_before fault)) }
     ensures failed { FailsBy result (W.failed writer.old) (W.failed writer.new) }
 {
-    if run.engine.lines().len() < PIECE {
+    if run.handler.lines().len() < PIECE {
         return Ok(());
     }
-    hand_on(writer, run.engine.lines(), written)?;
-    run.engine.clear_lines();
+    hand_on(writer, run.handler.lines(), written)?;
+    run.handler.clear_lines();
     Ok(())
 }
 
-/// Runs over the records of the feeds on one thread, in the order of the capture's lines, and writes what is owed; of
-/// equal lines feed A's record goes before B's, and B's before S's. It works on the caller's thread, whatever the
-/// plan's number of workers.
+/// Runs over the records of the feeds on one thread, in the order of the capture's lines, and
+/// writes what is owed; of equal lines feed A's record goes before B's, and B's before S's. It
+/// works on the caller's thread, whatever the plan's number of workers.
 ///
 /// # Errors
 ///
-/// `Output` exactly where a write failed, else `Memory`. The bytes that went out before are a beginning of what the
-/// whole run prints.
+/// `Output` exactly where a write failed, else `Memory`. The bytes that went out before are a
+/// beginning of what the whole run prints.
 pub fn run_in_order<W: CountedWrite, A: Allocator + Copy>(
     alloc: A,
     plan: RunPlan<'_>,
@@ -94,7 +94,8 @@ pub fn run_in_order<W: CountedWrite, A: Allocator + Copy>(
     requires lawful { IsLawful plan }
     ensures text { IfOk result (λ summary. (text : List ℕ)
         × (W.taken writer.new ≡ W.taken writer.old ++ text)
-        × PrintsByLine (channel_in plan.entry) (records_in feeds.entry) text (standing_in summary)) }
+        × PrintsByLine (channel_in plan.entry) (records_in feeds.entry) text
+        (standing_in summary)) }
     ensures begins { IfErr result (λ _. BeginsByLine (channel_in plan.entry)
         (records_in feeds.entry)
         (W.taken writer.old) (W.taken writer.new)) }
@@ -118,7 +119,7 @@ pub fn run_in_order<W: CountedWrite, A: Allocator + Copy>(
     finish(writer, run, written)
 }
 
-// Writes the lines that the engine still holds, the refusals and the last line.
+// Writes the lines that the handler still holds, the refusals and the last line.
 fn finish<W: CountedWrite, A: Allocator + Copy>(
     writer: &mut W,
     run: Run<A>,
@@ -127,11 +128,12 @@ fn finish<W: CountedWrite, A: Allocator + Copy>(
     requires { W.failed writer.old < 2 ^ 64 - 1 }
     ensures text { IfOk result (λ summary. (channel : ListedChannel) (events : List Event)
         (start : List ℕ) →
-        HasShown channel events start (W.taken writer.old) run.engine →
-        EndsAs channel events (joined_texts run.refusals) start (W.taken writer.new) (standing_in summary)) }
+        HasWritten channel events start (W.taken writer.old) run.handler →
+        (text : List ℕ) × (W.taken writer.new ≡ start ++ text)
+        × EndsAs channel events (joined_texts run.refusals) text (standing_in summary)) }
     ensures begins { IfErr result (λ _. (channel : ListedChannel) (events : List Event)
         (start : List ℕ) →
-        HasShown channel events start (W.taken writer.old) run.engine →
+        HasWritten channel events start (W.taken writer.old) run.handler →
         EndsEarly channel events (joined_texts run.refusals) start (W.taken writer.new)) }
     ensures counts { IfOk result (λ summary. (start : List ℕ)
         → HasCounted start (W.taken writer.old) written
@@ -142,16 +144,12 @@ fn finish<W: CountedWrite, A: Allocator + Copy>(
     ensures range { IfOk result (λ summary. IsNextNumber summary.next) }
     ensures failed { FailsBy result (W.failed writer.old) (W.failed writer.new) }
 {
-    let Run {
-        engine,
-        refusals,
-        last: _,
-    } = run;
+    let Run { handler, refusals } = run;
     let standing = Standing {
-        next: engine.next(),
-        lost: engine.lost(),
+        next: handler.next(),
+        lost: handler.lost(),
     };
-    hand_on(writer, engine.lines(), &mut written)?;
+    hand_on(writer, handler.lines(), &mut written)?;
     write_end(writer, refusals, standing, written)
 }
 

@@ -2,10 +2,8 @@
 //! machine's moves show, and what every complete feed defines that agrees with the records.
 #![tactic(auto)]
 
-mod decoding;
 mod feeds;
 mod in_order;
-mod last_packet;
 mod pace;
 mod progress;
 mod reader;

@@ -6,25 +6,25 @@ ghost use Rattle.mdp_capture.specs.Record.{RecordContent};
 ghost use Rattle.mdp_engine.specs.Steps.{event_of};
 ghost use Rattle.mdp_lanes.specs.Queues.{IntakeSenderView};
 ghost use Rattle.mdp_crew.specs.declared.batch.Batch.{Batch};
-ghost use Rattle.mdp_pipeline.specs.Decoding.{said_of};
-ghost use Rattle.mdp_pipeline.specs.Reading.{brought_by, refusal_text};
+ghost use Rattle.mdp_pipeline.specs.Reading.{close_said, refusal_text};
+ghost use Rattle.mdp_receiver.specs.Said.{brought_by, kind_of, said_of};
 ghost use Rattle.mdp_crew.specs.Batches.{all_events};
-ghost use Rattle.mdp_pipeline.specs.Readers.{HasHandedOver, HasPut, HasRead, HasReadOne, HasReadSoFar, events_held, has_ended};
+ghost use Rattle.mdp_pipeline.specs.Readers.{HoldsOne, HasHandedOver, HasPut, HasRead, HasReadOne, HasReadSoFar, events_held, has_ended};
 
-use crate::decoding::{Decoded, read_record};
 use crate::pace::Pace;
 use mdp_capture::Record;
 use mdp_crew::{Batch, Gate};
 use mdp_engine::Event;
 use mdp_lanes::IntakeSender;
 use mdp_print::put_refusal;
+use mdp_receiver::{Decoded, decode};
 use mdp_templates::{Feed, Memory, Snapshot};
 use std::alloc::Allocator;
 use std::mem;
 use std::sync::Wait;
 
-/// How many events a batch holds at most. A reader's batches hold 1, 2, 4 events and so on up to this many: so its
-/// first event is handed over at once, and under load a batch costs little.
+/// How many events a batch holds at most. A reader's batches hold 1, 2, 4 events and so on up to
+/// this many: so its first event is handed over at once, and under load a batch costs little.
 const MOST_EVENTS: usize = 64;
 
 /// A reader's sender, and what it has read and not handed over yet.
@@ -40,7 +40,8 @@ pub struct Reader<A: Allocator + Copy> {
     pub until: u32,
 }
 
-/// What a reader leaves: its sender, which has ended, and the lines of its refused datagrams, unless memory ran out.
+/// What a reader leaves: its sender, which has ended, and the lines of its refused datagrams,
+/// unless memory ran out.
 #[derive(Drop)]
 pub struct ReaderOutcome<A: Allocator + Copy> {
     pub sender: IntakeSender<Batch<A>, A>,
@@ -63,7 +64,7 @@ fn push_all<A: Allocator + Copy>(
 }
 
 // Tells the number of a feed, from 0, under which a gate is told of its reader.
-fn number_of(feed: Feed) -> usize {
+pub fn number_of(feed: Feed) -> usize {
     match feed {
         Feed::A => 0,
         Feed::B => 1,
@@ -72,7 +73,7 @@ fn number_of(feed: Feed) -> usize {
 }
 
 impl<A: Allocator + Copy> Reader<A> {
-    // Holds the events that a record on this line brings, or the line of its refusal.
+    // Holds the events that a datagram on this line brings, or the line of its refusal.
     fn hold(&mut self, alloc: A, feed: Feed, line: u32, decoded: Decoded<A>) -> Result<(), Memory>
         ensures events { OnOk result (events_held self.new ≡ events_held self.old
             ++ brought_by (said_of decoded)) }
@@ -83,11 +84,38 @@ impl<A: Allocator + Copy> Reader<A> {
         match decoded {
             Decoded::Packet(packet) => self.events.push(Event::Packet(packet))?,
             Decoded::Snapshots(snapshots) => push_all(alloc, &mut self.events, &snapshots)?,
-            Decoded::Close => self.events.push(Event::Close)?,
-            Decoded::Nothing => {}
             Decoded::Refused(refusal) => put_refusal(&mut self.refusals, feed, line, refusal)?,
         }
         Ok(())
+    }
+
+    // Holds a close, which counts on feed S alone.
+    fn hold_close(&mut self, feed: Feed) -> Result<(), Memory>
+        ensures events { OnOk result (events_held self.new ≡ events_held self.old
+            ++ brought_by (close_said (kind_of feed))) }
+        ensures refusals { self.new.refusals ≡ self.old.refusals }
+        ensures sender { self.new.sender ≡ self.old.sender }
+    {
+        match feed {
+            Feed::A => {}
+            Feed::B => {}
+            Feed::S => self.events.push(Event::Close)?,
+        }
+        Ok(())
+    }
+
+    // Holds what a record brings.
+    fn take(&mut self, alloc: A, feed: Feed, record: &Record<A>) -> Result<(), Memory>
+        ensures holds { OnOk result (HoldsOne feed «record».now self.old self.new) }
+        ensures sender { self.new.sender ≡ self.old.sender }
+    {
+        match record.bytes() {
+            Some(bytes) => {
+                let decoded = decode(alloc, feed, bytes)?;
+                self.hold(alloc, feed, record.line(), decoded)
+            }
+            None => self.hold_close(feed),
+        }
     }
 
     // Hands over the events that are held, if any.
@@ -124,7 +152,8 @@ impl<A: Allocator + Copy> Reader<A> {
         self.size = self.size.saturating_mul(2).min(MOST_EVENTS);
     }
 
-    // Hands over the events that are held and waits for the slower readers, where the next record's line asks for it.
+    // Hands over the events that are held and waits for the slower readers, where the next record's
+    // line asks for it.
     fn keep_pace<R: Wait>(&mut self, rt: &R, alloc: A, pace: &Pace, feed: Feed, line: u32)
         requires { has_ended self.old.sender ≡ false }
         ensures put { (batches : List (Batch A)) × HasPut self.old.sender batches self.new.sender
@@ -152,8 +181,7 @@ impl<A: Allocator + Copy> Reader<A> {
         ensures stays { IfErr result (λ _. self.new.sender ≡ self.old.sender) }
         ensures goes_on { has_ended self.new.sender ≡ false }
     {
-        let decoded = read_record(alloc, feed, record)?;
-        self.hold(alloc, feed, record.line(), decoded)?;
+        self.take(alloc, feed, record)?;
         self.hand_over(rt, alloc);
         Ok(())
     }
@@ -232,7 +260,8 @@ fn stop<R: Wait, A: Allocator + Copy>(
     }
 }
 
-// Decodes the records of a feed and hands over their events, once it is told to go; told to stop, it hands over none.
+// Decodes the records of a feed and hands over their events, once it is told to go; told to stop,
+// it hands over none.
 fn read_or_stop<R: Wait, G: Gate, A: Allocator + Copy>(
     rt: &R,
     pace: &Pace,
@@ -264,8 +293,9 @@ fn read_or_stop<R: Wait, G: Gate, A: Allocator + Copy>(
     }
 }
 
-/// Decodes the records of a feed and hands over their events, once it is told to go; told to stop, it hands over none.
-/// In either way it puts its last batch, and tells the others that it waits for nobody and nobody need wait for it.
+/// Decodes the records of a feed and hands over their events, once it is told to go; told to stop,
+/// it hands over none. In either way it puts its last batch, and tells the others that it waits for
+/// nobody and nobody need wait for it.
 pub fn read_feed<R: Wait, G: Gate, A: Allocator + Copy>(
     rt: &R,
     pace: &Pace,

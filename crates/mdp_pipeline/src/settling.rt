@@ -1,4 +1,5 @@
-//! The end of a run over threads, where what the readers sent and what was taken of them come together.
+//! The end of a run over threads, where what the readers sent and what was taken of them come
+//! together.
 
 ghost use Rattle.std.specs.Prelude.{◌≡◌, ◌<◌, ◌^◌, ◌-◌, ℕ, List, Option, IfErr, IfOk};
 ghost use Rattle.mdp_lanes.specs.Boards.{Published};
@@ -7,12 +8,13 @@ ghost use Rattle.mdp_arbiter.specs.Channel.{ListedChannel};
 ghost use Rattle.mdp_crew.specs.Arbitrating.{IsNextNumber};
 ghost use Rattle.mdp_crew.specs.Batches.{events_taken};
 ghost use Rattle.mdp_crew.specs.Counted.{HasCounted};
+ghost use Rattle.mdp_crew.specs.Outlets.{out};
 ghost use Rattle.mdp_crew.specs.Running.{HasShown};
 ghost use Rattle.mdp_crew.specs.Stops.{FailsByStop};
 ghost use Rattle.mdp_pipeline.specs.Counted.{written_before};
 ghost use Rattle.mdp_pipeline.specs.Faults.{FailsBy};
 ghost use Rattle.mdp_pipeline.specs.Merge.{records_in};
-ghost use Rattle.mdp_pipeline.specs.Output.{SaysAll, SaysSome, out, standing_in};
+ghost use Rattle.mdp_pipeline.specs.Output.{SaysAll, SaysSome, standing_in};
 ghost use Rattle.mdp_pipeline.specs.Taken.{HasReadFor};
 
 use crate::feeds::Feeds;
@@ -34,8 +36,8 @@ pub struct Readers<A: Allocator + Copy> {
     pub s: ReaderOutcome<A>,
 }
 
-/// Settles the readers' queue, and writes the end of the text, unless the crew stopped early or memory ran out in a
-/// reader.
+/// Settles the readers' queue, and writes the end of the text, unless the crew stopped early or
+/// memory ran out in a reader.
 pub fn settle_and_finish<W: CountedWrite, A: Allocator + Copy>(
     writer: &mut W,
     crew: CrewOutcome<A>,
@@ -50,15 +52,19 @@ pub fn settle_and_finish<W: CountedWrite, A: Allocator + Copy>(
     requires s { HasReadFor crew.receiver Feed.S feeds.s.now readers.s }
     ensures text { IfOk result (λ summary. (channel : ListedChannel) (start : List ℕ)
         (before after : Option Published)
-        → HasShown channel (events_taken crew.receiver.taken) start (W.taken writer.old) before after crew.standing
-        → SaysAll channel (records_in feeds.entry) (out start before) (out (W.taken writer.new) after)
-        (standing_in summary)) }
+        → HasShown channel (events_taken crew.receiver.taken)
+        (out start before) (out (W.taken writer.old) after) crew.standing
+        → SaysAll channel (records_in feeds.entry)
+        (out start before) (out (W.taken writer.new) after) (standing_in summary)) }
     ensures begins { IfErr result (λ _. (channel : ListedChannel) (start : List ℕ)
         (before after : Option Published)
-        → HasShown channel (events_taken crew.receiver.taken) start (W.taken writer.old) before after crew.standing
-        → SaysSome channel (records_in feeds.entry) (out start before) (out (W.taken writer.new) after)) }
+        → HasShown channel (events_taken crew.receiver.taken)
+        (out start before) (out (W.taken writer.old) after) crew.standing
+        → SaysSome channel (records_in feeds.entry)
+        (out start before) (out (W.taken writer.new) after)) }
     ensures counts { IfOk result (λ summary. (start : List ℕ)
-        → HasCounted start (W.taken writer.old) crew.written → HasCounted start (W.taken writer.new) summary.written) }
+        → HasCounted start (W.taken writer.old) crew.written
+        → HasCounted start (W.taken writer.new) summary.written) }
     ensures told { IfErr result (λ fault. (start : List ℕ)
         → HasCounted start (W.taken writer.old) crew.written
         → HasCounted start (W.taken writer.new) (written_before fault)) }

@@ -15,7 +15,7 @@ use crate::summary::{RunFault, Summary};
 use crate::threads::run_where;
 use mdp_arbiter::Start;
 use mdp_capture::{CountingReader, read_capture};
-use mdp_crew::{Always, Gate, Open, RunPlan, Starts};
+use mdp_crew::{Always, Gate, Means, Open, RunPlan, Starts};
 use refusing::Refusing;
 use std::alloc::{Allocator, Global};
 use std::process::Abort;
@@ -154,10 +154,14 @@ where
     };
     let mut kept = Kept::new(alloc);
     let mut board = None;
-    let outcome = run_where(
+    let means = Means {
         rt,
         starts,
-        heap,
+        gate,
+        alloc: heap,
+    };
+    let outcome = run_where(
+        &means,
         RunPlan {
             instruments: capture.instruments(),
             window: 4,
@@ -165,7 +169,6 @@ where
             workers,
         },
         Feeds::of(&capture),
-        gate,
         &mut board,
         &mut kept,
     );

@@ -1,26 +1,24 @@
 //! A run over threads: three readers, and the crew that takes what they hand over.
 
 ghost use Rattle.std.specs.Prelude.{◌≡◌, ◌≤◌, ◌<◌, ◌^◌, ◌-◌, ◌++◌, ℕ, List, IfErr, IfOk, MatchResult, false};
-ghost use Rattle.mdp_capture.specs.Record.{RecordContent};
-ghost use Rattle.mdp_lanes.specs.Queues.{IntakeSenderView};
 ghost use Rattle.mdp_lanes.specs.declared.step.Step.{Step};
 ghost use Rattle.mdp_crew.specs.Arbitrating.{IsNextNumber};
-ghost use Rattle.mdp_crew.specs.declared.batch.Batch.{Batch};
 ghost use Rattle.mdp_crew.specs.Counted.{HasCounted};
+ghost use Rattle.mdp_crew.specs.Outlets.{out};
 ghost use Rattle.mdp_crew.specs.Plan.{IsLawful, channel_in};
 ghost use Rattle.mdp_pipeline.specs.Counted.{written_before};
 ghost use Rattle.mdp_pipeline.specs.Faults.{FailsBy};
 ghost use Rattle.mdp_pipeline.specs.Merge.{records_in};
-ghost use Rattle.mdp_pipeline.specs.Output.{BeginsMerge, BeginsToPublishMerge, Ends, PrintsMerge, PublishesMerge, out, standing_in};
+ghost use Rattle.mdp_pipeline.specs.Output.{BeginsMerge, BeginsToPublishMerge, Ends, PrintsMerge, PublishesMerge, standing_in};
 ghost use Rattle.mdp_pipeline.specs.Readers.{HasRead, has_ended};
 
 use crate::feeds::Feeds;
 use crate::pace::Pace;
-use crate::reader::{ReaderOutcome, read_feed};
+use crate::reader::{ReaderOutcome, number_of, read_feed};
 use crate::settling::{Readers, settle_and_finish};
 use crate::summary::{RunFault, Summary};
 use mdp_capture::Record;
-use mdp_crew::{Always, Batch, Gate, RunPlan, Starts, run_crew};
+use mdp_crew::{Always, Batch, Begun, Gate, Means, RunPlan, Site, Starts, begin, join, run_crew};
 use mdp_lanes::{Intake, IntakeSender, Publisher};
 use mdp_print::CountedWrite;
 use mdp_templates::Feed;
@@ -28,7 +26,7 @@ use std::alloc::Allocator;
 use std::snapshot::Snapshot;
 use std::sync::Wait;
 use std::thread;
-use std::thread::{Promise, PromisedHandle, Scope, Threads};
+use std::thread::{Promise, Threads};
 
 /// How many batches the readers' queue has room for.
 const INTAKE_ROOM: usize = 256;
@@ -45,22 +43,19 @@ impl<'a, A: Allocator + Copy> Promise<ReaderOutcome<A>> for ReadsFeed<'a, A> {
     ghost kept_by = { λ p outcome. HasRead p.feed p.records.value.now p.before.value outcome };
 }
 
-/// What is left to know of a reader: its thread, or what it left where its thread couldn't be started.
-type Begun<'s, A> = Result<PromisedHandle<ReaderOutcome<A>, ReadsFeed<'s, A>>, ReaderOutcome<A>>;
+/// What is left to know of a reader: its thread, or what it left where its thread couldn't be
+/// started.
+type Reading<'s, A> = Begun<ReaderOutcome<A>, ReadsFeed<'s, A>>;
 
-// Starts a reader's thread. Where it can't be started all readers are told to stop, and this one is called here.
+// Starts a reader's thread. Where it can't be started all readers are told to stop, and this one is
+// called here.
 fn begin_reader<'s, E, R, S, G, A>(
-    rt: &'s R,
-    scope: &'s Scope<'s, E>,
+    site: &Site<'s, E, R, S, G, A>,
     pace: &'s Pace,
-    starts: &S,
-    thread: usize,
-    alloc: A,
-    gate: &'s G,
     feed: Feed,
     records: &'s [Record<A>],
     sender: IntakeSender<Batch<A>, A>,
-) -> Begun<'s, A>
+) -> Reading<'s, A>
 where
     R: Threads + Wait + Sync,
     S: Starts,
@@ -73,53 +68,28 @@ where
         × (h.promise.before.value ≡ sender))
         (λ outcome. HasRead feed records.entry.now sender outcome) }
 {
-    if !starts.may_start(thread) {
-        let _ = pace.go.set(rt, false);
-        return Err(read_feed(rt, pace, alloc, gate, feed, records, sender));
-    }
+    let rt = site.means.rt;
+    let gate = site.means.gate;
+    let alloc = site.means.alloc;
     let promise = ReadsFeed {
         feed,
         records: Snapshot::of(&records),
         before: Snapshot::of(&sender),
     };
-    match scope.spawn_with(
+    begin(
+        site,
+        number_of(feed),
         promise,
         move || read_feed(rt, pace, alloc, gate, feed, records, sender),
-    ) {
-        Ok(handle) => Ok(handle),
-        Err(refused) => {
-            let _ = pace.go.set(rt, false);
-            Err((refused.value)())
-        }
-    }
-}
-
-// Waits for a reader to end.
-fn join_reader<'s, R: Threads + Wait, A: Allocator + Copy>(
-    rt: &R,
-    begun: Begun<'s, A>,
-) -> ReaderOutcome<A>
-    ensures { (feed : Feed) (records : List RecordContent) (before : IntakeSenderView (Batch A)) →
-        MatchResult begun.entry
-        (λ h. (h.promise.feed ≡ feed) × (h.promise.records.value.now ≡ records) × (h.promise.before.value ≡ before))
-        (λ outcome. HasRead feed records before outcome) → HasRead feed records before result }
-{
-    match begun {
-        Ok(handle) => handle.join(rt),
-        Err(outcome) => outcome,
-    }
+    )
 }
 
 // Starts the readers, runs the crew over what they hand over, joins them and settles.
 fn run_in<'s, E, R, S, G, W, A>(
-    rt: &'s R,
-    scope: &'s Scope<'s, E>,
+    site: &Site<'s, E, R, S, G, A>,
     pace: &'s Pace,
-    starts: &S,
-    alloc: A,
     plan: RunPlan<'s>,
     feeds: Feeds<'s, A>,
-    gate: &'s G,
     board: &mut Option<Publisher<A>>,
     writer: &mut W,
 ) -> Result<Summary, RunFault>
@@ -137,65 +107,27 @@ where
         (out (W.taken writer.old) board.old) (out (W.taken writer.new) board.new) result }
     ensures failed { FailsBy result (W.failed writer.old) (W.failed writer.new) }
 {
-    let Ok((to_a, to_b, to_s, receiver)) = Intake::new(alloc, INTAKE_ROOM) else {
+    let Ok((to_a, to_b, to_s, receiver)) = Intake::new(site.means.alloc, INTAKE_ROOM) else {
         return Err(RunFault::Memory { written: 0 });
     };
-    let reads_a = begin_reader(
-        rt,
-        scope,
-        pace,
-        starts,
-        0,
-        alloc,
-        gate,
-        Feed::A,
-        feeds.a,
-        to_a,
-    );
-    let reads_b = begin_reader(
-        rt,
-        scope,
-        pace,
-        starts,
-        1,
-        alloc,
-        gate,
-        Feed::B,
-        feeds.b,
-        to_b,
-    );
-    let reads_s = begin_reader(
-        rt,
-        scope,
-        pace,
-        starts,
-        2,
-        alloc,
-        gate,
-        Feed::S,
-        feeds.s,
-        to_s,
-    );
-    let crew = run_crew(
-        rt, scope, &pace.go, starts, alloc, gate, plan, receiver, board, writer,
-    );
+    let reads_a = begin_reader(site, pace, Feed::A, feeds.a, to_a);
+    let reads_b = begin_reader(site, pace, Feed::B, feeds.b, to_b);
+    let reads_s = begin_reader(site, pace, Feed::S, feeds.s, to_s);
+    let crew = run_crew(site, plan, receiver, board, writer);
     let readers = Readers {
-        a: join_reader(rt, reads_a),
-        b: join_reader(rt, reads_b),
-        s: join_reader(rt, reads_s),
+        a: join(site.means.rt, reads_a),
+        b: join(site.means.rt, reads_b),
+        s: join(site.means.rt, reads_s),
     };
     settle_and_finish(writer, crew, readers, feeds)
 }
 
-/// Runs as [`run_published`] does where there is a board, and else as [`run`]; a thread that may not start is one that
-/// can't be started.
+/// Runs as [`run_published`] does where there is a board, and else as [`run`]; a thread that may
+/// not start is one that can't be started.
 pub(crate) fn run_where<R, S, G, W, A>(
-    rt: &R,
-    starts: &S,
-    alloc: A,
+    means: &Means<'_, R, S, G, A>,
     plan: RunPlan<'_>,
     feeds: Feeds<'_, A>,
-    gate: &G,
     board: &mut Option<Publisher<A>>,
     writer: &mut W,
 ) -> Result<Summary, RunFault>
@@ -216,18 +148,22 @@ where
     let pace = &paced;
     let (back, board_back, outcome) = thread::scope(
         thread::scope_env(),
-        rt,
+        means.rt,
         move |scope| -> (&mut W, &mut Option<Publisher<A>>, Result<Summary, RunFault>)
             requires { (W.failed writer.now < 2 ^ 64 - 1) × IsLawful plan × (1 ≤ plan.workers) }
             ensures same { (result.0.ghost_name ≡ writer.entry.ghost_name)
                 × (result.1.ghost_name ≡ board.entry.ghost_name) }
             ensures ends { Ends (channel_in plan.entry) (records_in feeds.entry)
-                (out (W.taken writer.entry.now) board.entry.now) (out (W.taken result.0.now) result.1.now) result.2 }
+                (out (W.taken writer.entry.now) board.entry.now)
+                (out (W.taken result.0.now) result.1.now) result.2 }
             ensures failed { FailsBy result.2 (W.failed writer.entry.now) (W.failed result.0.now) }
         {
-            let outcome = run_in(
-                rt, scope, pace, starts, alloc, plan, feeds, gate, board, writer,
-            );
+            let site = Site {
+                means,
+                scope,
+                go: &pace.go,
+            };
+            let outcome = run_in(&site, pace, plan, feeds, board, writer);
             (writer, board, outcome)
         },
     );
@@ -236,19 +172,21 @@ where
     outcome
 }
 
-/// Runs over the records of the feeds in threads: one for each feed, which decodes its records, the arbiter's, the
-/// plan's workers, each with the books of its own securities, and the caller's, which writes what is owed. Which merge
-/// of the feeds' events comes about, the threads decide, as far as the readers' pace leaves it to them: none hands over
-/// more than a quarter of the window, in lines, ahead of the slowest, and none passes the line of the first close
-/// before all that stands before it was handed over. Of that pace no clause speaks.
+/// Runs over the records of the feeds in threads: one for each feed, which decodes its records, the
+/// arbiter's, the plan's workers, each with the books of its own securities, and the caller's,
+/// which writes what is owed. Which merge of the feeds' events comes about, the threads decide, as
+/// far as the readers' pace leaves it to them: none hands over more than a quarter of the window,
+/// in lines, ahead of the slowest, and none passes the line of the first close before all that
+/// stands before it was handed over. Of that pace no clause speaks.
 ///
-/// The gate is told of each record before its reader reads it, and of each step before a worker works on it. A gate
-/// that holds a reader holds the others too, once they are as far ahead as they may be.
+/// The gate is told of each record before its reader reads it, and of each step before a worker
+/// works on it. A gate that holds a reader holds the others too, once they are as far ahead as they
+/// may be.
 ///
 /// # Errors
 ///
-/// `Output` exactly where a write failed, else `Memory`, also where a thread can't be started. The bytes that went out
-/// before are a beginning of what the whole run prints for some merge.
+/// `Output` exactly where a write failed, else `Memory`, also where a thread can't be started. The
+/// bytes that went out before are a beginning of what the whole run prints for some merge.
 pub fn run<R, G, W, A>(
     rt: &R,
     alloc: A,
@@ -278,19 +216,26 @@ where
     ensures failed { FailsBy result (W.failed writer.old) (W.failed writer.new) }
 {
     let mut board = None;
-    let outcome = run_where(rt, &Always, alloc, plan, feeds, gate, &mut board, writer);
+    let means = Means {
+        rt,
+        starts: &Always,
+        gate,
+        alloc,
+    };
+    let outcome = run_where(&means, plan, feeds, &mut board, writer);
     let None = board else { unreachable!() };
     outcome
 }
 
-/// Runs as [`run`] does, and publishes on a board with a slot for each listed security, in listed order: one step for
-/// each event end, with the rows of what is printed there, and one for each jump. A step is published after the write
-/// of its lines. Hands the publisher back, also with an error.
+/// Runs as [`run`] does, and publishes on a board with a slot for each listed security, in listed
+/// order: one step for each event end, with the rows of what is printed there, and one for each
+/// jump. A step is published after the write of its lines. Hands the publisher back, also with an
+/// error.
 ///
 /// # Errors
 ///
-/// As `run`. What was published before are the steps of a beginning of what the whole run shows, for the same merge, of
-/// which each line had gone out.
+/// As `run`. What was published before are the steps of a beginning of what the whole run shows,
+/// for the same merge, of which each line had gone out.
 pub fn run_published<R, G, W, A>(
     rt: &R,
     alloc: A,
@@ -312,7 +257,8 @@ where
     ensures text { IfOk result.1 (λ summary. (text : List ℕ) × (steps : List Step)
         × (W.taken writer.new ≡ W.taken writer.old ++ text)
         × (result.0 ≡ record publisher { steps = publisher.steps ++ steps })
-        × PublishesMerge (channel_in plan.entry) (records_in feeds.entry) text (standing_in summary) steps) }
+        × PublishesMerge (channel_in plan.entry) (records_in feeds.entry) text
+        (standing_in summary) steps) }
     ensures begins { IfErr result.1 (λ _. (steps : List Step)
         × (result.0 ≡ record publisher { steps = publisher.steps ++ steps })
         × BeginsToPublishMerge (channel_in plan.entry) (records_in feeds.entry) (W.taken writer.old)
@@ -325,7 +271,13 @@ where
     ensures failed { FailsBy result.1 (W.failed writer.old) (W.failed writer.new) }
 {
     let mut board = Some(publisher);
-    let outcome = run_where(rt, &Always, alloc, plan, feeds, gate, &mut board, writer);
+    let means = Means {
+        rt,
+        starts: &Always,
+        gate,
+        alloc,
+    };
+    let outcome = run_where(&means, plan, feeds, &mut board, writer);
     let Some(publisher) = board else {
         unreachable!()
     };

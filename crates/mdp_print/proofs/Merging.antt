@@ -10,7 +10,7 @@ use Rattle.mdp_quotes.specs.declared.total.Total.{Total}
 use Rattle.mdp_quotes.specs.declared.total.Way.{Way}
 use Rattle.mdp_quotes.specs.Entering.{total_of, with}
 use Rattle.mdp_quotes.specs.Merged.{ahead_of, is_at_price, merged, passed_by, total_with, totals_to}
-use Rattle.mdp_text.specs.Levels.{quote_text, levels_text}
+use Rattle.mdp_books.specs.Levels.{quote_text, levels_text}
 use Rattle.mdp_print.specs.Texts.{totals_text}
 
 -- levels print as their own totals do

@@ -4,8 +4,9 @@ use Rattle.std.specs.List.{flat_map}
 use Rattle.mdp_sbe.specs.declared.refusal.Refusal.{Refusal}
 use Rattle.mdp_sbe.specs.Refusal.{refusal_number, refusal_name}
 use Rattle.mdp_templates.specs.declared.entry.Level.{Level}
-use Rattle.mdp_text.specs.Levels.{quote_text, levels_text}
+use Rattle.mdp_books.specs.Levels.{quote_text, levels_text}
 use Rattle.mdp_books.specs.declared.book.Place.{Place}
+use Rattle.mdp_books.specs.declared.event_end.EventEnd.{EventEnd}
 use Rattle.mdp_quotes.specs.declared.total.Total.{Total}
 use Rattle.mdp_quotes.specs.Quotes.{Quotes}
 use Rattle.mdp_quotes.specs.declared.verdict.Verdict.{Verdict}
@@ -18,12 +19,12 @@ abbrev pub totals_text : List Total → List ℕ
 totals_text totals = flat_map (λ total. quote_text total.price total.size) totals
 
 -- where an event ends, and whose line it is: PACKET.MESSAGE NAME
-abbrev pub event_text : ℕ → ℕ → List ℕ → List ℕ
-event_text packet message name = decimal packet ++ codes "." ++ decimal message ++ codes " " ++ name
+abbrev pub event_text : EventEnd → List ℕ → List ℕ
+event_text end name = decimal end.packet ++ codes "." ++ decimal end.message ++ codes " " ++ name
 
 -- what the lines of a book have behind their letter: where the event ends, whose book it is, and the letter of bids
-abbrev pub head_text : ℕ → ℕ → List ℕ → List ℕ
-head_text packet message name = codes " " ++ event_text packet message name ++ codes " B"
+abbrev pub head_text : EventEnd → List ℕ → List ℕ
+head_text end name = codes " " ++ event_text end name ++ codes " B"
 
 -- the line of two sides under a letter: LETTER PACKET.MESSAGE NAME B BIDS O OFFERS
 abbrev pub sides_line : List ℕ → List ℕ → List ℕ → List ℕ → List ℕ
@@ -50,9 +51,9 @@ abbrev pub place_text : Place → List ℕ
 place_text place = decimal place.packet ++ codes "." ++ decimal place.message ++ codes "." ++ decimal place.entry
 
 -- F PACKET.MESSAGE NAME PLACE, the place of the book's first impossible entry
-unfoldable pub fault_line : ℕ → ℕ → List ℕ → Place → List ℕ
-fault_line packet message name place =
-    codes "F " ++ event_text packet message name ++ codes " " ++ place_text place ++ codes "\n"
+unfoldable pub fault_line : EventEnd → List ℕ → Place → List ℕ
+fault_line end name place =
+    codes "F " ++ event_text end name ++ codes " " ++ place_text place ++ codes "\n"
 
 -- the word for a verdict on a spread's published quote
 abbrev pub verdict_text : Verdict → List ℕ
@@ -66,9 +67,9 @@ verdict_text EqualLess = codes "equal-less"
 verdict_text EqualMore = codes "equal-more"
 
 -- A PACKET.MESSAGE NAME bid VERDICT offer VERDICT
-unfoldable pub audit_line : ℕ → ℕ → List ℕ → Verdict → Verdict → List ℕ
-audit_line packet message name bid offer =
-    codes "A " ++ event_text packet message name ++ codes " bid " ++ verdict_text bid ++ codes " offer "
+unfoldable pub audit_line : EventEnd → List ℕ → Verdict → Verdict → List ℕ
+audit_line end name bid offer =
+    codes "A " ++ event_text end name ++ codes " bid " ++ verdict_text bid ++ codes " offer "
     ++ verdict_text offer ++ codes "\n"
 
 -- J OLD NEW, the number of the next packet before and after a jump

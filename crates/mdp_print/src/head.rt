@@ -4,8 +4,8 @@ ghost use Rattle.std.specs.Prelude.{◌≡◌, ◌++◌, codes};
 ghost use Rattle.mdp_print.specs.Texts.{head_text};
 
 use crate::pieces::put_event;
+use mdp_books::{EventEnd, TextFromEnd};
 use mdp_templates::Name;
-use mdp_text::TextFromEnd;
 use std::marker::Model;
 
 // Two letters, two spaces, and 62 bytes at most of where an event ends.
@@ -30,14 +30,13 @@ impl Model for Head {
 }
 
 impl Head {
-    /// Puts together what the lines of a book have behind their letter where message `message` of packet `packet` ends
-    /// an event.
-    pub fn new(packet: u32, message: u64, name: &Name) -> Head
-        ensures { result ≡ head_text packet message name.now }
+    /// Puts together what the lines of a book have behind their letter where an event ends.
+    pub fn new(end: EventEnd, name: &Name) -> Head
+        ensures { result ≡ head_text end name.now }
     {
         let mut text = HeadText::new();
         text.put_bytes(b" B");
-        put_event(&mut text, packet, message, name);
+        put_event(&mut text, end, name);
         text.put_byte(b' ');
         text.put_byte(b'D');
         Head { text }

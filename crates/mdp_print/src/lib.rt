@@ -21,7 +21,7 @@ mod writing;
 pub use book_lines::{put_consolidated, put_direct, put_implied, put_merged};
 pub use counting::Counting;
 pub use head::Head;
-pub use mdp_text::ShortText;
+pub use mdp_books::ShortText;
 pub use status_lines::{put_fault, put_jump, put_last, put_refusal};
 pub use verdict_lines::put_audit;
 pub use writing::{CountedWrite, write_all_counted};

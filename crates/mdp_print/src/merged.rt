@@ -1,7 +1,7 @@
 //! The totals of a side whose prices are in order, appended from the text of its levels.
 
 ghost use Rattle.std.specs.Prelude.{◌≡◌, ◌+◌, ◌-◌, ◌≤◌, take, drop, length, IfOk};
-ghost use Rattle.mdp_text.specs.Levels.{quote_text, levels_text};
+ghost use Rattle.mdp_books.specs.Levels.{quote_text, levels_text};
 ghost use Rattle.mdp_quotes.specs.Entering.{total_of};
 ghost use Rattle.mdp_quotes.specs.Merged.{merged, passed_by, totals_to};
 ghost use Rattle.mdp_print.specs.Texts.{totals_text};
@@ -9,9 +9,9 @@ ghost use Rattle.mdp_print.specs.Pieces.{Appends, Extends};
 
 use crate::pieces::put;
 use crate::totals::put_total;
+use mdp_books::PrintedLevels;
 use mdp_quotes::{Standing, Way, standing_of};
 use mdp_templates::{DIRECT_DEPTH, IMPLIED_DEPTH, Level, Memory};
-use mdp_text::PrintedLevels;
 use std::alloc::Allocator;
 
 // Appends the text of the levels from `from` on and below `to`, counted from 0.

@@ -5,10 +5,9 @@ ghost use Rattle.mdp_print.specs.Texts.{place_text, fault_line, jump_line, refus
 ghost use Rattle.mdp_print.specs.Pieces.{Appends};
 
 use crate::pieces::{put, put_event};
-use mdp_books::Place;
+use mdp_books::{EventEnd, Place, ShortText, TextFromEnd};
 use mdp_sbe::Refusal;
 use mdp_templates::{Feed, Memory, Name};
-use mdp_text::{ShortText, TextFromEnd};
 use std::alloc::Allocator;
 
 // The text of an `F` line.
@@ -30,20 +29,19 @@ fn end_at(place: &Place) -> FaultText
     text
 }
 
-/// Appends the `F` line of a faulty book, with the place of its first impossible entry, where message
-/// `message` of packet `packet` ends an event. Where memory runs out the vector is as before.
+/// Appends the `F` line of a faulty book where an event ends, with the place of its first impossible
+/// entry. Where memory runs out the vector is as before.
 #[tactic(auto, unfolding(crate::specs::Texts::fault_line))]
 pub fn put_fault<A: Allocator>(
     out: &mut Vec<u8, A>,
-    packet: u32,
-    message: u64,
+    end: EventEnd,
     name: &Name,
     place: &Place,
 ) -> Result<(), Memory>
-    ensures { Appends (fault_line packet message name.now place.now) out.old out.new result }
+    ensures { Appends (fault_line end name.now place.now) out.old out.new result }
 {
     let mut text = end_at(place);
-    put_event(&mut text, packet, message, name);
+    put_event(&mut text, end, name);
     text.put_bytes(b"F ");
     put(out, text.as_slice())
 }

@@ -7,7 +7,7 @@ use crate::{
     put_jump, put_last, put_merged, put_refusal, write_all_counted,
 };
 use arrayvec::ArrayString;
-use mdp_books::{Place, Side, Sides};
+use mdp_books::{EventEnd, Place, Side, Sides};
 use mdp_quotes::{Total, Verdict, are_in_order};
 use mdp_sbe::Refusal;
 use mdp_templates::{Feed, Level, Memory, Name};
@@ -24,6 +24,11 @@ fn level(price: i64, size: i32) -> Level {
 
 fn total(price: i64, size: i64) -> Total {
     Total { price, size }
+}
+
+/// Where message `message` of packet `packet` ends an event.
+fn at(packet: u32, message: u64) -> EventEnd {
+    EventEnd { packet, message }
 }
 
 /// The name of this text, of at most 20 bytes.
@@ -65,11 +70,18 @@ fn prints_direct_sides(rt: HostRuntime) -> Result<(), Fail> {
     let bids = [level(100_000_000_000, 5), level(-25_000_000, 0)];
     let offers = [level(i64::MIN, i32::MAX), level(i64::MAX, i32::MIN)];
     let both = with_direct(&bids, &offers);
-    assert!(rt; put_direct(&mut out, &Head::new(7, 3, &name("ESM6")), &both).is_ok());
+    assert!(rt; put_direct(&mut out, &Head::new(at(7, 3), &name("ESM6")), &both).is_ok());
     let none = with_direct(&[], &[]);
-    assert!(rt; put_direct(&mut out, &Head::new(u32::MAX, u64::MAX, &name("")), &none).is_ok());
+    assert!(rt;
+        put_direct(
+            &mut out,
+            &Head::new(at(u32::MAX, u64::MAX), &name("")),
+            &none
+        )
+        .is_ok()
+    );
     let one = with_direct(&[], &offers[..1]);
-    assert!(rt; put_direct(&mut out, &Head::new(1, 1, &name("NEAR")), &one).is_ok());
+    assert!(rt; put_direct(&mut out, &Head::new(at(1, 1), &name("NEAR")), &one).is_ok());
     let lines =
         b"D 7.3 ESM6 B 100000000000x5 -25000000x0 O -9223372036854775808x2147483647 9223372036854775807x-2147483648\nD 4294967295.18446744073709551615  B O\nD 1.1 NEAR B O -9223372036854775808x2147483647\n";
     assert_eq!(rt; out.as_slice(), &lines[..]);
@@ -80,9 +92,9 @@ fn prints_direct_sides(rt: HostRuntime) -> Result<(), Fail> {
 fn prints_implied_sides(rt: HostRuntime) -> Result<(), Fail> {
     let mut out = Vec::new(rt.alloc());
     let bid = with_implied(&[level(-1, 10)], &[]);
-    assert!(rt; put_implied(&mut out, &Head::new(12, 34, &name("FAR")), &bid).is_ok());
+    assert!(rt; put_implied(&mut out, &Head::new(at(12, 34), &name("FAR")), &bid).is_ok());
     let offers = with_implied(&[], &[level(0, 1), level(9, 2)]);
-    assert!(rt; put_implied(&mut out, &Head::new(12, 34, &name("FAR")), &offers).is_ok());
+    assert!(rt; put_implied(&mut out, &Head::new(at(12, 34), &name("FAR")), &offers).is_ok());
     let lines = b"I 12.34 FAR B -1x10 O\nI 12.34 FAR B O 0x1 9x2\n";
     assert_eq!(rt; out.as_slice(), &lines[..]);
     Ok(())
@@ -93,8 +105,10 @@ fn prints_consolidated_sides(rt: HostRuntime) -> Result<(), Fail> {
     let mut out = Vec::new(rt.alloc());
     let bids = [total(10, 4_294_967_294), total(-10, i64::MAX)];
     let offers = [total(i64::MAX, i64::MIN)];
-    assert!(rt; put_consolidated(&mut out, &Head::new(1, 2, &name("N-F")), &bids, &offers).is_ok());
-    assert!(rt; put_consolidated(&mut out, &Head::new(1, 2, &name("N-F")), &[], &[]).is_ok());
+    assert!(rt;
+        put_consolidated(&mut out, &Head::new(at(1, 2), &name("N-F")), &bids, &offers).is_ok()
+    );
+    assert!(rt; put_consolidated(&mut out, &Head::new(at(1, 2), &name("N-F")), &[], &[]).is_ok());
     let lines =
         b"C 1.2 N-F B 10x4294967294 -10x9223372036854775807 O 9223372036854775807x-9223372036854775808\nC 1.2 N-F B O\n";
     assert_eq!(rt; out.as_slice(), &lines[..]);
@@ -112,7 +126,7 @@ fn merge<A: Allocator>(out: &mut Vec<u8, A>, head: &Head, sides: &Sides) -> bool
 #[test]
 fn merges_sides_in_order(rt: HostRuntime) -> Result<(), Fail> {
     let mut out = Vec::new(rt.alloc());
-    let head = Head::new(1, 2, &name("N"));
+    let head = Head::new(at(1, 2), &name("N"));
     // implied bids before all others and at the price of 98; implied offers between two levels and behind all
     let sides = Sides {
         bids: Side::from_levels(10, &[level(99, 1), level(98, 2), level(97, 3)]),
@@ -145,7 +159,7 @@ fn prints_faults_jumps_and_the_end(rt: HostRuntime) -> Result<(), Fail> {
         message: u64::MAX,
         entry: 255,
     };
-    assert!(rt; put_fault(&mut out, 4, 1, &name("NEAR"), &place).is_ok());
+    assert!(rt; put_fault(&mut out, at(4, 1), &name("NEAR"), &place).is_ok());
     assert!(rt; put_jump(&mut out, 5, u64::MAX).is_ok());
     assert!(rt; put_jump(&mut out, 0, 1).is_ok());
     assert!(rt; put_last(&mut out, 9, true).is_ok());
@@ -171,14 +185,23 @@ fn prints_verdicts(rt: HostRuntime) -> Result<(), Fail> {
     ];
     for n in 0..verdicts.len() {
         let offer = verdicts[verdicts.len() - 1 - n];
-        assert!(rt; put_audit(&mut out, 5, n as u64 + 1, &name("CAL"), verdicts[n], offer).is_ok());
+        assert!(rt;
+            put_audit(
+                &mut out,
+                at(5, n as u64 + 1),
+                &name("CAL"),
+                verdicts[n],
+                offer
+            )
+            .is_ok()
+        );
     }
     let all_words =
         b"A 5.1 CAL bid none offer equal-more\nA 5.2 CAL bid missing offer equal-less\nA 5.3 CAL bid extra offer equal\nA 5.4 CAL bid better offer worse\nA 5.5 CAL bid worse offer better\nA 5.6 CAL bid equal offer extra\nA 5.7 CAL bid equal-less offer missing\nA 5.8 CAL bid equal-more offer none\n";
     assert_eq!(rt; out.as_slice(), &all_words[..]);
     out.clear();
     let (worse, equal) = (Verdict::Worse, Verdict::Equal);
-    assert!(rt; put_audit(&mut out, u32::MAX, u64::MAX, &name(""), worse, equal).is_ok());
+    assert!(rt; put_audit(&mut out, at(u32::MAX, u64::MAX), &name(""), worse, equal).is_ok());
     let largest = b"A 4294967295.18446744073709551615  bid worse offer equal\n";
     assert_eq!(rt; out.as_slice(), &largest[..]);
     Ok(())
@@ -382,16 +405,15 @@ fn put_line<A: Allocator>(out: &mut Vec<u8, A>, kind: usize) -> Result<(), Memor
     let levels = [level(-25_000_000, 7), level(i64::MIN, i32::MAX)];
     let totals = [total(i64::MAX, i64::MAX), total(i64::MIN, i64::MIN)];
     let direct = with_direct(&levels, &levels);
-    let head = Head::new(u32::MAX, u64::MAX, &name("A NAME OF 20 LETTERS"));
+    let head = Head::new(at(u32::MAX, u64::MAX), &name("A NAME OF 20 LETTERS"));
     match kind {
         0 => put_direct(out, &head, &direct),
         1 => put_implied(out, &head, &with_implied(&levels, &[])),
         2 => put_consolidated(out, &head, &totals, &totals),
-        3 => put_fault(out, 1, 2, &name("A NAME OF 20 LETTERS"), &place),
+        3 => put_fault(out, at(1, 2), &name("A NAME OF 20 LETTERS"), &place),
         4 => put_audit(
             out,
-            u32::MAX,
-            u64::MAX,
+            at(u32::MAX, u64::MAX),
             &name("A NAME OF 20 LETTERS"),
             Verdict::EqualLess,
             Verdict::EqualMore,

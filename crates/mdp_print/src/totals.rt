@@ -1,13 +1,13 @@
 //! The totals of a consolidated side, appended one by one.
 
-ghost use Rattle.mdp_text.specs.Levels.{quote_text};
+ghost use Rattle.mdp_books.specs.Levels.{quote_text};
 ghost use Rattle.mdp_print.specs.Texts.{totals_text};
 ghost use Rattle.mdp_print.specs.Pieces.{Appends, Extends};
 
 use crate::pieces::put;
+use mdp_books::TextFromEnd;
 use mdp_quotes::Total;
 use mdp_templates::Memory;
-use mdp_text::TextFromEnd;
 use std::alloc::Allocator;
 
 // The text of one total.

@@ -5,9 +5,9 @@ ghost use Rattle.mdp_print.specs.Texts.{verdict_text, audit_line};
 ghost use Rattle.mdp_print.specs.Pieces.{Appends};
 
 use crate::pieces::{put, put_event};
+use mdp_books::{EventEnd, TextFromEnd};
 use mdp_quotes::Verdict;
 use mdp_templates::{Memory, Name};
-use mdp_text::TextFromEnd;
 use std::alloc::Allocator;
 
 // Tells the word for a verdict, of ten bytes at most.
@@ -45,22 +45,20 @@ fn end_with(bid: Verdict, offer: Verdict) -> AuditText
     text
 }
 
-/// Appends the `A` line of a calendar spread: the verdicts on its implied bid and its implied offer,
-/// where message `message` of packet `packet` ends an event. Where memory runs out the vector is as
-/// before.
+/// Appends the `A` line of a calendar spread where an event ends: the verdicts on its implied bid and
+/// its implied offer. Where memory runs out the vector is as before.
 #[tactic(auto, unfolding(crate::specs::Texts::audit_line))]
 pub fn put_audit<A: Allocator>(
     out: &mut Vec<u8, A>,
-    packet: u32,
-    message: u64,
+    end: EventEnd,
     name: &Name,
     bid: Verdict,
     offer: Verdict,
 ) -> Result<(), Memory>
-    ensures { Appends (audit_line packet message name.now bid offer) out.old out.new result }
+    ensures { Appends (audit_line end name.now bid offer) out.old out.new result }
 {
     let mut text = end_with(bid, offer);
-    put_event(&mut text, packet, message, name);
+    put_event(&mut text, end, name);
     text.put_bytes(b"A ");
     put(out, text.as_slice())
 }

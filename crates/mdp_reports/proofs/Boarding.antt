@@ -9,16 +9,16 @@ use Rattle.mdp_arbiter.proofs.Runs.{law_of_fronts}
 use Rattle.mdp_desks.specs.Moments.{Moment, ended, leapt, moments_after}
 use Rattle.mdp_desks.specs.Reports.{Told}
 use Rattle.mdp_desks.proofs.Moments.{moments-append}
-use Rattle.mdp_engine.specs.Rounds.{round_of}
-use Rattle.mdp_engine.proofs.Batching.{law_of_batches}
-use Rattle.mdp_engine.proofs.Merging.{round_whole}
+use Rattle.mdp_reports.specs.Rounds.{round_of}
+use Rattle.mdp_reports.proofs.Batching.{law_of_batches}
+use Rattle.mdp_reports.proofs.Merging.{round_whole}
 use Rattle.mdp_reports.specs.BoardSteps.{step_telling, step_of_moment, step_of_round, steps_in}
 use Rattle.mdp_reports.specs.BoardLaws.{LawOfBoards, LawOfFirstSteps, LawOfMoreSteps, LawOfStepFronts}
 
 -- ---- rounds
 
 one_round : (n : ℕ) (m : Moment) → step_of_round (round_of (suc n) m) ≡ step_of_moment m ∷ []
-one_round n (ended packet message seen) = ap (λ (ts : List Told). step_telling packet message ts ∷ []) (round_whole (suc n) packet message seen (omega arith))
+one_round n (ended end seen) = ap (λ (ts : List Told). step_telling end ts ∷ []) (round_whole (suc n) end seen (omega arith))
 one_round n (leapt old new) = refl
 
 all_rounds : (n : ℕ) (ms : List Moment) → steps_in (map (round_of (suc n)) ms) ≡ map step_of_moment ms

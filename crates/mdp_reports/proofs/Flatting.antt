@@ -2,6 +2,7 @@
 use Rattle.std.proofs.Common.{◌≡◌, ◌≤◌, ◌+◌, ◌-◌, ℕ, List, [], ◌∷◌, ◌++◌, length, map, take, drop, Option, refl, sym, ap, subst, ◌∙◌, arith}
 use Rattle.std.specs.List.{slice_range, AllByRecursion}
 use Rattle.std.proofs.lemmas.List.{length-map, length-append, length-drop, map-append, take-map, drop-map, take-append-le, drop-append-le, take_all}
+use Rattle.mdp_books.specs.declared.event_end.EventEnd.{EventEnd}
 use Rattle.mdp_quotes.specs.declared.best.Best.{Best}
 use Rattle.mdp_quotes.specs.declared.top.TopOfBook.{TopOfBook}
 use Rattle.mdp_desks.specs.Reports.{Told, Report, tells, leaps}
@@ -66,12 +67,12 @@ tolds_more bytes more rows slot best top all =
 
 told_more : (ts : List Told) (t : Told) (marks : List Mark) → AreMarks (length ts) marks → reports_with t (map (report_of_mark ts) marks) ≡ map (report_of_mark (ts ++ t ∷ [])) (marks_to (length ts + 1) marks)
 told_more ts t [] is = refl
-told_more ts t (Ended k j from to ∷ []) is =
-    ap (λ (l : List Told). tells k j l ∷ []) (ap (λ (n : ℕ). slice_range ts from n ++ t ∷ []) is.2 ∙ sym (slice_more ts t from (let order = is.0 in let within = is.1 in omega (arith, order, within))))
+told_more ts t (Ended e from to ∷ []) is =
+    ap (λ (l : List Told). tells e l ∷ []) (ap (λ (n : ℕ). slice_range ts from n ++ t ∷ []) is.2 ∙ sym (slice_more ts t from (let order = is.0 in let within = is.1 in omega (arith, order, within))))
 told_more ts t (Leapt old new ∷ []) is = refl
-told_more ts t (Ended k j from to ∷ n ∷ marks) is =
-    ap (λ (l : List Told). tells k j l ∷ reports_with t (map (report_of_mark ts) (n ∷ marks))) (sym (slice_front ts (t ∷ []) from to is.0 is.1))
-    ∙ ap (λ (l : List Report). tells k j (slice_range (ts ++ t ∷ []) from to) ∷ l) (told_more ts t (n ∷ marks) is.3)
+told_more ts t (Ended e from to ∷ n ∷ marks) is =
+    ap (λ (l : List Told). tells e l ∷ reports_with t (map (report_of_mark ts) (n ∷ marks))) (sym (slice_front ts (t ∷ []) from to is.0 is.1))
+    ∙ ap (λ (l : List Report). tells e (slice_range (ts ++ t ∷ []) from to) ∷ l) (told_more ts t (n ∷ marks) is.3)
 told_more ts t (Leapt old new ∷ n ∷ marks) is = ap (λ (l : List Report). leaps old new ∷ l) (told_more ts t (n ∷ marks) is)
 
 reaches : (count to wide_to : ℕ) (n : Mark) (marks : List Mark) → ReachesEnd count to (marks_to wide_to (n ∷ marks))
@@ -80,9 +81,9 @@ reaches count to wide_to n (m ∷ marks) = tt
 
 marks_more : (count : ℕ) (marks : List Mark) → AreMarks count marks → AreMarks (count + 1) (marks_to (count + 1) marks)
 marks_more count [] is = tt
-marks_more count (Ended k j from to ∷ []) is = let order = is.0 in let within = is.1 in (omega (arith, order, within), omega arith, refl, tt)
+marks_more count (Ended e from to ∷ []) is = let order = is.0 in let within = is.1 in (omega (arith, order, within), omega arith, refl, tt)
 marks_more count (Leapt old new ∷ []) is = tt
-marks_more count (Ended k j from to ∷ n ∷ marks) is = let within = is.1 in (is.0, omega (arith, within), reaches (count + 1) to (count + 1) n marks, marks_more count (n ∷ marks) is.3)
+marks_more count (Ended e from to ∷ n ∷ marks) is = let within = is.1 in (is.0, omega (arith, within), reaches (count + 1) to (count + 1) n marks, marks_more count (n ∷ marks) is.3)
 marks_more count (Leapt old new ∷ n ∷ marks) is = marks_more count (n ∷ marks) is
 
 reaches-push : (count to : ℕ) (marks : List Mark) (m : Mark) → ReachesEnd count to (marks ++ m ∷ [])
@@ -91,7 +92,7 @@ reaches-push count to (n ∷ marks) m = tt
 
 marks-push : (count : ℕ) (marks : List Mark) (m : Mark) → AreMarks count marks → AreMarks count (m ∷ []) → AreMarks count (marks ++ m ∷ [])
 marks-push count [] m is last = last
-marks-push count (Ended k j from to ∷ marks) m is last = (is.0, is.1, reaches-push count to marks m, marks-push count marks m is.3 last)
+marks-push count (Ended e from to ∷ marks) m is last = (is.0, is.1, reaches-push count to marks m, marks-push count marks m is.3 last)
 marks-push count (Leapt old new ∷ marks) m is last = marks-push count marks m is last
 
 pub marks_to-push : (to : ℕ) (marks : List Mark) (m : Mark) → marks_to to (marks ++ m ∷ []) ≡ marks ++ mark_to to m ∷ []
@@ -106,8 +107,8 @@ reports_with-push t (x ∷ y ∷ reports) r = ap (λ (l : List Report). x ∷ l)
 
 -- ---- what the calls leave
 
-pub begun_flat : (bytes : List ℕ) (rows : List Row) (marks : List Mark) (k j from : ℕ) → from ≡ length rows → AreFlat bytes rows marks → AreFlat bytes rows (marks ++ Ended k j from from ∷ [])
-begun_flat bytes rows marks k j from is flat = record { rows_in = flat.rows_in; marks_in = marks-push (length rows) marks (Ended k j from from) flat.marks_in (omega (arith, is), omega (arith, is), is, tt) }
+pub begun_flat : (bytes : List ℕ) (rows : List Row) (marks : List Mark) (e : EventEnd) (from : ℕ) → from ≡ length rows → AreFlat bytes rows marks → AreFlat bytes rows (marks ++ Ended e from from ∷ [])
+begun_flat bytes rows marks e from is flat = record { rows_in = flat.rows_in; marks_in = marks-push (length rows) marks (Ended e from from) flat.marks_in (omega (arith, is), omega (arith, is), is, tt) }
 
 pub jumped_flat : (bytes : List ℕ) (rows : List Row) (marks : List Mark) (old new : ℕ) → AreFlat bytes rows marks → AreFlat bytes rows (marks ++ Leapt old new ∷ [])
 jumped_flat bytes rows marks old new flat = record { rows_in = flat.rows_in; marks_in = marks-push (length rows) marks (Leapt old new) flat.marks_in tt }

@@ -2,7 +2,7 @@
 use Rattle.std.proofs.Common.{◌≡◌, ◌<◌, ℕ, ◌+◌, zero, suc, Bool, true, false, cond, List, [], ◌∷◌, length, set, drop, get_or, refl, sym, ap, ◌∙◌, subst, arith}
 use Rattle.std.specs.Prelude.{Option, Some, None, nat_le, slice_get}
 use Rattle.mdp_desks.specs.Reports.{Told}
-use Rattle.mdp_engine.specs.Rounds.{by_slot, all_by_slot}
+use Rattle.mdp_reports.specs.Rounds.{by_slot, all_by_slot}
 use Rattle.mdp_reports.specs.Contents.{slot_first}
 use Rattle.mdp_reports.specs.Next.{Place, lesser, least_of, IsNext}
 

@@ -1,3 +1,9 @@
+pub mod Merging
+pub mod Keeping
+pub mod Ending
+pub mod Collecting
+pub mod Ascending
+pub mod Batching
 pub mod Flatting
 pub mod Reading
 pub mod Least

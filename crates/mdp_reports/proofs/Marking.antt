@@ -8,8 +8,9 @@ use Rattle.std.proofs.lemmas.Grind.{get_or-set_at}
 use Rattle.std.proofs.lemmas.Bool.{cases_lt}
 use Rattle.std.proofs.lemmas.Bool.Decides.{nat_tests}
 use Rattle.mdp_templates.specs.declared.instrument.Instrument.{Instrument}
+use Rattle.mdp_books.specs.declared.event_end.EventEnd.{EventEnd}
 use Rattle.mdp_quotes.specs.declared.best.Best.{Best}
-use Rattle.mdp_arbiter.specs.Channel.{ids_of}
+use Rattle.mdp_templates.specs.Instrument.{ids_of}
 use Rattle.mdp_engine.specs.declared.spreads.Spread.{Spread}
 use Rattle.mdp_desks.specs.Desks.{desk_at_start}
 use Rattle.mdp_engine.specs.Spreads.{IsUnder, spreads_from}
@@ -18,7 +19,7 @@ use Rattle.mdp_desks.proofs.Hearing.{start_listed}
 use Rattle.mdp_engine.proofs.Auditing.{under_there}
 use Rattle.mdp_engine.proofs.Noting.{IsSilent}
 use Rattle.mdp_desks.specs.Reports.{Told}
-use Rattle.mdp_engine.specs.Rounds.{is_told, kept_line}
+use Rattle.mdp_reports.specs.Rounds.{is_told, kept_line}
 use Rattle.mdp_reports.specs.Taking.{marks_after, marked_line}
 
 pub marks_long : (ts : List Told) (marked : List Bool) → length (marks_after ts marked) ≡ length marked
@@ -73,20 +74,20 @@ told_here ts marked n less =
     let long = length-map marked (λ (b : Bool). false) in
     marks ts (map (λ _. false) marked) n (omega (arith, less, long)) ∙ ap (λ (b : Bool). b || is_told ts n) (cleared marked n)
 
-one_line : (k j : ℕ) (listed : List Instrument) (ts : List Told) (marked : List Bool) (kept : List (Option Best)) (s : Spread) → IsUnder (length marked) s
-    → marked_line k j listed (marks_after ts (map (λ _. false) marked)) kept s ≡ kept_line k j listed ts kept s
-one_line k j listed ts marked kept s under =
+one_line : (end : EventEnd) (listed : List Instrument) (ts : List Told) (marked : List Bool) (kept : List (Option Best)) (s : Spread) → IsUnder (length marked) s
+    → marked_line end listed (marks_after ts (map (λ _. false) marked)) kept s ≡ kept_line end listed ts kept s
+one_line end listed ts marked kept s under =
     let a = told_here ts marked s.slot under.slot in
     let b = told_here ts marked s.leg1 under.leg1 in
     let c = told_here ts marked s.leg2 under.leg2 in
     rw (a, b, c) refl
 
-pub all_lines : (k j : ℕ) (listed : List Instrument) (ts : List Told) (marked : List Bool) (kept : List (Option Best)) (spreads : List Spread) → AllByRecursion (IsUnder (length marked)) spreads
-    → flat_map (marked_line k j listed (marks_after ts (map (λ _. false) marked)) kept) spreads ≡ flat_map (kept_line k j listed ts kept) spreads
-all_lines k j listed ts marked kept [] all = refl
-all_lines k j listed ts marked kept (s ∷ spreads) all =
-    ap (λ (l : List ℕ). l ++ flat_map (marked_line k j listed (marks_after ts (map (λ _. false) marked)) kept) spreads) (one_line k j listed ts marked kept s all.0)
-    ∙ ap (λ (l : List ℕ). kept_line k j listed ts kept s ++ l) (all_lines k j listed ts marked kept spreads all.1)
+pub all_lines : (end : EventEnd) (listed : List Instrument) (ts : List Told) (marked : List Bool) (kept : List (Option Best)) (spreads : List Spread) → AllByRecursion (IsUnder (length marked)) spreads
+    → flat_map (marked_line end listed (marks_after ts (map (λ _. false) marked)) kept) spreads ≡ flat_map (kept_line end listed ts kept) spreads
+all_lines end listed ts marked kept [] all = refl
+all_lines end listed ts marked kept (s ∷ spreads) all =
+    ap (λ (l : List ℕ). l ++ flat_map (marked_line end listed (marks_after ts (map (λ _. false) marked)) kept) spreads) (one_line end listed ts marked kept s all.0)
+    ∙ ap (λ (l : List ℕ). kept_line end listed ts kept s ++ l) (all_lines end listed ts marked kept spreads all.1)
 
 -- ---- all spreads stand below the count
 
@@ -107,8 +108,8 @@ all_under listed spreads are =
 
 -- ---- a spread of which no part is marked
 
-pub marks_silent : (k j : ℕ) (listed : List Instrument) (marks : List Bool) (kept : List (Option Best)) → IsSilent marks (marked_line k j listed marks kept)
-marks_silent k j listed marks kept s quiet = rw (quiet.slot, quiet.leg1, quiet.leg2) refl
+pub marks_silent : (end : EventEnd) (listed : List Instrument) (marks : List Bool) (kept : List (Option Best)) → IsSilent marks (marked_line end listed marks kept)
+marks_silent end listed marks kept s quiet = rw (quiet.slot, quiet.leg1, quiet.leg2) refl
 
 -- ---- marks that are taken away
 

@@ -1,7 +1,6 @@
 -- What desks report of moves, one after another: the law of reports.
 use Rattle.std.proofs.Common.{◌≡◌, ◌<◌, ℕ, zero, suc, ◌+◌, Bool, true, false, cond, List, [], ◌∷◌, ◌++◌, map, length, drop, get_or, refl, sym, ap, subst, ◌∙◌, append_assoc, arith}
 use Rattle.std.specs.Prelude.{Option, Some, slice_get}
-use Rattle.std.specs.List.{AllZip}
 use Rattle.std.proofs.lemmas.List.{append-nil, length-map, map-append}
 use Rattle.mdp_templates.specs.Snapshot.{SnapshotContent}
 use Rattle.mdp_templates.specs.declared.instrument.Instrument.{Instrument}
@@ -10,7 +9,7 @@ use Rattle.mdp_arbiter.specs.Machine.{Move}
 use Rattle.mdp_arbiter.specs.Machine.Move.{passed, jumped}
 use Rattle.mdp_desks.specs.declared.desk.Desk.{Desk}
 use Rattle.mdp_desks.specs.Shown.{Standing, standing_after, standing_through}
-use Rattle.mdp_desks.specs.Desks.{desk_after, desks_after, passed_desks, rebased_desks}
+use Rattle.mdp_desks.specs.Desks.{desk_after, desks_after, passed_desks, rebased_desks, snapshots_at}
 use Rattle.mdp_desks.specs.Standing.{Shows}
 use Rattle.mdp_desks.specs.Moments.{moments_of, moments_on, moments_after, shown_lines}
 use Rattle.mdp_desks.specs.Reports.{Report, leaps, report_by}
@@ -19,7 +18,7 @@ use Rattle.mdp_desks.proofs.Hearing.{length_rebased}
 use Rattle.mdp_desks.proofs.Sharing.{law_of_shares}
 use Rattle.mdp_desks.proofs.Showing.{pass_moments, shows_jumped, shows_passed, standing_after-push}
 use Rattle.mdp_reports.specs.ReportLaw.{AreFull, LawOfReports, StandBehind}
-use Rattle.mdp_reports.specs.Reporting.{snapshots_at, desks_after_move, reports_of_move, desks_after_moves, reports_of_moves}
+use Rattle.mdp_reports.specs.Reporting.{desks_after_move, reports_of_move, desks_after_moves, reports_of_moves}
 
 -- ---- one's own snapshots
 

@@ -33,19 +33,19 @@ end_or (Some place) = place.1
 
 pub within : (count n : ℕ) (marks : List Mark) (from to : ℕ) → AreMarks count marks → place_at n marks ≡ Some (from, to) → (from ≤ to) × (to ≤ count)
 within count n [] from to are is = absurd cc
-within count zero (Ended k j f t ∷ marks) from to are is =
+within count zero (Ended e f t ∷ marks) from to are is =
     let start : f ≡ from = ap start_or is in
     let end : t ≡ to = ap end_or is in
     let order = are.0 in
     let under = are.1 in
     (omega (arith, start, end, order), omega (arith, end, under))
 within count zero (Leapt old new ∷ marks) from to are is = absurd cc
-within count (suc n) (Ended k j f t ∷ marks) from to are is = within count n marks from to are.3 is
+within count (suc n) (Ended e f t ∷ marks) from to are is = within count n marks from to are.3 is
 within count (suc n) (Leapt old new ∷ marks) from to are is = within count n marks from to are is
 
 there : (ts : List Told) (n : ℕ) (marks : List Mark) (from to : ℕ) → place_at n marks ≡ Some (from, to) → slice_range ts from to ≡ told_at n (map (report_of_mark ts) marks)
 there ts n [] from to is = absurd cc
-there ts zero (Ended k j f t ∷ marks) from to is =
+there ts zero (Ended e f t ∷ marks) from to is =
     let start : f ≡ from = ap start_or is in
     let end : t ≡ to = ap end_or is in
     ap (λ (a : ℕ). slice_range ts a to) (sym start) ∙ ap (slice_range ts f) (sym end)
@@ -57,6 +57,6 @@ rest_there bytes rows n marks from to is = sym (slice-map (told_of_row bytes) ro
 
 pub rest_none : (ts : List Told) (n : ℕ) (marks : List Mark) → place_at n marks ≡ None → [] ≡ told_at n (map (report_of_mark ts) marks)
 rest_none ts n [] is = refl
-rest_none ts zero (Ended k j f t ∷ marks) is = absurd cc
+rest_none ts zero (Ended e f t ∷ marks) is = absurd cc
 rest_none ts zero (Leapt old new ∷ marks) is = refl
 rest_none ts (suc n) (m ∷ marks) is = rest_none ts n marks is

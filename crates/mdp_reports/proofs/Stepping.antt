@@ -6,6 +6,7 @@ use Rattle.std.proofs.lemmas.List.{length-append, length-drop, drop-append-le, t
 use Rattle.mdp_lanes.specs.declared.row.Row.{Row}
 use Rattle.mdp_lanes.specs.declared.step.Step.{Step}
 use Rattle.mdp_lanes.specs.declared.step.Step.TheVariants.{Jump, Event}
+use Rattle.mdp_books.specs.declared.event_end.EventEnd.{EventEnd}
 use Rattle.mdp_desks.specs.Reports.{Told}
 use Rattle.mdp_reports.specs.declared.board_steps.StepMark.{StepMark}
 use Rattle.mdp_reports.specs.BoardSteps.{pair_told}
@@ -147,14 +148,14 @@ steps_with-push p [] s = refl
 steps_with-push p (x ∷ []) s = refl
 steps_with-push p (x ∷ y ∷ steps) s = ap (λ (l : List Step). x ∷ l) (steps_with-push p (y ∷ steps) s)
 
-told_behind : (packet message : ℕ) (ts : List Told) (pairs : List Pair) (steps : List Step)
-    → steps_with_told packet message ts (steps ++ Event pairs ∷ []) ≡ steps ++ Event (pairs ++ map (pair_told packet message) ts) ∷ []
-told_behind packet message [] pairs steps = ap (λ (l : List Pair). steps ++ Event l ∷ []) (sym (append-nil pairs))
-told_behind packet message (t ∷ ts) pairs steps =
-    let p = pair_told packet message t in
-    ap (steps_with_told packet message ts) (steps_with-push p steps (Event pairs))
-    ∙ told_behind packet message ts (pairs ++ p ∷ []) steps
-    ∙ ap (λ (l : List Pair). steps ++ Event l ∷ []) (append_assoc pairs (p ∷ []) (map (pair_told packet message) ts))
+told_behind : (end : EventEnd) (ts : List Told) (pairs : List Pair) (steps : List Step)
+    → steps_with_told end ts (steps ++ Event pairs ∷ []) ≡ steps ++ Event (pairs ++ map (pair_told end) ts) ∷ []
+told_behind end [] pairs steps = ap (λ (l : List Pair). steps ++ Event l ∷ []) (sym (append-nil pairs))
+told_behind end (t ∷ ts) pairs steps =
+    let p = pair_told end t in
+    ap (steps_with_told end ts) (steps_with-push p steps (Event pairs))
+    ∙ told_behind end ts (pairs ++ p ∷ []) steps
+    ∙ ap (λ (l : List Pair). steps ++ Event l ∷ []) (append_assoc pairs (p ∷ []) (map (pair_told end) ts))
 
-pub all_told : (packet message : ℕ) (ts : List Told) (steps : List Step) → steps_with_told packet message ts (steps ++ Event [] ∷ []) ≡ steps ++ Event (map (pair_told packet message) ts) ∷ []
-all_told packet message ts steps = told_behind packet message ts [] steps
+pub all_told : (end : EventEnd) (ts : List Told) (steps : List Step) → steps_with_told end ts (steps ++ Event [] ∷ []) ≡ steps ++ Event (map (pair_told end) ts) ∷ []
+all_told end ts steps = told_behind end ts [] steps

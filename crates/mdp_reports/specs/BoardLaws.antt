@@ -8,7 +8,7 @@ use Rattle.mdp_arbiter.specs.Channel.{ListedChannel}
 use Rattle.mdp_arbiter.specs.Machine.{Move, moves_of}
 use Rattle.mdp_desks.specs.Moments.{Moment, moments, moments_after}
 use Rattle.mdp_desks.specs.Reports.{Report}
-use Rattle.mdp_engine.specs.Rounds.{all_rounds_in, batch_of}
+use Rattle.mdp_reports.specs.Rounds.{all_rounds_in, batch_of}
 use Rattle.mdp_reports.specs.BoardSteps.{board_steps, step_of_moment, steps_in}
 
 -- whatever the number of workers, and however their reports are cut into batches, their reports give the steps that the

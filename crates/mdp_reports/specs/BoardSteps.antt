@@ -3,6 +3,7 @@
 use Rattle.std.specs.Prelude.{ℕ, List, [], ◌∷◌, ◌++◌, Option, Some, None, map}
 use Rattle.mdp_templates.specs.Packet.{PacketContent}
 use Rattle.mdp_templates.specs.declared.instrument.Instrument.{Instrument}
+use Rattle.mdp_books.specs.declared.event_end.EventEnd.{EventEnd}
 use Rattle.mdp_quotes.specs.declared.top.TopOfBook.{TopOfBook}
 use Rattle.mdp_lanes.specs.declared.row.Row.{Row}
 use Rattle.mdp_lanes.specs.declared.row.Row.TheVariants.{Top, Fault}
@@ -12,25 +13,24 @@ use Rattle.mdp_arbiter.specs.Machine.{Move}
 use Rattle.mdp_desks.specs.Moments.{Moment, ended, leapt, moments}
 use Rattle.mdp_desks.specs.Reports.{Told, Report, tells, leaps, told_from}
 use Rattle.mdp_engine.specs.Owed.{Step as RunStep, owed_moments}
-use Rattle.mdp_engine.specs.Rounds.{all_by_slot, told_in}
+use Rattle.mdp_reports.specs.Rounds.{all_by_slot, told_in}
 
--- the row of a security whose book has this top where message `message` of packet `packet` ends an event; a fault has
--- none
-abbrev pub row_with : ℕ → ℕ → Option TopOfBook → Row
-row_with packet message None = Fault packet message
-row_with packet message (Some top) = Top packet message top.bid top.offer
+-- the row of a security whose book has this top where an event ends; a fault has none
+abbrev pub row_with : EventEnd → Option TopOfBook → Row
+row_with end None = Fault end.packet end.message
+row_with end (Some top) = Top end.packet end.message top.bid top.offer
 
-abbrev pub pair_told : ℕ → ℕ → Told → ℕ × Row
-pair_told packet message t = (t.slot, row_with packet message t.top)
+abbrev pub pair_told : EventEnd → Told → ℕ × Row
+pair_told end t = (t.slot, row_with end t.top)
 
 -- of an event end that tells of these
-abbrev pub step_telling : ℕ → ℕ → List Told → Step
-step_telling packet message ts = Event (map (pair_told packet message) ts)
+abbrev pub step_telling : EventEnd → List Told → Step
+step_telling end ts = Event (map (pair_told end) ts)
 
 -- ---- what the moves show
 
 abbrev pub step_of_moment : Moment → Step
-step_of_moment (ended packet message seen) = step_telling packet message (told_from packet message 0 seen)
+step_of_moment (ended end seen) = step_telling end (told_from end 0 seen)
 step_of_moment (leapt old new) = Jump
 
 abbrev pub board_steps : List Instrument → List Move → List Step
@@ -41,7 +41,7 @@ board_steps listed moves = map step_of_moment (moments listed moves)
 -- of one report of each worker
 abbrev pub step_of_round : List Report → List Step
 step_of_round [] = []
-step_of_round (tells packet message ts ∷ rest) = step_telling packet message (all_by_slot (ts ∷ map told_in rest)) ∷ []
+step_of_round (tells end ts ∷ rest) = step_telling end (all_by_slot (ts ∷ map told_in rest)) ∷ []
 step_of_round (leaps old new ∷ rest) = Jump ∷ []
 
 -- round by round

@@ -2,7 +2,7 @@
 use Rattle.std.specs.Prelude.{ℕ, zero, suc, List, [], ◌∷◌, slice_get, Option, Some, None}
 use Rattle.std.specs.Option.{option_map}
 use Rattle.mdp_desks.specs.Reports.{Told, Report, tells, leaps}
-use Rattle.mdp_engine.specs.Rounds.{told_in}
+use Rattle.mdp_reports.specs.Rounds.{told_in}
 use Rattle.mdp_reports.specs.declared.row.Mark.{Mark}
 use Rattle.mdp_reports.specs.declared.row.Mark.TheVariants.{Ended, Leapt}
 use Rattle.mdp_reports.specs.declared.row.Line.{Line}
@@ -11,7 +11,7 @@ use Rattle.mdp_reports.specs.declared.row.Heading.TheVariants.{Event, Jump}
 
 -- the moment that a report is of
 abbrev pub heading_of : Report → Heading
-heading_of (tells packet message ts) = Event packet message
+heading_of (tells end ts) = Event end
 heading_of (leaps old new) = Jump old new
 
 -- of the report at a place, from 0
@@ -34,7 +34,7 @@ slot_first (t ∷ ts) = Some t.slot
 -- where the rows of a moment stand that is an event end
 abbrev pub place_in : Option Mark → Option (ℕ × ℕ)
 place_in None = None
-place_in (Some (Ended packet message from to)) = Some (from, to)
+place_in (Some (Ended end from to)) = Some (from, to)
 place_in (Some (Leapt old new)) = None
 
 abbrev pub place_at : ℕ → List Mark → Option (ℕ × ℕ)

@@ -3,6 +3,7 @@
 use Rattle.std.specs.Prelude.{◌≡◌, ◌≤◌, ℕ, List, [], ◌∷◌, ◌++◌, length, map, ⊤}
 use Rattle.std.specs.List.{slice_range, AllByRecursion}
 use Rattle.mdp_books.specs.declared.book.Book.{Book}
+use Rattle.mdp_books.specs.declared.event_end.EventEnd.{EventEnd}
 use Rattle.mdp_quotes.specs.Best.{best_of}
 use Rattle.mdp_quotes.specs.Top.{top_of_book}
 use Rattle.mdp_desks.specs.Lines.{book_lines}
@@ -20,7 +21,7 @@ told_of_rows bytes rows = map (told_of_row bytes) rows
 
 -- a moment with its rows
 abbrev pub report_of_mark : List Told → Mark → Report
-report_of_mark ts (Ended packet message from to) = tells packet message (slice_range ts from to)
+report_of_mark ts (Ended end from to) = tells end (slice_range ts from to)
 report_of_mark ts (Leapt old new) = leaps old new
 
 abbrev pub reports_of_marks : List ℕ → List Row → List Mark → List Report
@@ -38,7 +39,7 @@ ReachesEnd count to (m ∷ marks) = ⊤
 
 abbrev pub AreMarks : ℕ → List Mark → Type 0
 AreMarks count [] = ⊤
-AreMarks count (Ended packet message from to ∷ marks) =
+AreMarks count (Ended end from to ∷ marks) =
     (from ≤ to) × (to ≤ count) × ReachesEnd count to marks × AreMarks count marks
 AreMarks count (Leapt old new ∷ marks) = AreMarks count marks
 
@@ -49,7 +50,7 @@ pub record AreFlat (bytes : List ℕ) (rows : List Row) (marks : List Mark) : Ty
 -- ---- one row more in the last moment, where it is an event end
 
 abbrev pub mark_to : ℕ → Mark → Mark
-mark_to to (Ended packet message from before) = Ended packet message from to
+mark_to to (Ended end from before) = Ended end from to
 mark_to to (Leapt old new) = Leapt old new
 
 abbrev pub marks_to : ℕ → List Mark → List Mark
@@ -58,7 +59,7 @@ marks_to to (m ∷ []) = mark_to to m ∷ []
 marks_to to (m ∷ n ∷ marks) = m ∷ marks_to to (n ∷ marks)
 
 abbrev pub report_with : Told → Report → Report
-report_with t (tells packet message ts) = tells packet message (ts ++ t ∷ [])
+report_with t (tells end ts) = tells end (ts ++ t ∷ [])
 report_with t (leaps old new) = leaps old new
 
 -- the last report tells of one more security, where it is of an event end
@@ -67,7 +68,12 @@ reports_with t [] = []
 reports_with t (r ∷ []) = report_with t r ∷ []
 reports_with t (r ∷ s ∷ reports) = r ∷ reports_with t (s ∷ reports)
 
--- what is told of a security with this book, where message `message` of packet `packet` ends an event
-abbrev pub told_of_book : ℕ → ℕ → ℕ → List ℕ → Book → Told
-told_of_book packet message slot name book =
-    record { slot = slot; lines = book_lines packet message name book; best = best_of book; top = top_of_book book }
+-- what is told of a security with this book, where an event ends
+abbrev pub told_of_book : EventEnd → ℕ → List ℕ → Book → Told
+told_of_book end slot name book =
+    record {
+      slot = slot;
+      lines = book_lines end name book;
+      best = best_of book;
+      top = top_of_book book;
+    }

@@ -1,3 +1,5 @@
+pub mod Rounds
+pub mod RoundLaws
 pub mod Flat
 pub mod ReportCode
 pub mod Contents

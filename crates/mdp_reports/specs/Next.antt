@@ -1,7 +1,7 @@
 -- Which of several lists that go by slot is the one whose first goes next.
 use Rattle.std.specs.Prelude.{◌≡◌, ◌<◌, ℕ, ◌+◌, nat_le, length, get_or, set, Option, Some, None, List, [], ◌∷◌, if◌then◌else◌}
 use Rattle.mdp_desks.specs.Reports.{Told}
-use Rattle.mdp_engine.specs.Rounds.{all_by_slot}
+use Rattle.mdp_reports.specs.Rounds.{all_by_slot}
 use Rattle.mdp_reports.specs.Contents.{slot_first}
 
 -- the place of a list, and the slot of its first

@@ -1,7 +1,9 @@
--- How reports are stored: each as the numbers of its moment and what it tells.
+-- How reports are stored: each as its event end and what it tells, or as the numbers of its jump.
 use Rattle.std.specs.Prelude.{◌≡◌, ℕ, List, Option, refl, ◌⊎◌}
 use Rattle.std.proofs.Common.{inl, inr}
 use Rattle.std.specs.Coded.{Coded, code_by, coded×, coded⊎, coded_ℕ, coded_list, coded_option}
+use Rattle.mdp_books.specs.declared.event_end.EventEnd.{EventEnd}
+use Rattle.mdp_books.specs.contracts.event_end.EventEnd as event_end
 use Rattle.mdp_desks.specs.Reports.{Told, Report, tells, leaps}
 use Rattle.mdp_quotes.specs.declared.best.Best.{Best}
 use Rattle.mdp_quotes.specs.contracts.best.Best as best
@@ -22,21 +24,22 @@ abbrev pub all_told_code : Coded (List Told)
 all_told_code = coded_list told_code
 
 abbrev pub Parts : Type 0
-Parts = (ℕ × (ℕ × List Told)) ⊎ (ℕ × ℕ)
+Parts = (EventEnd × List Told) ⊎ (ℕ × ℕ)
 
 abbrev pub parts_of : Report → Parts
-parts_of (tells packet message ts) = inl (packet, (message, ts))
+parts_of (tells end ts) = inl (end, ts)
 parts_of (leaps old new) = inr (old, new)
 
 abbrev pub report_from : Parts → Report
-report_from (inl parts) = tells parts.0 parts.1.0 parts.1.1
+report_from (inl parts) = tells parts.0 parts.1
 report_from (inr parts) = leaps parts.0 parts.1
 
 pub same_report : (r : Report) → report_from (parts_of r) ≡ r
-same_report (tells packet message ts) = refl
+same_report (tells end ts) = refl
 same_report (leaps old new) = refl
 
 abbrev pub reports_code : Coded (List Report)
 reports_code =
-    coded_list (code_by Parts (coded⊎ (coded× coded_ℕ (coded× coded_ℕ all_told_code))
-    (coded× coded_ℕ coded_ℕ)) parts_of report_from same_report)
+    coded_list (code_by Parts
+    (coded⊎ (coded× event_end.the_row.coded all_told_code) (coded× coded_ℕ coded_ℕ))
+    parts_of report_from same_report)

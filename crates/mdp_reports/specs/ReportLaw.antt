@@ -9,7 +9,7 @@ use Rattle.mdp_desks.specs.Moments.{moments_after, shown_lines}
 use Rattle.mdp_desks.specs.Reports.{report_of}
 use Rattle.mdp_desks.specs.Shares.{own_part, own_slots, own_moves}
 use Rattle.mdp_desks.specs.Standing.{Shows}
-use Rattle.mdp_engine.specs.RoundLaws.{Ascend}
+use Rattle.mdp_reports.specs.RoundLaws.{Ascend}
 use Rattle.mdp_reports.specs.Reporting.{desks_after_moves, reports_of_moves}
 
 -- each jump has a snapshot of each listed security

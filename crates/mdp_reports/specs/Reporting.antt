@@ -1,12 +1,11 @@
 -- What the desks of a worker's securities report of moves: each jump, and at each event end the securities at its slots
 -- that are printed there.
-use Rattle.std.specs.Prelude.{ℕ, List, [], ◌∷◌, ◌++◌, fold, map, slice_get, Option}
-use Rattle.mdp_templates.specs.Snapshot.{SnapshotContent}
+use Rattle.std.specs.Prelude.{ℕ, List, [], ◌∷◌, ◌++◌, fold, map}
 use Rattle.mdp_books.specs.Feed.{Sent, sent_in}
 use Rattle.mdp_arbiter.specs.Machine.{Move}
 use Rattle.mdp_arbiter.specs.Machine.Move.{passed, jumped}
 use Rattle.mdp_desks.specs.declared.desk.Desk.{Desk}
-use Rattle.mdp_desks.specs.Desks.{desks_moment, passed_moments, passed_desks, rebased_desks}
+use Rattle.mdp_desks.specs.Desks.{desks_moment, passed_moments, passed_desks, rebased_desks, snapshots_at}
 use Rattle.mdp_desks.specs.Reports.{Told, Report, leaps, report_by}
 use Rattle.mdp_reports.specs.Flat.{reports_with}
 
@@ -20,10 +19,6 @@ reports_at slots m ds = map (report_by slots) (desks_moment m ds)
 
 abbrev pub reports_passed : List ℕ → List Sent → List Desk → List Report
 reports_passed slots ms ds = map (report_by slots) (passed_moments ms ds)
-
--- the snapshots at these slots, of those of all listed securities
-abbrev pub snapshots_at : List ℕ → List SnapshotContent → List (Option SnapshotContent)
-snapshots_at slots snapshots = map (λ (slot : ℕ). slice_get snapshots slot) slots
 
 -- of a move
 abbrev pub desks_after_move : List ℕ → Move → List Desk → List Desk

@@ -7,6 +7,7 @@ use Rattle.mdp_lanes.specs.declared.row.Row.{Row}
 use Rattle.mdp_lanes.specs.declared.step.Step.{Step}
 use Rattle.mdp_lanes.specs.declared.step.Step.TheVariants.{Jump, Event}
 use Rattle.mdp_lanes.specs.contracts.step.Step as step
+use Rattle.mdp_books.specs.declared.event_end.EventEnd.{EventEnd}
 use Rattle.mdp_desks.specs.Reports.{Told}
 use Rattle.mdp_reports.specs.declared.board_steps.StepMark.{StepMark}
 use Rattle.mdp_reports.specs.declared.board_steps.Posting.{Posting}
@@ -52,12 +53,12 @@ steps_with pair (s ∷ []) = step_with pair s ∷ []
 steps_with pair (s ∷ t ∷ steps) = s ∷ steps_with pair (t ∷ steps)
 
 -- of all that is told at an event end
-abbrev pub steps_with_told : ℕ → ℕ → List Told → List Step → List Step
-steps_with_told packet message ts steps =
-    fold (λ (so_far : List Step) (t : Told). steps_with (pair_told packet message t) so_far) steps ts
+abbrev pub steps_with_told : EventEnd → List Told → List Step → List Step
+steps_with_told end ts steps =
+    fold (λ (so_far : List Step) (t : Told). steps_with (pair_told end t) so_far) steps ts
 
 -- ---- a moment by its heading and all that is told at it
 
 abbrev pub step_under : Heading → List Told → Step
-step_under (AtEnd packet message) ts = step_telling packet message ts
+step_under (AtEnd end) ts = step_telling end ts
 step_under (AtJump old new) ts = Jump

@@ -4,14 +4,14 @@ use Rattle.std.specs.List.{flat_map}
 use Rattle.std.specs.Coded.{Coded, code_by, coded×, coded_list, coded_option}
 use Rattle.mdp_templates.specs.declared.instrument.Instrument.{Instrument}
 use Rattle.mdp_templates.specs.contracts.instrument.Instrument as instrument
+use Rattle.mdp_books.specs.declared.event_end.EventEnd.{EventEnd}
 use Rattle.mdp_quotes.specs.declared.best.Best.{Best}
 use Rattle.mdp_quotes.specs.contracts.best.Best as best
 use Rattle.mdp_print.specs.Texts.{jump_line}
 use Rattle.mdp_desks.specs.Lines.{verdicts_text}
 use Rattle.mdp_desks.specs.Reports.{Told, Report}
 use Rattle.mdp_engine.specs.declared.spreads.Spread.{Spread}
-use Rattle.mdp_engine.specs.Parts.{AreAudited}
-use Rattle.mdp_engine.specs.Rounds.{kept_after, told_text, kept_after_round, name_of, best_kept, rounds_behind}
+use Rattle.mdp_reports.specs.Rounds.{kept_after, told_text, kept_after_round, name_of, best_kept, rounds_behind}
 use Rattle.mdp_reports.specs.declared.row.Heading.{Heading}
 use Rattle.mdp_reports.specs.declared.row.Heading.TheVariants.{Event, Jump}
 
@@ -27,13 +27,9 @@ view_code =
     (coded× (coded_list instrument.the_row.coded) (coded_list (coded_option best.the_row.coded)))
     (λ v. (v.listed, v.kept)) (λ t. record { listed = t.0; kept = t.1 }) (λ _. refl)
 
--- a kept value and a mark for each security, and beside them the calendar spreads with their parts, and a mark for each
--- of these
-pub record AreBesideKept
-    (listed : List Instrument) (spreads : List Spread) (parts : List (List ℕ)) (due : List Bool)
-    (kept : List (Option Best)) (marks : List Bool)
+-- a kept value and a mark for each security
+pub record AreKept (listed : List Instrument) (kept : List (Option Best)) (marks : List Bool)
     : Type 0 where
-  pub audited : AreAudited listed spreads parts due
   pub kept_long : length kept ≡ length listed
   pub long : length marks ≡ length listed
 
@@ -50,21 +46,22 @@ abbrev pub marks_after : List Told → List Bool → List Bool
 marks_after ts marks = fold marks_with marks ts
 
 -- the line of a spread where it or a leg is marked
-abbrev pub marked_line : ℕ → ℕ → List Instrument → List Bool → List (Option Best) → Spread → List ℕ
-marked_line packet message listed marks kept s =
+abbrev pub marked_line : EventEnd → List Instrument → List Bool → List (Option Best) → Spread
+    → List ℕ
+marked_line end listed marks kept s =
     if get_or marks s.slot false || get_or marks s.leg1 false || get_or marks s.leg2 false then
-    verdicts_text packet message (name_of (slice_get listed s.slot)) (best_kept (slice_get kept s.slot))
+    verdicts_text end (name_of (slice_get listed s.slot)) (best_kept (slice_get kept s.slot))
     (best_kept (slice_get kept s.leg1)) (best_kept (slice_get kept s.leg2))
     else []
 
 -- ---- a moment by its heading and all that is told at it
 
 abbrev pub text_under : Heading → List Instrument → List (Option Best) → List Told → List ℕ
-text_under (Event packet message) listed kept ts = told_text packet message listed ts (kept_after ts kept)
+text_under (Event end) listed kept ts = told_text end listed ts (kept_after ts kept)
 text_under (Jump old new) listed kept ts = jump_line old new
 
 abbrev pub kept_under : Heading → List (Option Best) → List Told → List (Option Best)
-kept_under (Event packet message) kept ts = kept_after ts kept
+kept_under (Event end) kept ts = kept_after ts kept
 kept_under (Jump old new) kept ts = map (λ _. None) kept
 
 -- ---- batches

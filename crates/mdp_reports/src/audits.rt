@@ -2,12 +2,13 @@
 
 ghost use Rattle.std.specs.Prelude.{◌≡◌, ◌++◌, length, slice_get, OnOk};
 ghost use Rattle.std.specs.List.{flat_map, AllByRecursion};
-ghost use Rattle.mdp_engine.specs.Rounds.{best_kept, name_of};
+ghost use Rattle.mdp_reports.specs.Rounds.{best_kept, name_of};
 ghost use Rattle.mdp_engine.specs.Parts.{AreQuiet};
 ghost use Rattle.mdp_engine.specs.Spreads.{IsUnder};
 ghost use Rattle.mdp_reports.specs.Taking.{marked_line};
 
 use arrayvec::ArrayString;
+use mdp_books::EventEnd;
 use mdp_desks::Marked;
 use mdp_engine::{Spread, is_one_marked, put_verdicts};
 use mdp_quotes::Best;
@@ -37,8 +38,7 @@ fn name_at(listed: &[Instrument], slot: usize) -> Name
 // Appends the line of a spread of which one of the three is marked.
 fn put_marked<A: Allocator>(
     out: &mut Vec<u8, A>,
-    packet: u32,
-    message: u64,
+    end: EventEnd,
     listed: &[Instrument],
     spread: &Spread,
     kept: &[Option<Best>],
@@ -46,15 +46,14 @@ fn put_marked<A: Allocator>(
 ) -> Result<(), Memory>
     requires { IsUnder (length marks.now) spread.now }
     ensures { OnOk result (out.new.items ≡ out.old.items
-        ++ marked_line packet message listed.now marks.now kept.now spread.now) }
+        ++ marked_line end listed.now marks.now kept.now spread.now) }
 {
     if !is_one_marked(marks, spread) {
         return Ok(());
     }
     put_verdicts(
         out,
-        packet,
-        message,
+        end,
         &name_at(listed, spread.slot),
         kept_at(kept, spread.slot),
         kept_at(kept, spread.leg1),
@@ -66,8 +65,7 @@ fn put_marked<A: Allocator>(
 /// looked at, and their marks go.
 pub(crate) fn put_audits<A: Allocator>(
     out: &mut Vec<u8, A>,
-    packet: u32,
-    message: u64,
+    end: EventEnd,
     listed: &[Instrument],
     spreads: &[Spread],
     kept: &[Option<Best>],
@@ -79,12 +77,12 @@ pub(crate) fn put_audits<A: Allocator>(
     requires quiet { AreQuiet marks.now spreads.now due.old }
     ensures long { length due.new ≡ length due.old }
     ensures text { OnOk result (out.new.items ≡ out.old.items
-        ++ flat_map (marked_line packet message listed.now marks.now kept.now) spreads.now) }
+        ++ flat_map (marked_line end listed.now marks.now kept.now) spreads.now) }
 {
     let mut from = 0;
     while let Some(n) = due.next_from(from) {
         due.put(n, false);
-        put_marked(out, packet, message, listed, &spreads[n], kept, marks)?;
+        put_marked(out, end, listed, &spreads[n], kept, marks)?;
         from = n + 1;
     }
     Ok(())

@@ -2,7 +2,7 @@
 
 ghost use Rattle.std.specs.Prelude.{◌≡◌, ◌≢◌, ◌++◌, ◌∷◌, [], AllPairs, length, map, IfOk, OnOk};
 ghost use Rattle.mdp_books.specs.Book.{empty_book};
-ghost use Rattle.mdp_engine.specs.Rounds.{all_by_slot, kept_after, kept_at_start, rounds_in, text_from, told_text};
+ghost use Rattle.mdp_reports.specs.Rounds.{all_by_slot, kept_after, kept_at_start, rounds_in, text_from, told_text};
 ghost use Rattle.mdp_engine.specs.Parts.{AreAudited, lists_in};
 ghost use Rattle.mdp_quotes.specs.Best.{best_of};
 ghost use Rattle.mdp_reports.specs.BoardSteps.{step_telling, steps_in};
@@ -17,13 +17,12 @@ use crate::board_steps::BoardSteps;
 use crate::kept::{clear, forget, put_all_told};
 use crate::rest::Rest;
 use crate::row::Heading;
-use mdp_arbiter::Slots;
-use mdp_books::Book;
+use mdp_books::{Book, EventEnd};
 use mdp_desks::Marked;
 use mdp_engine::{Spread, mark_spreads, parts_of, spreads_of};
 use mdp_print::put_jump;
 use mdp_quotes::Best;
-use mdp_templates::{DIRECT_DEPTH, Instrument, Memory};
+use mdp_templates::{DIRECT_DEPTH, Instrument, Memory, Slots};
 use std::alloc::Allocator;
 use std::marker::Model;
 
@@ -40,8 +39,8 @@ pub struct Collector<'a, A: Allocator> {
 }
 
 impl<'a, A: Allocator> Model for Collector<'a, A> {
-    ghost use Rattle.mdp_engine.specs.Parts.{lists_in};
-    ghost use Rattle.mdp_reports.specs.Taking.{AreBesideKept, View, view_code};
+    ghost use Rattle.mdp_engine.specs.Parts.{AreAudited, lists_in};
+    ghost use Rattle.mdp_reports.specs.Taking.{AreKept, View, view_code};
 
     ghost Value = { View };
 
@@ -49,8 +48,8 @@ impl<'a, A: Allocator> Model for Collector<'a, A> {
 
     ghost view = { λ c. record { listed = c.listed.now; kept = c.kept.items } };
 
-    ghost invariant = { λ c. AreBesideKept c.listed.now c.spreads.items
-        (lists_in c.parts.items) c.due c.kept.items c.marks };
+    ghost invariant = { λ c. AreAudited c.listed.now c.spreads.items (lists_in c.parts.items) c.due
+        × AreKept c.listed.now c.kept.items c.marks };
 }
 
 // Gives the best levels of each security before any packet.
@@ -66,42 +65,6 @@ fn kept_for<A: Allocator + Copy>(
         kept.push(empty)?;
     }
     Ok(kept)
-}
-
-// Appends the lines of an event end, and its step.
-#[tactic(auto, using(crate::proofs::Stepping::all_told))]
-fn put_event<A: Allocator + Copy>(
-    out: &mut Vec<u8, A>,
-    steps: &mut BoardSteps<A>,
-    packet: u32,
-    message: u64,
-    listed: &[Instrument],
-    spreads: &[Spread],
-    parts: &[Vec<usize, A>],
-    due: &mut Marked<A>,
-    kept: &mut [Option<Best>],
-    marks: &mut Marked<A>,
-    left: &mut [Rest],
-) -> Result<(), Memory>
-    requires audited { AreAudited listed.now spreads.now (lists_in parts.now) due.old }
-    requires kept_beside { length kept.old ≡ length listed.now }
-    requires long { length marks.old ≡ length listed.now }
-    ensures text { OnOk result (out.new.items ≡ out.old.items
-        ++ told_text packet message listed.now (all_by_slot left.old)
-        (kept_after (all_by_slot left.old) kept.old)) }
-    ensures steps { OnOk result (steps.new ≡ steps.old
-        ++ step_telling packet message (all_by_slot left.old) ∷ []) }
-    ensures kept { OnOk result (kept.new ≡ kept_after (all_by_slot left.old) kept.old) }
-    ensures kept_long { length kept.new ≡ length kept.old }
-    ensures due_long { length due.new ≡ length due.old }
-    ensures marks_long { length marks.new ≡ length marks.old }
-{
-    clear(marks, listed.len());
-    steps.begin()?;
-    put_all_told(packet, message, left, out, steps, kept, marks)?;
-    mark_spreads(due, marks, parts);
-    put_audits(out, packet, message, listed, spreads, kept, marks, due)?;
-    Ok(())
 }
 
 // Tells what the report at a place tells.
@@ -183,6 +146,42 @@ impl<'a, A: Allocator + Copy> Collector<'a, A> {
         })
     }
 
+    // Appends the lines of an event end, and its step.
+    #[tactic(auto, using(crate::proofs::Stepping::all_told))]
+    fn put_event(
+        &mut self,
+        end: EventEnd,
+        left: &mut [Rest],
+        out: &mut Vec<u8, A>,
+        steps: &mut BoardSteps<A>,
+    ) -> Result<(), Memory>
+        ensures text { OnOk result (out.new.items ≡ out.old.items
+            ++ told_text end self.old.listed (all_by_slot left.old)
+            (kept_after (all_by_slot left.old) self.old.kept)) }
+        ensures steps { OnOk result (steps.new ≡ steps.old
+            ++ step_telling end (all_by_slot left.old) ∷ []) }
+        ensures kept { OnOk result (self.new
+            ≡ record {
+              listed = self.old.listed;
+              kept = kept_after (all_by_slot left.old) self.old.kept;
+            }) }
+    {
+        clear(&mut self.marks, self.listed.len());
+        steps.begin()?;
+        put_all_told(end, left, out, steps, &mut self.kept, &mut self.marks)?;
+        mark_spreads(&mut self.due, &self.marks, &self.parts);
+        put_audits(
+            out,
+            end,
+            self.listed,
+            &self.spreads,
+            &self.kept,
+            &self.marks,
+            &mut self.due,
+        )?;
+        Ok(())
+    }
+
     // Appends the lines of a moment, and its step.
     fn put_moment(
         &mut self,
@@ -202,19 +201,7 @@ impl<'a, A: Allocator + Copy> Collector<'a, A> {
             }) }
     {
         match heading {
-            Heading::Event { packet, message } => put_event(
-                out,
-                steps,
-                packet,
-                message,
-                self.listed,
-                &self.spreads,
-                &self.parts,
-                &mut self.due,
-                &mut self.kept,
-                &mut self.marks,
-                left,
-            ),
+            Heading::Event(end) => self.put_event(end, left, out, steps),
             Heading::Jump { old, new } => {
                 put_jump(out, old, new)?;
                 steps.jump()?;

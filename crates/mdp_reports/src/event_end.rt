@@ -7,6 +7,7 @@ ghost use Rattle.mdp_desks.specs.Reports.{tells, told_by, told_there};
 ghost use Rattle.mdp_reports.specs.Reporting.{reports_with_all};
 
 use crate::reports::Reports;
+use mdp_books::EventEnd;
 use mdp_desks::{Desk, Desks, Marked};
 use mdp_templates::Memory;
 use std::alloc::Allocator;
@@ -14,18 +15,17 @@ use std::alloc::Allocator;
 // Tells of a security whose desk is marked, unless the packet stands not behind its base.
 fn tell_due<A: Allocator + Copy>(
     out: &mut Reports<A>,
-    packet: u32,
-    message: u64,
+    end: EventEnd,
     slot: u16,
     desk: &Desk,
 ) -> Result<(), Memory>
     requires { desk.now.marked ≡ true }
     ensures { OnOk result (out.new ≡ reports_with_all
-        (told_there packet message slot (desk_standing packet desk.now)) out.old) }
+        (told_there end slot (desk_standing end.packet desk.now)) out.old) }
 {
-    if packet > desk.base {
+    if end.packet > desk.base {
         let name = &desk.instrument.name;
-        out.put_row(packet, message, slot, name, &desk.book)?;
+        out.put_row(end, slot, name, &desk.book)?;
     }
     Ok(())
 }
@@ -33,8 +33,7 @@ fn tell_due<A: Allocator + Copy>(
 // Tells of the securities whose desks are marked.
 fn tell_marked<A: Allocator + Copy>(
     out: &mut Reports<A>,
-    packet: u32,
-    message: u64,
+    end: EventEnd,
     slots: &[u16],
     desks: &[Desk],
     marked: &Marked<A>,
@@ -42,38 +41,29 @@ fn tell_marked<A: Allocator + Copy>(
     requires marks { marked.now ≡ marks_of desks.now }
     requires many { length slots.now ≡ length desks.now }
     ensures { OnOk result (out.new ≡ reports_with_all
-        (told_by packet message slots.now (map (desk_standing packet) desks.now)) out.old) }
+        (told_by end slots.now (map (desk_standing end.packet) desks.now)) out.old) }
 {
     let mut from = 0;
     while let Some(n) = marked.next_from(from) {
-        tell_due(out, packet, message, slots[n], &desks[n])?;
+        tell_due(out, end, slots[n], &desks[n])?;
         from = n + 1;
     }
     Ok(())
 }
 
-/// Reports an event end in message `message` of packet `packet`: of the securities of these desks, which stand at these
-/// slots, those that are printed there. A desk that is not marked is not looked at.
+/// Reports an event end: of the securities of these desks, which stand at these slots, those that are
+/// printed there. A desk that is not marked is not looked at.
 pub(crate) fn report_event_end<A: Allocator + Copy>(
     desks: &Desks<A>,
     slots: &[u16],
-    packet: u32,
-    message: u64,
+    end: EventEnd,
     out: &mut Reports<A>,
 ) -> Result<(), Memory>
     requires { length slots.now ≡ length desks.now }
     ensures { OnOk result (out.new ≡ out.old
-        ++ tells packet message (told_by packet message slots.now
-        (map (desk_standing packet) desks.now)) ∷ []) }
+        ++ tells end (told_by end slots.now (map (desk_standing end.packet) desks.now)) ∷ []) }
 {
-    out.begin(packet, message)?;
-    tell_marked(
-        out,
-        packet,
-        message,
-        slots,
-        desks.as_slice(),
-        desks.marked(),
-    )?;
+    out.begin(end)?;
+    tell_marked(out, end, slots, desks.as_slice(), desks.marked())?;
     Ok(())
 }

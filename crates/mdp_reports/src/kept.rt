@@ -2,7 +2,7 @@
 //! security.
 
 ghost use Rattle.std.specs.Prelude.{◌≡◌, ◌++◌, OnOk, None, set, map, length, true, false};
-ghost use Rattle.mdp_engine.specs.Rounds.{all_by_slot, kept_after};
+ghost use Rattle.mdp_reports.specs.Rounds.{all_by_slot, kept_after};
 ghost use Rattle.mdp_reports.specs.BoardSteps.{row_with};
 ghost use Rattle.mdp_reports.specs.Steps.{steps_with_told};
 ghost use Rattle.mdp_reports.specs.Taking.{lines_told, marks_after};
@@ -10,6 +10,7 @@ ghost use Rattle.mdp_reports.specs.Taking.{lines_told, marks_after};
 use crate::board_steps::BoardSteps;
 use crate::merge::take_next;
 use crate::rest::Rest;
+use mdp_books::EventEnd;
 use mdp_desks::Marked;
 use mdp_lanes::Row;
 use mdp_quotes::{Best, TopOfBook};
@@ -35,25 +36,27 @@ fn keep<A: Allocator>(
 }
 
 // Gives the row of a security whose book has this top; none is a fault.
-fn row_with(packet: u32, message: u64, top: Option<TopOfBook>) -> Row
-    ensures { result ≡ row_with packet message top }
+fn row_with(end: EventEnd, top: Option<TopOfBook>) -> Row
+    ensures { result ≡ row_with end top }
 {
     match top {
         Some(top) => Row::Top {
-            packet,
-            message,
+            packet: end.packet,
+            message: end.message,
             bid: top.bid,
             offer: top.offer,
         },
-        None => Row::Fault { packet, message },
+        None => Row::Fault {
+            packet: end.packet,
+            message: end.message,
+        },
     }
 }
 
 /// Appends the lines of all that is told, in slot order, and its rows to the last step, keeps its best levels, and
 /// marks its slots.
 pub(crate) fn put_all_told<A: Allocator + Copy>(
-    packet: u32,
-    message: u64,
+    end: EventEnd,
     left: &mut [Rest],
     out: &mut Vec<u8, A>,
     steps: &mut BoardSteps<A>,
@@ -64,7 +67,7 @@ pub(crate) fn put_all_told<A: Allocator + Copy>(
     ensures text { OnOk result (out.new.items ≡ out.old.items
         ++ lines_told (all_by_slot left.old)) }
     ensures steps { OnOk result (steps.new
-        ≡ steps_with_told packet message (all_by_slot left.old) steps.old) }
+        ≡ steps_with_told end (all_by_slot left.old) steps.old) }
     ensures kept { OnOk result (kept.new ≡ kept_after (all_by_slot left.old) kept.old) }
     ensures marks { OnOk result (marks.new ≡ marks_after (all_by_slot left.old) marks.old) }
     ensures kept_long { length kept.new ≡ length kept.old }
@@ -72,7 +75,7 @@ pub(crate) fn put_all_told<A: Allocator + Copy>(
 {
     while let Some(line) = take_next(left) {
         out.extend_from_slice(line.lines)?;
-        steps.put(line.slot, row_with(packet, message, line.top))?;
+        steps.put(line.slot, row_with(end, line.top))?;
         keep(kept, marks, line.slot, line.best);
     }
     Ok(())

@@ -1,8 +1,10 @@
-//! What the definitions of reports and of the steps of a board say of all moves, as functions that only carry a proof.
+//! What the definitions of reports, of rounds and of the steps of a board say of all moves, as functions
+//! that only carry a proof.
 
 ghost use Rattle.mdp_reports.specs.Behind.{LawOfEarlyEnds};
 ghost use Rattle.mdp_reports.specs.BoardLaws.{LawOfBoards, LawOfFirstSteps, LawOfMoreSteps, LawOfStepFronts};
 ghost use Rattle.mdp_reports.specs.ReportLaw.{LawOfFirstDesks, LawOfFullJumps, LawOfReports};
+ghost use Rattle.mdp_reports.specs.RoundLaws.{LawOfAscent, LawOfBatches, LawOfCuts, LawOfFirstRounds, LawOfRuns, LawOfWorkers};
 
 /// Proves that a worker whose desks stand behind the moves before reports its part of each moment of the moves that
 /// follow, and its desks stand behind those too.
@@ -19,6 +21,39 @@ pub fn law_of_full_jumps()
 /// Proves that new desks stand behind no moves.
 pub fn law_of_first_desks()
     ensures { LawOfFirstDesks }
+{}
+
+/// Proves that whatever the number of workers, what the collector makes of their reports is what the
+/// moves show.
+pub fn law_of_workers()
+    ensures { LawOfWorkers }
+{}
+
+/// Proves that the recovery machine's moves ascend, whatever came: packets pass in number order, and
+/// each jump has a snapshot of each listed security.
+pub fn law_of_ascent()
+    ensures { LawOfAscent }
+{}
+
+/// Proves that batches of reports are the rounds of all their moments, wherever they are cut.
+pub fn law_of_batches()
+    ensures { LawOfBatches }
+{}
+
+/// Proves that what is made of the first rounds begins what is made of all.
+pub fn law_of_first_rounds()
+    ensures { LawOfFirstRounds }
+{}
+
+/// Proves that the moments of moves that come batch by batch are those of all of them.
+pub fn law_of_cuts()
+    ensures { LawOfCuts }
+{}
+
+/// Proves that whatever the number of workers and wherever their reports are cut into batches, the
+/// collector's text is the one that a complete feed owes which agrees with the events.
+pub fn law_of_runs()
+    ensures { LawOfRuns }
 {}
 
 /// Proves that whatever the number of workers, and wherever their reports are cut into batches, the steps that these

@@ -1,7 +1,7 @@
 //! Which security goes next of all that several reports tell of.
 
 ghost use Rattle.std.specs.Prelude.{◌≡◌, [], ◌∷◌, IfNone, MatchOption};
-ghost use Rattle.mdp_engine.specs.Rounds.{all_by_slot};
+ghost use Rattle.mdp_reports.specs.Rounds.{all_by_slot};
 ghost use Rattle.mdp_reports.specs.Contents.{told_line};
 ghost use Rattle.mdp_reports.specs.Next.{IsNext, least_of, lesser};
 

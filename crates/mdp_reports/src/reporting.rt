@@ -1,16 +1,17 @@
 //! What a worker reports of moves, with the books of its own securities alone.
 
-ghost use Rattle.std.specs.Prelude.{◌≡◌, ◌++◌, length, slice_get, IfOk, OnOk};
+ghost use Rattle.std.specs.Prelude.{◌≡◌, ◌++◌, length, OnOk};
 ghost use Rattle.mdp_books.specs.Feed.{sent_as, sent_in};
 ghost use Rattle.mdp_desks.specs.Desks.{desks_after, passed_desks};
-ghost use Rattle.mdp_reports.specs.Reporting.{desks_after_move, reports_at, reports_of_move, reports_passed, snapshots_at};
+ghost use Rattle.mdp_reports.specs.Reporting.{desks_after_move, reports_at, reports_of_move, reports_passed};
 ghost use Rattle.mdp_arbiter.specs.Turns.{move_of};
 
 use crate::event_end::report_event_end;
 use crate::reports::Reports;
 use mdp_arbiter::Turn;
+use mdp_books::EventEnd;
 use mdp_desks::Desks;
-use mdp_templates::{Memory, Message, Packet, Snapshot};
+use mdp_templates::{Memory, Message, Packet};
 use std::alloc::Allocator;
 
 // Hears a message, and reports it where it ends an event.
@@ -31,7 +32,7 @@ fn report_message<A: Allocator + Copy>(
 {
     desks.hear(packet, message, taken.entries());
     if taken.is_end() {
-        report_event_end(desks, slots, packet, message, out)?;
+        report_event_end(desks, slots, EventEnd { packet, message }, out)?;
         desks.settle(packet);
     }
     Ok(())
@@ -57,34 +58,8 @@ fn report_packet<A: Allocator + Copy>(
     Ok(())
 }
 
-// Gives the snapshot at a slot, if there is one.
-fn snapshot_at(snapshots: &[Snapshot], slot: u16) -> Option<Snapshot>
-    ensures { result ≡ slice_get snapshots.now slot }
-{
-    match snapshots.get(usize::from(slot)) {
-        Some(snapshot) => Some(snapshot.copy()),
-        None => None,
-    }
-}
-
-// Gives the snapshots at these slots.
-fn snapshots_at<A: Allocator + Copy>(
-    alloc: A,
-    slots: &[u16],
-    snapshots: &[Snapshot],
-) -> Result<Vec<Option<Snapshot>, A>, Memory>
-    ensures { IfOk result (λ bases. bases.items ≡ snapshots_at slots.now snapshots.now) }
-{
-    let mut bases = Vec::with_capacity(alloc, slots.len())?;
-    for slot in slots {
-        bases.push(snapshot_at(snapshots, *slot))?;
-    }
-    Ok(bases)
-}
-
 /// Reports a turn, and makes its move.
 pub fn report_turn<A: Allocator + Copy>(
-    alloc: A,
     desks: &mut Desks<A>,
     slots: &[u16],
     turn: &Turn<A>,
@@ -104,9 +79,8 @@ pub fn report_turn<A: Allocator + Copy>(
             new,
             snapshots,
         } => {
-            let bases = snapshots_at(alloc, slots, snapshots)?;
             out.put_jump(*old, *new)?;
-            desks.rebase(&bases);
+            desks.rebase_from(slots, snapshots);
             Ok(())
         }
     }

@@ -8,6 +8,7 @@ ghost use Rattle.mdp_reports.specs.Flat.{told_of_book, marks_to, reports_with};
 
 use crate::rest::Rest;
 use crate::row::{Heading, Mark, Row};
+use mdp_books::EventEnd;
 use mdp_desks::put_book;
 use mdp_quotes::{Best, Live};
 use mdp_templates::{Memory, Name};
@@ -61,19 +62,7 @@ fn widen<A: Allocator>(marks: &mut Vec<Mark, A>, to: usize) -> Result<(), Memory
     ensures { OnOk result (marks.new.items ≡ marks_to to marks.old.items) }
 {
     match marks.pop() {
-        Some(
-            Mark::Ended {
-                packet,
-                message,
-                from,
-                to: _,
-            },
-        ) => marks.push(Mark::Ended {
-            packet,
-            message,
-            from,
-            to,
-        })?,
+        Some(Mark::Ended { end, from, to: _ }) => marks.push(Mark::Ended { end, from, to })?,
         Some(Mark::Leapt { old, new }) => marks.push(Mark::Leapt { old, new })?,
         None => {}
     }
@@ -85,27 +74,26 @@ fn put_told<A: Allocator>(
     bytes: &mut Vec<u8, A>,
     rows: &mut Vec<Row, A>,
     marks: &mut Vec<Mark, A>,
-    packet: u32,
-    message: u64,
+    end: EventEnd,
     slot: u16,
     name: &Name,
     live: &Live,
 ) -> Result<(), Memory>
     ensures bytes { OnOk result (bytes.new.items ≡ bytes.old.items
-        ++ (told_of_book packet message slot name.now live.now).lines) }
+        ++ (told_of_book end slot name.now live.now).lines) }
     ensures rows { OnOk result (rows.new.items ≡ rows.old.items
         ++ record {
           slot = slot;
           from = length bytes.old.items;
           to = length bytes.new.items;
-          best = (told_of_book packet message slot name.now live.now).best;
-          top = (told_of_book packet message slot name.now live.now).top;
+          best = (told_of_book end slot name.now live.now).best;
+          top = (told_of_book end slot name.now live.now).top;
         } ∷ []) }
     ensures marks { OnOk result (marks.new.items
         ≡ marks_to (length rows.new.items) marks.old.items) }
 {
     let from = bytes.len();
-    let top = put_book(bytes, packet, message, name, live)?;
+    let top = put_book(bytes, end, name, live)?;
     let best = Best::of(live.book());
     rows.push(Row {
         slot,
@@ -162,19 +150,18 @@ impl<A: Allocator + Copy> Reports<A> {
         }
     }
 
-    /// Begins the report of an event end in message `message` of packet `packet`, which tells of no security yet.
+    /// Begins the report of an event end, which tells of no security yet.
     ///
     /// # Errors
     ///
     /// Memory ran out. Then no report was begun.
-    pub fn begin(&mut self, packet: u32, message: u64) -> Result<(), Memory>
-        ensures begun { OnOk result (self.new ≡ self.old ++ tells packet message [] ∷ []) }
+    pub fn begin(&mut self, end: EventEnd) -> Result<(), Memory>
+        ensures begun { OnOk result (self.new ≡ self.old ++ tells end [] ∷ []) }
         ensures same { IfErr result (λ _. self.new ≡ self.old) }
     {
         let from = self.rows.len();
         self.marks.push(Mark::Ended {
-            packet,
-            message,
+            end,
             from,
             to: from,
         })?;
@@ -182,30 +169,27 @@ impl<A: Allocator + Copy> Reports<A> {
     }
 
     /// Tells in the last report, where that is of an event end, of one more security: its slot among all listed ones,
-    /// the lines of its book in message `message` of packet `packet`, its best levels and the top of its consolidated
-    /// book.
+    /// the lines of its book there, its best levels and the top of its consolidated book.
     ///
     /// # Errors
     ///
     /// Memory ran out. Then no report is left.
     pub fn put_row(
         &mut self,
-        packet: u32,
-        message: u64,
+        end: EventEnd,
         slot: u16,
         name: &Name,
         live: &Live,
     ) -> Result<(), Memory>
         ensures told { OnOk result (self.new
-            ≡ reports_with (told_of_book packet message slot name.now live.now) self.old) }
+            ≡ reports_with (told_of_book end slot name.now live.now) self.old) }
         ensures emptied { IfErr result (λ _. self.new ≡ []) }
     {
         let Ok(()) = put_told(
             &mut self.bytes,
             &mut self.rows,
             &mut self.marks,
-            packet,
-            message,
+            end,
             slot,
             name,
             live,
@@ -243,16 +227,7 @@ impl<A: Allocator + Copy> Reports<A> {
         ensures { result ≡ heading_at n self.now }
     {
         match self.marks.get(n) {
-            Some(
-                Mark::Ended {
-                    packet,
-                    message,
-                    ..
-                },
-            ) => Some(Heading::Event {
-                packet: *packet,
-                message: *message,
-            }),
+            Some(Mark::Ended { end, .. }) => Some(Heading::Event(*end)),
             Some(Mark::Leapt { old, new }) => Some(Heading::Jump {
                 old: *old,
                 new: *new,

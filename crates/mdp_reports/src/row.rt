@@ -1,5 +1,6 @@
 //! The parts of reports.
 
+use mdp_books::EventEnd;
 use mdp_quotes::{Best, TopOfBook};
 
 /// A security that is printed at an event end: its slot, where its lines stand among the bytes (from `from` on and
@@ -17,8 +18,7 @@ pub struct Row {
 #[derive(Clone, Copy)]
 pub enum Mark {
     Ended {
-        packet: u32,
-        message: u64,
+        end: EventEnd,
         from: usize,
         to: usize,
     },
@@ -44,8 +44,8 @@ pub struct Line<'a> {
 /// The moment that a report is of.
 #[derive(Clone, Copy)]
 pub enum Heading {
-    /// Message `message` of packet `packet` ends an event.
-    Event { packet: u32, message: u64 },
+    /// An event ends.
+    Event(EventEnd),
     /// Recovery jumps from packet number `old` to `new`.
     Jump { old: u64, new: u64 },
 }

@@ -111,12 +111,7 @@ impl<A: Allocator + Copy> Worker<A> {
     /// # Errors
     ///
     /// Memory ran out. Then neither the worker nor the reports are of more use.
-    pub fn report_turn(
-        &mut self,
-        alloc: A,
-        turn: &Turn<A>,
-        out: &mut Reports<A>,
-    ) -> Result<(), Memory>
+    pub fn report_turn(&mut self, turn: &Turn<A>, out: &mut Reports<A>) -> Result<(), Memory>
         ensures worker { OnOk result (self.new
             ≡ record self.old {
               desks = desks_after_move self.old.slots
@@ -125,7 +120,7 @@ impl<A: Allocator + Copy> Worker<A> {
         ensures reports { OnOk result (out.new ≡ out.old
             ++ reports_of_move self.old.slots (move_of turn.now) self.old.desks) }
     {
-        report_turn(alloc, &mut self.desks, &self.slots, turn, out)?;
+        report_turn(&mut self.desks, &self.slots, turn, out)?;
         Ok(())
     }
 }

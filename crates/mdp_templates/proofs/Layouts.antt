@@ -8,7 +8,7 @@ use Rattle.mdp_sbe.specs.Group.{IsGrouped}
 use Rattle.mdp_templates.specs.declared.fault.Fault.{Fault}
 use Rattle.mdp_templates.specs.declared.fault.Fault.TheVariants as faults
 use Rattle.mdp_templates.specs.Answer.{OnRefusal}
-use Rattle.mdp_templates.specs.Layout.{AreEntries, AreRefusedEntries, IsRefusedLayout}
+use Rattle.mdp_templates.specs.Layout.{AreEntries, AreRefusedEntries, IsRefusedLayout, layout_of}
 use Rattle.mdp_templates.specs.Layout.IsRefusedLayout.{in_entry}
 
 -- one more of each list
@@ -27,6 +27,6 @@ refused_at read (a ∷ texts) (suc n) text [] r so_far here bad = absurd so_far
 refused_at read (a ∷ texts) (suc n) text (e ∷ entries) r so_far here bad = inr (e, so_far.0, refused_at read texts n text entries r so_far.1 here bad)
 
 -- a fault of the entries is one of the layout
-pub refused_layout : {E : Type 0} (read : List ℕ → Result E Refusal) (least_root least_entry : ℕ) (message : Parts) (root : List ℕ) (texts : List (List ℕ)) (fault : Fault) → IsGrouped message least_root least_entry root texts → OnRefusal (AreRefusedEntries read texts) fault → OnRefusal (IsRefusedLayout read least_root least_entry message) fault
+pub refused_layout : {E : Type 0} (read : List ℕ → Result E Refusal) (least_root least_entry : ℕ) (message : Parts) (root : List ℕ) (texts : List (List ℕ)) (fault : Fault) → IsGrouped message least_root least_entry root texts → OnRefusal (AreRefusedEntries read texts) fault → OnRefusal (IsRefusedLayout (layout_of read least_root least_entry) message) fault
 refused_layout read least_root least_entry message root texts (faults.Refused r) grouped bad = in_entry root texts grouped bad
 refused_layout read least_root least_entry message root texts faults.Memory grouped bad = tt

@@ -5,3 +5,4 @@ pub mod Sides
 pub mod OneAnswer
 pub mod Fits
 pub mod Framed
+mod Places

@@ -14,7 +14,7 @@ use Rattle.mdp_templates.specs.declared.fault.Fault.TheVariants as faults
 use Rattle.mdp_templates.specs.Answer.{OnRefusal}
 use Rattle.mdp_templates.specs.Incremental.{IsIncremental, IsRefusedIncremental, IsRefusedPacket}
 use Rattle.mdp_templates.specs.Incremental.IsRefusedPacket.{in_messages}
-use Rattle.mdp_templates.specs.Recovery.{quote_in, IsRecovery, IsRefusedRecovery, IsRefusedSnapshot, Give, AreRefusedSnapshots}
+use Rattle.mdp_templates.specs.Recovery.{full_refresh, IsRecovery, IsRefusedRecovery, IsRefusedSnapshot, Give, AreRefusedSnapshots}
 use Rattle.mdp_templates.specs.Layout.{IsRefusedLayout}
 use Rattle.mdp_templates.specs.Recovery.IsRefusedSnapshot.{in_layout}
 use Rattle.mdp_templates.specs.Recovery.AreRefusedSnapshots.{in_messages as in_recovery}
@@ -60,7 +60,7 @@ pub refused_recovery : (message : Parts) (fault : Fault) → message.template �
 refused_recovery message (faults.Refused r) template bad = (template, bad)
 refused_recovery message faults.Memory template bad = tt
 
-pub refused_snapshot : (message : Parts) (fault : Fault) → OnRefusal (IsRefusedLayout quote_in 16 22 message) fault → OnRefusal (IsRefusedSnapshot message) fault
+pub refused_snapshot : (message : Parts) (fault : Fault) → OnRefusal (IsRefusedLayout full_refresh message) fault → OnRefusal (IsRefusedSnapshot message) fault
 refused_snapshot message (faults.Refused r) bad = in_layout bad
 refused_snapshot message faults.Memory bad = tt
 

@@ -22,14 +22,14 @@ use Rattle.mdp_templates.specs.declared.entry.Kind.TheVariants as kinds
 use Rattle.mdp_templates.specs.declared.quote.Quote.{Quote}
 use Rattle.mdp_templates.specs.declared.template.Template.{Template}
 use Rattle.mdp_templates.specs.declared.template.Template.TheVariants as templates
-use Rattle.mdp_templates.specs.Entry.{entry_of, direct_depth, implied_depth}
+use Rattle.mdp_templates.specs.Entry.{direct_depth, implied_depth}
 use Rattle.mdp_templates.specs.Packet.{MessageContent, PacketContent}
 use Rattle.mdp_templates.specs.Snapshot.{SnapshotContent}
-use Rattle.mdp_templates.specs.Layout.{AreEntries, AreRefusedEntries, IsLaidOut, IsRefusedLayout}
+use Rattle.mdp_templates.specs.Layout.{Layout, AreEntries, AreRefusedEntries, IsLaidOut, IsRefusedLayout}
 use Rattle.mdp_templates.specs.Layout.IsRefusedLayout.{in_blocks, in_entry}
-use Rattle.mdp_templates.specs.Incremental.{template_of, EndsEvent, IsBook, IsCarrier, IsSteppedOver, IsIncrementalAs, IsIncremental, IsRefusedIncrementalAs, IsRefusedIncremental, IsPacket, IsRefusedPacket}
+use Rattle.mdp_templates.specs.Incremental.{template_of, book_refresh, EndsEvent, IsBook, IsCarrier, IsSteppedOver, IsIncrementalAs, IsIncremental, IsRefusedIncrementalAs, IsRefusedIncremental, IsPacket, IsRefusedPacket}
 use Rattle.mdp_templates.specs.Incremental.IsRefusedPacket.{too_short, number_zero, in_messages}
-use Rattle.mdp_templates.specs.Recovery.{quote_in, IsSide, HasBadSide, IsWhole, IsSnapshot, IsRefusedSnapshot, IsRecovery, IsRefusedRecovery, Give, AreSnapshots, AreRefusedSnapshots}
+use Rattle.mdp_templates.specs.Recovery.{quote_in, full_refresh, IsSide, HasBadSide, IsWhole, IsSnapshot, IsRefusedSnapshot, IsRecovery, IsRefusedRecovery, Give, AreSnapshots, AreRefusedSnapshots}
 use Rattle.mdp_templates.specs.Recovery.IsRefusedSnapshot.{in_layout, in_sides}
 use Rattle.mdp_templates.specs.Recovery.AreRefusedSnapshots.{too_short as short_datagram, in_messages as in_recovery}
 use Rattle.mdp_templates.proofs.Sides.{SideOrNone, side_or_none, one_side, are_shallow}
@@ -78,22 +78,25 @@ one_entries read (t ∷ texts) = first_entry read t texts (read t) refl (one_ent
 
 -- ---- a layout
 
-layout_fault : {E : Type 0} (read : List ℕ → Result E Refusal) (least_root least_entry : ℕ) (message : Parts) (r : Refusal) → IsRefusedLayout read least_root least_entry message r → IsRefusedGrouped message least_root least_entry r ⊎ ((p : List ℕ × List (List ℕ)) × IsGrouped message least_root least_entry p.0 p.1 × AreRefusedEntries read p.1 r)
-layout_fault read least_root least_entry message r (in_blocks bad) = inl bad
-layout_fault read least_root least_entry message r (in_entry root texts grouped bad) = inr ((root, texts), grouped, bad)
+layout_fault : {E : Type 0} (layout : Layout E) (message : Parts) (r : Refusal) → IsRefusedLayout layout message r → IsRefusedGrouped message layout.least_root layout.least_entry r ⊎ ((p : List ℕ × List (List ℕ)) × IsGrouped message layout.least_root layout.least_entry p.0 p.1 × AreRefusedEntries layout.read p.1 r)
+layout_fault layout message r (in_blocks bad) = inl bad
+layout_fault layout message r (in_entry root texts grouped bad) = inr ((root, texts), grouped, bad)
 
-one_layout : {E : Type 0} (read : List ℕ → Result E Refusal) (least_root least_entry : ℕ) (message : Parts) → HasOneAnswer (λ (q : List ℕ × List E). IsLaidOut read least_root least_entry message q.0 q.1) (IsRefusedLayout read least_root least_entry message)
-one_layout {E} read least_root least_entry message =
+one_layout : {E : Type 0} (layout : Layout E) (message : Parts) → HasOneAnswer (λ (q : List ℕ × List E). IsLaidOut layout message q.0 q.1) (IsRefusedLayout layout message)
+one_layout {E} layout message =
+    let read = layout.read in
+    let least_root = layout.least_root in
+    let least_entry = layout.least_entry in
     chained
     (λ (p : List ℕ × List (List ℕ)). IsGrouped message least_root least_entry p.0 p.1) (IsRefusedGrouped message least_root least_entry)
     (λ (p : List ℕ × List (List ℕ)) (q : List ℕ × List E). (q.0 ≡ p.0) × AreEntries read p.1 q.1) (λ (p : List ℕ × List (List ℕ)). AreRefusedEntries read p.1)
-    (λ (q : List ℕ × List E). IsLaidOut read least_root least_entry message q.0 q.1) (IsRefusedLayout read least_root least_entry message)
+    (λ (q : List ℕ × List E). IsLaidOut layout message q.0 q.1) (IsRefusedLayout layout message)
     (record {
       value = λ p q grouped is. record { texts = p.1; grouped = subst (λ (x : List ℕ). IsGrouped message least_root least_entry x p.1) (sym is.0) grouped; each = is.1 };
       steps = λ q is. ((q.0, is.texts), is.grouped, (refl, is.each));
       early = λ r bad. in_blocks bad;
       late = λ p r grouped bad. in_entry p.0 p.1 grouped bad;
-      fault = layout_fault read least_root least_entry message;
+      fault = layout_fault layout message;
     })
     (one_grouped message least_root least_entry)
     (λ p grouped. beside p.0 (λ (entries : List E). AreEntries read p.1 entries) (AreRefusedEntries read p.1) (one_entries read p.1))
@@ -133,20 +136,20 @@ one_content entries root =
 late_fault : {U : Type 0} (First : U → Type 0) (FirstRefused : Refusal → Type 0) (r : Refusal) → FirstRefused r → FirstRefused r ⊎ ((u : U) × First u × ⊥)
 late_fault First FirstRefused r bad = inl bad
 
-one_book : (message : Parts) → HasOneAnswer (IsBook message) (IsRefusedLayout entry_of 9 27 message)
+one_book : (message : Parts) → HasOneAnswer (IsBook message) (IsRefusedLayout book_refresh message)
 one_book message =
     chained
-    (λ (p : List ℕ × List Entry). IsLaidOut entry_of 9 27 message p.0 p.1) (IsRefusedLayout entry_of 9 27 message)
+    (λ (p : List ℕ × List Entry). IsLaidOut book_refresh message p.0 p.1) (IsRefusedLayout book_refresh message)
     (λ (p : List ℕ × List Entry) (value : MessageContent). HasContent p.1 p.0 value) (λ _ _. ⊥)
-    (IsBook message) (IsRefusedLayout entry_of 9 27 message)
+    (IsBook message) (IsRefusedLayout book_refresh message)
     (record {
-      value = λ p value laid_out is. record { root = p.0; laid_out = subst (λ (es : List Entry). IsLaidOut entry_of 9 27 message p.0 es) (sym is.0) laid_out; ends = is.1 };
+      value = λ p value laid_out is. record { root = p.0; laid_out = subst (λ (es : List Entry). IsLaidOut book_refresh message p.0 es) (sym is.0) laid_out; ends = is.1 };
       steps = λ value is. ((is.root, value.entries), is.laid_out, (refl, is.ends));
       early = λ r bad. bad;
       late = λ p r laid_out bad. absurd bad;
-      fault = late_fault (λ (p : List ℕ × List Entry). IsLaidOut entry_of 9 27 message p.0 p.1) (IsRefusedLayout entry_of 9 27 message);
+      fault = late_fault (λ (p : List ℕ × List Entry). IsLaidOut book_refresh message p.0 p.1) (IsRefusedLayout book_refresh message);
     })
-    (one_layout entry_of 9 27 message)
+    (one_layout book_refresh message)
     (λ p laid_out. one_content p.1 p.0)
 
 one_carrier : (message : Parts) → HasOneAnswer (IsCarrier message) (IsRefusedRoot message 9)
@@ -318,14 +321,14 @@ sides_behind root texts quotes good =
     (side_or_none kinds.ImpliedBid quotes implied_depth (are_shallow kinds.ImpliedBid texts quotes good))
     (side_or_none kinds.ImpliedOffer quotes implied_depth (are_shallow kinds.ImpliedOffer texts quotes good))
 
-snapshot_fault : (message : Parts) (r : Refusal) → IsRefusedSnapshot message r → IsRefusedLayout quote_in 16 22 message r ⊎ ((p : List ℕ × List (Option Quote)) × IsLaidOut quote_in 16 22 message p.0 p.1 × (HasBadSide p.1 × (r ≡ refusals.SnapshotLevels)))
+snapshot_fault : (message : Parts) (r : Refusal) → IsRefusedSnapshot message r → IsRefusedLayout full_refresh message r ⊎ ((p : List ℕ × List (Option Quote)) × IsLaidOut full_refresh message p.0 p.1 × (HasBadSide p.1 × (r ≡ refusals.SnapshotLevels)))
 snapshot_fault message r (in_layout bad) = inl bad
 snapshot_fault message r (in_sides root quotes laid_out bad e) = inr ((root, quotes), laid_out, (bad, e))
 
 one_snapshot : (message : Parts) → HasOneAnswer (IsSnapshot message) (IsRefusedSnapshot message)
 one_snapshot message =
     chained
-    (λ (p : List ℕ × List (Option Quote)). IsLaidOut quote_in 16 22 message p.0 p.1) (IsRefusedLayout quote_in 16 22 message)
+    (λ (p : List ℕ × List (Option Quote)). IsLaidOut full_refresh message p.0 p.1) (IsRefusedLayout full_refresh message)
     (λ (p : List ℕ × List (Option Quote)). IsWhole p.0 p.1) (λ (p : List ℕ × List (Option Quote)) r. HasBadSide p.1 × (r ≡ refusals.SnapshotLevels))
     (IsSnapshot message) (IsRefusedSnapshot message)
     (record {
@@ -335,7 +338,7 @@ one_snapshot message =
       late = λ p r laid_out bad. in_sides p.0 p.1 laid_out bad.0 bad.1;
       fault = snapshot_fault message;
     })
-    (one_layout quote_in 16 22 message)
+    (one_layout full_refresh message)
     (λ p laid_out. sides_behind p.0 laid_out.texts p.1 laid_out.each)
 
 with_snapshot : (message : Parts) → message.template ≡ 52 → HasOneAnswer (IsSnapshot message) (IsRefusedSnapshot message) → HasOneAnswer (IsRecovery message) (IsRefusedRecovery message)

@@ -10,7 +10,8 @@ use Rattle.mdp_sbe.specs.declared.refusal.Refusal.TheVariants as refusals
 use Rattle.mdp_templates.specs.declared.template.Template.{Template}
 use Rattle.mdp_templates.specs.declared.template.Template.TheVariants as templates
 use Rattle.mdp_templates.specs.Entry.{entry_of}
-use Rattle.mdp_templates.specs.Layout.{IsLaidOut, IsRefusedLayout}
+use Rattle.mdp_templates.specs.declared.entry.Entry.{Entry}
+use Rattle.mdp_templates.specs.Layout.{Layout, IsLaidOut, IsRefusedLayout}
 use Rattle.mdp_templates.specs.Packet.{MessageContent, PacketContent}
 
 -- what a template is on the incremental feeds
@@ -23,10 +24,14 @@ template_of n =
 abbrev pub EndsEvent : List ℕ → Bool → Type 0
 EndsEvent root end = IsTrue end ↔ IsBitSet (slice_index root 8) 7
 
--- a book message: a root block of at least 9 bytes, and entries of at least 27
+-- book refresh by price: a root block of at least 9 bytes, and entries of at least 27
+abbrev pub book_refresh : Layout Entry
+book_refresh = record { read = entry_of; least_root = 9; least_entry = 27 }
+
+-- a book message
 pub record IsBook (message : Parts) (value : MessageContent) : Type 0 where
   pub root : List ℕ
-  pub laid_out : IsLaidOut entry_of 9 27 message root value.entries
+  pub laid_out : IsLaidOut book_refresh message root value.entries
   pub ends : EndsEvent root value.end
 
 -- a message of which the match event indicator alone is read
@@ -54,7 +59,7 @@ IsIncremental message value = IsIncrementalAs (template_of message.template) mes
 
 -- the first fault of a message by its template; one that is stepped over has none
 abbrev pub IsRefusedIncrementalAs : Template → Parts → Refusal → Type 0
-IsRefusedIncrementalAs templates.Book message r = IsRefusedLayout entry_of 9 27 message r
+IsRefusedIncrementalAs templates.Book message r = IsRefusedLayout book_refresh message r
 IsRefusedIncrementalAs templates.Carrier message r = IsRefusedRoot message 9 r
 IsRefusedIncrementalAs templates.ChannelReset message r = r ≡ refusals.ChannelReset
 IsRefusedIncrementalAs templates.Other message r = ⊥

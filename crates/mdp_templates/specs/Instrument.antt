@@ -1,9 +1,13 @@
--- Which lists of instruments a channel can be read for.
-use Rattle.std.specs.Prelude.{◌≡◌, ◌≢◌, ◌<◌, ◌≤◌, ℕ, ℤ, Some, List, length, take, slice_get, All, AllPairs, Any}
+-- Which lists of instruments a channel can be read for, and their ids.
+use Rattle.std.specs.Prelude.{◌≡◌, ◌≢◌, ◌<◌, ◌≤◌, ℕ, ℤ, Some, List, length, take, slice_get, map, All, AllPairs, Any}
 use Rattle.mdp_templates.specs.declared.instrument.Instrument.{Instrument}
 use Rattle.mdp_templates.specs.declared.instrument.InstrumentKind.{InstrumentKind}
 use Rattle.mdp_templates.specs.declared.instrument.InstrumentKind.TheVariants.{Outright, Calendar}
 use Rattle.mdp_templates.specs.Entry.{direct_depth}
+
+-- the ids of instruments, in listed order
+abbrev pub ids_of : List Instrument → List ℤ
+ids_of instruments = map (λ instrument. instrument.id) instruments
 
 -- one of the instruments is an outright of this id
 abbrev pub HasOutright : List Instrument → ℤ → Type 0

@@ -15,16 +15,23 @@ AreRefusedEntries read [] r = ⊥
 AreRefusedEntries {E} read (text ∷ texts) r =
     (read text ≡ Err r) ⊎ ((entry : E) × (read text ≡ Ok entry) × AreRefusedEntries read texts r)
 
+-- how a template's messages are laid out: what an entry says, and how many bytes a root block and an entry have at least
+pub record Layout (E : Type 0) : Type 0 where
+  pub read : List ℕ → Result E Refusal
+  pub least_root : ℕ
+  pub least_entry : ℕ
+
+abbrev pub layout_of : {E : Type 0} → (List ℕ → Result E Refusal) → ℕ → ℕ → Layout E
+layout_of read least_root least_entry = record { read = read; least_root = least_root; least_entry = least_entry }
+
 -- a message has this root block and these entries; both are at least so long as the template's fields
-pub record IsLaidOut {E : Type 0} (read : List ℕ → Result E Refusal) (least_root least_entry : ℕ) (message : Parts)
-    (root : List ℕ) (entries : List E) : Type 0 where
+pub record IsLaidOut {E : Type 0} (layout : Layout E) (message : Parts) (root : List ℕ) (entries : List E) : Type 0 where
   pub texts : List (List ℕ)
-  pub grouped : IsGrouped message least_root least_entry root texts
-  pub each : AreEntries read texts entries
+  pub grouped : IsGrouped message layout.least_root layout.least_entry root texts
+  pub each : AreEntries layout.read texts entries
 
 -- the first fault of a message that should be laid out so: of its root block and its group, or else of an entry
-pub data IsRefusedLayout {E : Type 0} (read : List ℕ → Result E Refusal) (least_root least_entry : ℕ) (message : Parts)
-    (r : Refusal) : Type 0 where
-  in_blocks : IsRefusedGrouped message least_root least_entry r → IsRefusedLayout read least_root least_entry message r
-  in_entry : (root : List ℕ) (texts : List (List ℕ)) → IsGrouped message least_root least_entry root texts
-      → AreRefusedEntries read texts r → IsRefusedLayout read least_root least_entry message r
+pub data IsRefusedLayout {E : Type 0} (layout : Layout E) (message : Parts) (r : Refusal) : Type 0 where
+  in_blocks : IsRefusedGrouped message layout.least_root layout.least_entry r → IsRefusedLayout layout message r
+  in_entry : (root : List ℕ) (texts : List (List ℕ)) → IsGrouped message layout.least_root layout.least_entry root texts
+      → AreRefusedEntries layout.read texts r → IsRefusedLayout layout message r

@@ -14,7 +14,7 @@ use Rattle.mdp_templates.specs.declared.entry.Kind.TheVariants as kinds
 use Rattle.mdp_templates.specs.declared.quote.Quote.{Quote}
 use Rattle.mdp_templates.specs.Answer.{◌>>=◌}
 use Rattle.mdp_templates.specs.Entry.{kind_of, level_of, quote_of}
-use Rattle.mdp_templates.specs.Layout.{IsLaidOut, IsRefusedLayout}
+use Rattle.mdp_templates.specs.Layout.{Layout, IsLaidOut, IsRefusedLayout}
 use Rattle.mdp_templates.specs.Snapshot.{SnapshotContent}
 
 -- the quote of a side that an entry of this kind gives
@@ -68,17 +68,21 @@ pub record IsWhole (root : List ℕ) (quotes : List (Option Quote)) (value : Sna
   pub implied_bids : IsSide kinds.ImpliedBid quotes value.implied_bids
   pub implied_offers : IsSide kinds.ImpliedOffer quotes value.implied_offers
 
--- a snapshot message: a root block of at least 16 bytes, and entries of at least 22
+-- full refresh by price: a root block of at least 16 bytes, and entries of at least 22
+abbrev pub full_refresh : Layout (Option Quote)
+full_refresh = record { read = quote_in; least_root = 16; least_entry = 22 }
+
+-- a snapshot message
 pub record IsSnapshot (message : Parts) (value : SnapshotContent) : Type 0 where
   pub root : List ℕ
   pub quotes : List (Option Quote)
-  pub laid_out : IsLaidOut quote_in 16 22 message root quotes
+  pub laid_out : IsLaidOut full_refresh message root quotes
   pub whole : IsWhole root quotes value
 
 -- the first fault of a snapshot message: of its layout, or else of its sides
 pub data IsRefusedSnapshot (message : Parts) (r : Refusal) : Type 0 where
-  in_layout : IsRefusedLayout quote_in 16 22 message r → IsRefusedSnapshot message r
-  in_sides : (root : List ℕ) (quotes : List (Option Quote)) → IsLaidOut quote_in 16 22 message root quotes
+  in_layout : IsRefusedLayout full_refresh message r → IsRefusedSnapshot message r
+  in_sides : (root : List ℕ) (quotes : List (Option Quote)) → IsLaidOut full_refresh message root quotes
       → HasBadSide quotes → r ≡ refusals.SnapshotLevels → IsRefusedSnapshot message r
 
 -- what a message of this feed gives: a snapshot where its template is 52, else nothing

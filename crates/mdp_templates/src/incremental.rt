@@ -3,9 +3,8 @@
 ghost use Rattle.std.specs.Prelude.{◌≡◌, [], IfOk, IfErr, ◌<◌, ◌≤◌, length};
 ghost use Rattle.mdp_sbe.specs.Framing.{parts, AreMessages, AreRefused};
 ghost use Rattle.mdp_templates.specs.Answer.{OnRefusal};
-ghost use Rattle.mdp_templates.specs.Incremental.{IsBook, IsCarrier, IsIncremental, IsRefusedIncremental, IsPacket, EndsEvent};
+ghost use Rattle.mdp_templates.specs.Incremental.{IsBook, book_refresh, IsCarrier, IsIncremental, IsRefusedIncremental, IsPacket, EndsEvent};
 ghost use Rattle.mdp_templates.specs.Layout.{IsRefusedLayout};
-ghost use Rattle.mdp_templates.specs.Entry.{entry_of};
 ghost use Rattle.mdp_templates.specs.Spans.{AddsMessage};
 ghost use Rattle.mdp_templates.specs.Refused.{IsRefusedAs};
 ghost use Rattle.mdp_templates.specs.Refused.FeedKind.{incremental};
@@ -56,7 +55,7 @@ fn read_book<A: Allocator + Copy>(
 ) -> Result<Span, Fault>
     ensures ok { IfOk result (AddsMessage
         (IsBook (parts message.now)) entries.old.items entries.new.items) }
-    ensures refused { IfErr result (OnRefusal (IsRefusedLayout entry_of 9 27 (parts message.now))) }
+    ensures refused { IfErr result (OnRefusal (IsRefusedLayout book_refresh (parts message.now))) }
 {
     let start = entries.len();
     let (root, count) = read_layout::<A, Entry>(message, ROOT_LENGTH, entries)?;

@@ -5,7 +5,7 @@ ghost use Rattle.mdp_sbe.specs.Framing.{parts};
 ghost use Rattle.mdp_sbe.specs.Group.{IsGrouped, IsRefusedGrouped};
 ghost use Rattle.mdp_sbe.specs.declared.refusal.Refusal.{Refusal};
 ghost use Rattle.mdp_templates.specs.Answer.{OnRefusal};
-ghost use Rattle.mdp_templates.specs.Layout.{AreEntries, AreRefusedEntries, IsLaidOut, IsRefusedLayout};
+ghost use Rattle.mdp_templates.specs.Layout.{AreEntries, AreRefusedEntries, IsLaidOut, IsRefusedLayout, layout_of};
 ghost use Rattle.mdp_templates.specs.Spans.{Adds};
 
 use crate::fault::Fault;
@@ -65,11 +65,11 @@ pub(crate) fn read_layout<'a, A: Allocator + Copy, E: GroupEntry>(
     least_root: u16,
     list: &mut Vec<E, A>,
 ) -> Result<(&'a [u8], u8), Fault>
-    ensures ok { IfOk result (λ p. Adds (IsLaidOut E.reads least_root E.LENGTH
+    ensures ok { IfOk result (λ p. Adds (IsLaidOut (layout_of E.reads least_root E.LENGTH)
         (parts message.now) p.0.now) list.old.items list.new.items) }
     ensures count { IfOk result (λ p. length list.new.items ≡ length list.old.items + p.1) }
     ensures refused { IfErr result (OnRefusal
-        (IsRefusedLayout E.reads least_root E.LENGTH (parts message.now))) }
+        (IsRefusedLayout (layout_of E.reads least_root E.LENGTH) (parts message.now))) }
 {
     let (root, group) = read_blocks(message, least_root, E::LENGTH)?;
     let count = group.len() as u8;

@@ -1,5 +1,6 @@
 //! The messages of a CME MDP 3.0 channel as typed values: the packets of the incremental feed, the
-//! snapshots of the market recovery feed, and the instruments that the books are kept for.
+//! snapshots of the market recovery feed, and the instruments that the books are kept for, with their
+//! places.
 #![tactic(auto)]
 
 mod entry;
@@ -13,6 +14,7 @@ mod packet;
 mod quote;
 mod recovery;
 mod side;
+mod slots;
 mod snapshot;
 mod spans;
 mod template;
@@ -25,4 +27,5 @@ pub use instrument::{Instrument, InstrumentKind, MOST_INSTRUMENTS, Name, are_fit
 pub use laws::{datagrams_are_framed, one_answer};
 pub use packet::{Message, Packet};
 pub use recovery::read_snapshots;
+pub use slots::Slots;
 pub use snapshot::Snapshot;

@@ -3,8 +3,6 @@
 
 mod map_window;
 mod ring_window;
-#[cfg(test)]
-mod tests;
 mod window;
 
 pub use map_window::MapWindow;

@@ -79,6 +79,13 @@ impl<T: Numbered + Drop, A: Allocator + Copy> Window<T> for MapWindow<T, A> {
         self.room
     }
 
+    fn holds(&self, number: u64) -> bool {
+        match u32::try_from(number) {
+            Ok(key) => self.items.contains_key(&key),
+            Err(_) => false,
+        }
+    }
+
     fn put(&mut self, item: T) -> Put<T> {
         let key = item.number();
         let number = u64::from(key);

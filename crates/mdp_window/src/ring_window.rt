@@ -116,6 +116,10 @@ impl<T: Numbered + Drop, A: Allocator + Copy> Window<T> for RingWindow<T, A> {
         self.places.capacity() as u64
     }
 
+    fn holds(&self, number: u64) -> bool {
+        self.is_held(number)
+    }
+
     fn put(&mut self, item: T) -> Put<T> {
         let number = u64::from(item.number());
         if number < self.first {

@@ -1,6 +1,7 @@
 //! What holds the packets that came ahead of the next number.
 
 ghost use Rattle.std.specs.Prelude.{◌≡◌, ◌≤◌, ℕ, Bool};
+ghost use Rattle.std.specs.FinMap.{contains_key};
 ghost use Rattle.mdp_window.specs.Window.{View, IsInRange, Puts, Takes, DropsBelow};
 
 use mdp_templates::Packet;
@@ -48,6 +49,10 @@ pub trait Window<T: Numbered> {
     fn capacity(&self) -> u64
         ensures room { result ≡ (view self.now).room }
         ensures in_range { IsInRange (view self.now) };
+
+    /// Tells whether an item is held under this number.
+    fn holds(&self, number: u64) -> bool
+        ensures { result ≡ contains_key (view self.now).held number };
 
     /// Holds an item under its number. A number past the window first moves the window up until that is its last one,
     /// and drops what then lies below. An old number, or one that is held, changes nothing, nor does want of memory.

@@ -8,7 +8,7 @@ use crate::starts::Starts;
 use crate::stop::Stop;
 use crate::tests::channel::{Came, handed_over};
 use crate::tests::writer::slow_writer;
-use crate::{CrewOutcome, RunPlan};
+use crate::{CrewOutcome, Means, RunPlan, Site};
 use mdp_arbiter::{Standing, Start};
 use mdp_templates::{Instrument, Memory, are_fit};
 use std::alloc::{Allocator, Global};
@@ -28,11 +28,9 @@ pub struct InThreads {
 
 // All that happens inside the scope.
 fn run_in<'s, E, R, S, G, A>(
-    rt: &'s R,
+    means: &'s Means<'s, R, S, G, A>,
     scope: &'s Scope<'s, E>,
-    starts: &S,
-    alloc: A,
-    gate: &'s G,
+    go: &'s OnceLock<bool>,
     listed: &'s [Instrument],
     workers: u16,
     came: Came,
@@ -49,20 +47,15 @@ where
     if workers == 0 || !are_fit(listed) {
         return Err(Memory);
     }
-    let (_a, _b, _s, receiver) = handed_over(rt, alloc, came)?;
-    let go = OnceLock::new();
+    let (_a, _b, _s, receiver) = handed_over(means.rt, means.alloc, came)?;
+    let site = Site { means, scope, go };
     let mut board = None;
     let CrewOutcome {
         receiver: _receiver,
         standing,
         written,
     } = run_crew(
-        rt,
-        scope,
-        &go,
-        starts,
-        alloc,
-        gate,
+        &site,
         RunPlan {
             instruments: listed,
             window: 4,
@@ -74,7 +67,7 @@ where
         &mut kept,
     );
     if let Some(publisher) = board {
-        publisher.end(rt);
+        publisher.end(means.rt);
     }
     Ok(InThreads {
         standing,
@@ -82,6 +75,38 @@ where
         written,
         go: go.get().copied(),
     })
+}
+
+// The scope of such a run.
+fn run_by<R, S, G, A>(
+    means: &Means<'_, R, S, G, A>,
+    plain: Global,
+    listed: &[Instrument],
+    workers: u16,
+    came: Came,
+    fail_at: u64,
+) -> Result<InThreads, Memory>
+where
+    R: Threads + Wait + Sync,
+    S: Starts + Sync,
+    G: Gate + Sync,
+    A: Allocator + Copy + Send + Sync,
+{
+    let told = OnceLock::new();
+    let go = &told;
+    thread::scope(
+        thread::scope_env(),
+        means.rt,
+        move |scope| run_in(
+            means,
+            scope,
+            go,
+            listed,
+            workers,
+            came,
+            slow_writer(plain, fail_at),
+        ),
+    )
 }
 
 /// Runs a crew of so many workers in threads, with this allocator, over what came; the write of this number fails, or none with 0.
@@ -102,19 +127,11 @@ where
     G: Gate + Sync,
     A: Allocator + Copy + Send + Sync,
 {
-    thread::scope(
-        thread::scope_env(),
+    let means = Means {
         rt,
-        move |scope| run_in(
-            rt,
-            scope,
-            starts,
-            alloc,
-            gate,
-            listed,
-            workers,
-            came,
-            slow_writer(plain, fail_at),
-        ),
-    )
+        starts,
+        gate,
+        alloc,
+    };
+    run_by(&means, plain, listed, workers, came, fail_at)
 }

@@ -8,10 +8,11 @@ use crate::collector::Collecting;
 use crate::crew::{AnswersOrders, Post};
 use crate::gate::Open;
 use crate::order::Order;
+use crate::share::Share;
 use crate::stop::Stop;
 use crate::tests::channel::{Came, handed_over};
 use crate::tests::writer::slow_writer;
-use crate::worker::work;
+use crate::worker::{WorkerEnds, work};
 use mdp_arbiter::{Arbiter, Standing, Start};
 use mdp_lanes::{Lane, LaneReceiver, LaneSender};
 use mdp_reports::Collector;
@@ -51,24 +52,23 @@ fn post_of<'s, E, R: Threads + Wait + Sync>(
     rt: &'s R,
     scope: &'s Scope<'s, E>,
     alloc: Global,
-    listed: &'s [Instrument],
-    workers: u16,
-    number: u16,
+    share: Share<'s>,
     lane: Fresh,
 ) -> Result<Post<'s, Global>, Memory>
-    requires fit { AreFit listed.now }
-    requires some { 1 ≤ workers }
+    requires fit { AreFit share.listed.now }
+    requires some { 1 ≤ share.workers }
 {
     let Fresh { orders } = lane;
     let (to_post, answers) = Lane::new(alloc, 8)?;
-    let promise = AnswersOrders {
-        listed: Snapshot::of(&listed),
-        workers,
-        number,
-        orders: Snapshot::of(&orders),
-        answers: Snapshot::of(&to_post),
+    let ends = WorkerEnds {
+        orders,
+        answers: to_post,
     };
-    let outcome = work(rt, &Open, alloc, listed, workers, number, orders, to_post);
+    let promise = AnswersOrders {
+        share: Snapshot::of(&share),
+        ends: Snapshot::of(&ends),
+    };
+    let outcome = work(rt, &Open, alloc, share, ends);
     match scope.spawn_with(promise, move || outcome) {
         Ok(handle) => Ok(Post { answers, handle }),
         Err(_) => Err(Memory),
@@ -90,7 +90,12 @@ fn posts_of<'s, E, R: Threads + Wait + Sync>(
     let mut posts = Vec::new(alloc);
     let mut number = 0u16;
     for lane in lanes {
-        posts.push(post_of(rt, scope, alloc, listed, workers, number, lane)?)?;
+        let share = Share {
+            listed,
+            workers,
+            number,
+        };
+        posts.push(post_of(rt, scope, alloc, share, lane)?)?;
         number = number.saturating_add(1);
     }
     Ok(posts)

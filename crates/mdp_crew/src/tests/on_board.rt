@@ -5,7 +5,7 @@ use crate::running::run_crew;
 use crate::starts::Always;
 use crate::tests::channel::{Came, handed_over};
 use crate::tests::writer::slow_writer;
-use crate::{CrewOutcome, RunPlan};
+use crate::{CrewOutcome, Means, RunPlan, Site};
 use mdp_arbiter::Start;
 use mdp_lanes::{Board, Row};
 use mdp_quotes::Total;
@@ -85,9 +85,9 @@ pub struct Shown {
 
 // All that happens inside the scope.
 fn run_in<'s, E, R, A>(
-    rt: &'s R,
+    means: &'s Means<'s, R, Always, Open, A>,
     scope: &'s Scope<'s, E>,
-    alloc: A,
+    go: &'s OnceLock<bool>,
     plain: Global,
     listed: &'s [Instrument],
     workers: u16,
@@ -101,25 +101,20 @@ where
     if workers == 0 || !are_fit(listed) {
         return Err(Memory);
     }
-    let (_a, _b, _s, receiver) = handed_over(rt, alloc, Came::Channel)?;
-    let Ok((publisher, mut readers)) = Board::new(alloc, rt, 3, 1) else {
+    let (_a, _b, _s, receiver) = handed_over(means.rt, means.alloc, Came::Channel)?;
+    let Ok((publisher, mut readers)) = Board::new(means.alloc, means.rt, 3, 1) else {
         return Err(Memory);
     };
     let reader = readers.pop();
     let mut board = Some(publisher);
     let mut kept = slow_writer(plain, fail_at);
-    let go = OnceLock::new();
+    let site = Site { means, scope, go };
     let CrewOutcome {
         receiver: _receiver,
         standing,
         written: _written,
     } = run_crew(
-        rt,
-        scope,
-        &go,
-        &Always,
-        alloc,
-        &Open,
+        &site,
         RunPlan {
             instruments: listed,
             window: 4,
@@ -136,7 +131,7 @@ where
         None => None,
     };
     if let Some(publisher) = board {
-        publisher.end(rt);
+        publisher.end(means.rt);
     }
     Ok(Shown {
         is_ok: standing.is_ok(),
@@ -144,6 +139,27 @@ where
         length,
         rows,
     })
+}
+
+// The scope of such a run.
+fn run_by<R, A>(
+    means: &Means<'_, R, Always, Open, A>,
+    plain: Global,
+    listed: &[Instrument],
+    workers: u16,
+    fail_at: u64,
+) -> Result<Shown, Memory>
+where
+    R: Threads + Wait + Sync,
+    A: Allocator + Copy + Send + Sync,
+{
+    let told = OnceLock::new();
+    let go = &told;
+    thread::scope(
+        thread::scope_env(),
+        means.rt,
+        move |scope| run_in(means, scope, go, plain, listed, workers, fail_at),
+    )
 }
 
 /// Runs a crew of so many workers in threads over the events of the worked text, with this allocator and a board of its own; the write of
@@ -160,9 +176,11 @@ where
     R: Threads + Wait + Sync,
     A: Allocator + Copy + Send + Sync,
 {
-    thread::scope(
-        thread::scope_env(),
+    let means = Means {
         rt,
-        move |scope| run_in(rt, scope, alloc, plain, listed, workers, fail_at),
-    )
+        starts: &Always,
+        gate: &Open,
+        alloc,
+    };
+    run_by(&means, plain, listed, workers, fail_at)
 }

@@ -1,7 +1,8 @@
 use Rattle.std.proofs.Common.{◌+◌, length, length-drop, arith, ap, ◌∙◌}
 use Rattle.std.proofs.lemmas.List.{take_rest}
 use Rattle.mdp_capture.specs.Line.{line_of}
-use Rattle.mdp_capture.proofs.Parts.{says_more, has_more, depths_more}
+use Rattle.mdp_capture.proofs.Splits.{free_of}
+use Rattle.mdp_capture.proofs.Parts.{depths_more, depths_none, has_more, none_newest, says_more, says_none}
 use Rattle.mdp_capture.proofs.part.read_part.Goals as goal
 
 pub loop-end-preserved : goal.loop-end-preserved
@@ -17,3 +18,17 @@ loop-end-preserved g c =
       known = rw c.in_ok-push.ensures.items (has_more read line c.without_carriage_return-text.result.now brought);
       short = omega (arith, ap length (take_rest rest (k + 1)), length-drop (k + 1) rest, c.loop-end.invariant.short);
     }
+
+pub loop-end-init : goal.loop-end-init
+loop-end-init g c =
+    let read = c.new-lines.result.items in
+    let none = c.new-lines.ensures.items in
+    record {
+      says = says_none c.args.text.now read none;
+      depths = depths_none read none;
+      known = λ bytes is. absurd (none_newest read bytes none is);
+      short = omega arith;
+    }
+
+pub returns-clause-unfinished : goal.returns-clause-unfinished
+returns-clause-unfinished g c = free_of 10 c.loop-end.rest.now c.in_default.ensures

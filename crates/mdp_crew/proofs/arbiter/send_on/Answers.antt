@@ -12,7 +12,7 @@ returns-clause-sends g c =
 
 pub returns-clause-stops : goal.returns-clause-stops
 returns-clause-stops g c =
-    some_stops (map event_of c.args.events.items) c.args.senders.now c.send_steps.new.senders c.args.arbiter.now c.send_steps.result c.send_steps.ensures.stays
+    some_stops (map event_of c.args.events.items) c.args.senders.now c.send_steps.new.senders c.args.arbiter.now c.feed_all.new.arbiter c.send_steps.result c.send_steps.ensures.stays
 
 -- they make no move possible
 pub returns-then-is_empty-clause-sends : goal.returns-then-is_empty-clause-sends

@@ -8,5 +8,5 @@ returns-clause-sends g c =
 
 pub returns-clause-stops : goal.returns-clause-stops
 returns-clause-stops g c =
-    batch_stops c.args.receiver.now c.take-batch.new.self c.take-batch.result c.args.senders.now c.send_on.new.senders c.args.arbiter.now c.send_on.result
+    batch_stops c.args.receiver.now c.take-batch.new.self c.take-batch.result c.args.senders.now c.send_on.new.senders c.args.arbiter.now c.send_on.new.arbiter c.send_on.result
     c.take-batch.ensures c.send_on.ensures.stops

@@ -11,10 +11,12 @@ use Rattle.mdp_crew.specs.Batches.{events_taken}
 use Rattle.mdp_crew.specs.Collecting.{showing}
 use Rattle.mdp_crew.specs.Crew.{IsHired}
 use Rattle.mdp_crew.specs.Orders.{and_sent, orders_of}
+use Rattle.mdp_crew.specs.Outlets.{out}
 use Rattle.mdp_crew.specs.Plan.{channel_in}
 use Rattle.mdp_crew.specs.Running.{HasShown}
 use Rattle.mdp_crew.specs.Stops.{FailsByStop}
 use Rattle.mdp_crew.proofs.Ending.{fails_alike, range_of}
+use Rattle.mdp_crew.proofs.Joined.{sent_there}
 use Rattle.mdp_crew.proofs.Settling.{ended_took, hired_still}
 use Rattle.mdp_desks.proofs.Hearing.{ids_differ}
 use Rattle.mdp_crew.proofs.Together.{met}
@@ -23,7 +25,7 @@ use Rattle.mdp_crew.proofs.running.run_ready.Goals as goal
 pub let_all_go-requires : goal.let_all_go-requires
 let_all_go-requires g c =
     let ready = c.args.ready in
-    let sent = c.join_arbiter-receiver.ensures c.args.plan c.args.receiver ready.senders.items c.begin_arbiter-arbitrating.ensures in
+    let sent = sent_there (λ h. h.promise.plan.value) (λ h. h.promise.receiver.value) (λ h. h.promise.senders.value.items) c.begin_arbiter-arbitrating.result c.args.plan c.args.receiver c.args.ready.senders.items c.join-receiver.result c.begin_arbiter-arbitrating.ensures c.join-receiver.ensures in
     let old = showing ready.collecting (g.W.CountedWrite.taken c.args.writer.now) c.args.board.now in
     let new = showing c.collect-collected.new.self (g.W.CountedWrite.taken c.collect-collected.new.writer) c.collect-collected.new.board in
     let rows = ended_took old new c.collect-collected.result c.collect-collected.ensures.ends in
@@ -32,10 +34,10 @@ let_all_go-requires g c =
     (hired_still (orders_of sent.batches) ready.senders.items old.posts rows.0 c.requires.ready.crew.hired))
 
 pub returns-clause-takes : goal.returns-clause-takes
-returns-clause-takes g c = (c.join_arbiter-receiver.ensures c.args.plan c.args.receiver c.args.ready.senders.items c.begin_arbiter-arbitrating.ensures).takes
+returns-clause-takes g c = (sent_there (λ h. h.promise.plan.value) (λ h. h.promise.receiver.value) (λ h. h.promise.senders.value.items) c.begin_arbiter-arbitrating.result c.args.plan c.args.receiver c.args.ready.senders.items c.join-receiver.result c.begin_arbiter-arbitrating.ensures c.join-receiver.ensures).takes
 
 pub returns-clause-ends : goal.returns-clause-ends
-returns-clause-ends g c = (c.join_arbiter-receiver.ensures c.args.plan c.args.receiver c.args.ready.senders.items c.begin_arbiter-arbitrating.ensures).ends
+returns-clause-ends g c = (sent_there (λ h. h.promise.plan.value) (λ h. h.promise.receiver.value) (λ h. h.promise.senders.value.items) c.begin_arbiter-arbitrating.result c.args.plan c.args.receiver c.args.ready.senders.items c.join-receiver.result c.begin_arbiter-arbitrating.ensures c.join-receiver.ensures).ends
 
 pub returns-clause-shows : goal.returns-clause-shows
 returns-clause-shows g c =
@@ -44,9 +46,9 @@ returns-clause-shows g c =
     let is = c.requires.ready in
     let old = showing ready.collecting (g.W.CountedWrite.taken c.args.writer.now) c.args.board.now in
     let new = showing c.collect-collected.new.self (g.W.CountedWrite.taken c.collect-collected.new.writer) c.collect-collected.new.board in
-    let sent = c.join_arbiter-receiver.ensures c.args.plan c.args.receiver ready.senders.items c.begin_arbiter-arbitrating.ensures in
-    let outcome = c.join_arbiter-receiver.result in
-    subst (λ (o : Result Standing Stop). HasShown (channel_in c.args.plan) (events_taken outcome.receiver.taken) old.taken new.taken old.board new.board o) (sym c.outcome.ensures)
+    let sent = sent_there (λ h. h.promise.plan.value) (λ h. h.promise.receiver.value) (λ h. h.promise.senders.value.items) c.begin_arbiter-arbitrating.result c.args.plan c.args.receiver c.args.ready.senders.items c.join-receiver.result c.begin_arbiter-arbitrating.ensures c.join-receiver.ensures in
+    let outcome = c.join-receiver.result in
+    subst (λ (o : Result Standing Stop). HasShown (channel_in c.args.plan) (events_taken outcome.receiver.taken) (out old.taken old.board) (out new.taken new.board) o) (sym c.outcome.ensures)
     (met (channel_in c.args.plan) c.args.plan.workers ready.senders.items old new c.args.receiver outcome c.collect-collected.result c.requires.some (ids_differ listed c.requires.lawful.fit.ids_differ) is.crew is.collector_is sent c.collect-collected.ensures.ends c.let_all_go.ensures)
 
 pub returns-clause-failed : goal.returns-clause-failed
@@ -56,5 +58,5 @@ returns-clause-failed g c =
 
 pub returns-clause-range : goal.returns-clause-range
 returns-clause-range g c =
-    let sent = c.join_arbiter-receiver.ensures c.args.plan c.args.receiver c.args.ready.senders.items c.begin_arbiter-arbitrating.ensures in
-    subst (λ (o : Result Standing Stop). IfOk o (λ (standing : Standing). IsNextNumber standing.next)) (sym c.outcome.ensures) (range_of c.collect-collected.result c.join_arbiter-receiver.result.standing sent.range)
+    let sent = sent_there (λ h. h.promise.plan.value) (λ h. h.promise.receiver.value) (λ h. h.promise.senders.value.items) c.begin_arbiter-arbitrating.result c.args.plan c.args.receiver c.args.ready.senders.items c.join-receiver.result c.begin_arbiter-arbitrating.ensures c.join-receiver.ensures in
+    subst (λ (o : Result Standing Stop). IfOk o (λ (standing : Standing). IsNextNumber standing.next)) (sym c.outcome.ensures) (range_of c.collect-collected.result c.join-receiver.result.standing sent.range)

@@ -17,7 +17,7 @@ loop-n-preserved g c =
     let clear = subst (λ (ms : List Bool). AreClear c.loop-n.from n ms) c.requires first.before in
     record {
       inside = omega (arith, less);
-      text = lines_more c.args.packet c.args.message ds c.loop-n.from n _ c.loop-n.out.items c.put.new.out.items _ first.behind less clear c.index-desks-n.is c.in_ok-put.ensures.ok c.loop-n.invariant.text;
+      text = lines_more c.args.end ds c.loop-n.from n _ c.loop-n.out.items c.put.new.out.items _ first.behind less clear c.index-desks-n.is c.in_ok-put.ensures.ok c.loop-n.invariant.text;
       front = subst (λ (ys : List ℕ). BeginsWith ys c.args.out.now.items) (sym c.in_ok-put.ensures.ok) (begins_more c.args.out.now.items c.loop-n.out.items _ c.loop-n.invariant.front);
     }
 
@@ -27,7 +27,7 @@ returns-clause-ok g c =
     let long : length c.args.marked.now ≡ length ds = ap length c.requires ∙ simp length-map refl in
     let none = c.in_default.ensures.none in
     let clear = subst (λ (ms : List Bool). AreClear c.loop-n.from (length ds) ms) c.requires (λ i from under. none i from (omega (arith, under, long))) in
-    lines_end c.args.packet c.args.message ds c.loop-n.from c.loop-n.out.items _ c.loop-n.invariant.inside clear c.loop-n.invariant.text
+    lines_end c.args.end ds c.loop-n.from c.loop-n.out.items _ c.loop-n.invariant.inside clear c.loop-n.invariant.text
 
 pub returns-in_err-put-clause-err : goal.returns-in_err-put-clause-err
 returns-in_err-put-clause-err g c =

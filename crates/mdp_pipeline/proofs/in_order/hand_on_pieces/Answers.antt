@@ -6,10 +6,10 @@ use Rattle.mdp_pipeline.proofs.in_order.hand_on_pieces.Goals as goal
 -- the lines are a piece
 pub returns-clause-hands_on : goal.returns-clause-hands_on
 returns-clause-hands_on g c = record {
-  sent = c.args.run.now.engine.held;
+  sent = c.args.run.now.handler.held;
   went = c.in_ok-hand_on.ensures.taken ∙ ap (λ (t : List ℕ). g.W.CountedWrite.taken c.args.writer.now ++ t) c.lines-2.ensures;
   stands = c.clear_lines.ensures.stands;
-  channel = ap (λ (v : View). v.arbiter.channel) c.clear_lines.ensures.drained;
+  channel = ap (λ (v : View). v.arbiter.channel) c.clear_lines.ensures.cleared;
   refusals = refl;
 }
 

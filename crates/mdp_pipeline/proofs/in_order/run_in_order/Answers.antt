@@ -13,7 +13,7 @@ loop-feed-init g c =
     let run = c.in-Ok.run' in
     let start = g.W.CountedWrite.taken c.args.writer.now in
     record {
-      taken = taken_none (channel_in c.args.plan) (records_in c.args.feeds) start run.engine run.refusals c.in-Ok.ensures.run;
+      taken = taken_none (channel_in c.args.plan) (records_in c.args.feeds) start run c.in-Ok.ensures.run;
       counts = counted_none start;
       failed = refl;
     }
@@ -47,9 +47,9 @@ returns-clause-text g c =
     let taken = g.W.CountedWrite.taken c.loop-feed.writer in
     let run = c.loop-feed.run in
     let here = c.loop-feed.feeds in
-    let writes = taken_all (channel_in c.args.plan) (records_in c.args.feeds) start taken run.engine run.refusals (records_in here) c.in_default-next_by_line.ensures c.loop-feed.invariant.taken in
+    let writes = taken_all (channel_in c.args.plan) (records_in c.args.feeds) start taken run (records_in here) c.in_default-next_by_line.ensures c.loop-feed.invariant.taken in
     ended_by_line (channel_in c.args.plan) (records_in c.args.feeds) start (g.W.CountedWrite.taken c.finish.new.writer) c.finish.result
-    (run_printed (channel_in c.args.plan) (in_order (records_in c.args.feeds)) start taken (g.W.CountedWrite.taken c.finish.new.writer) run.engine run.refusals c.finish.result c.finish.ensures.text writes)
+    (run_printed (channel_in c.args.plan) (in_order (records_in c.args.feeds)) start taken (g.W.CountedWrite.taken c.finish.new.writer) run c.finish.result c.finish.ensures.text writes)
 
 pub returns-clause-written : goal.returns-clause-written
 returns-clause-written g c =
@@ -72,7 +72,7 @@ returns-in_default-take-clause-begins g c =
     let here = c.loop-feed.feeds in
     begins_by_line (channel_in c.args.plan) (records_in c.args.feeds) (g.W.CountedWrite.taken c.args.writer.now) (g.W.CountedWrite.taken c.loop-feed.writer)
     (taken_begins (channel_in c.args.plan) (records_in c.args.feeds) (g.W.CountedWrite.taken c.args.writer.now) (g.W.CountedWrite.taken c.loop-feed.writer)
-    run.engine run.refusals (records_in here) c.loop-feed.invariant.taken)
+    run (records_in here) c.loop-feed.invariant.taken)
 
 -- a write of a piece failed
 pub returns-in_err-hand_on_pieces-clause-begins : goal.returns-in_err-hand_on_pieces-clause-begins
@@ -93,6 +93,6 @@ returns-clause-begins g c =
     let taken = g.W.CountedWrite.taken c.loop-feed.writer in
     let run = c.loop-feed.run in
     let here = c.loop-feed.feeds in
-    let writes = taken_all (channel_in c.args.plan) (records_in c.args.feeds) start taken run.engine run.refusals (records_in here) c.in_default-next_by_line.ensures c.loop-feed.invariant.taken in
+    let writes = taken_all (channel_in c.args.plan) (records_in c.args.feeds) start taken run (records_in here) c.in_default-next_by_line.ensures c.loop-feed.invariant.taken in
     failed_by_line (channel_in c.args.plan) (records_in c.args.feeds) start (g.W.CountedWrite.taken c.finish.new.writer) c.finish.result
-    (run_begins (channel_in c.args.plan) (in_order (records_in c.args.feeds)) start taken (g.W.CountedWrite.taken c.finish.new.writer) run.engine run.refusals c.finish.result c.finish.ensures.begins writes)
+    (run_begins (channel_in c.args.plan) (in_order (records_in c.args.feeds)) start taken (g.W.CountedWrite.taken c.finish.new.writer) run c.finish.result c.finish.ensures.begins writes)

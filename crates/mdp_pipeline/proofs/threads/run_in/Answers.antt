@@ -1,7 +1,7 @@
 use Rattle.mdp_templates.specs.declared.feed.Feed.TheVariants as Feed
 use Rattle.mdp_crew.specs.Plan.{channel_in}
 use Rattle.mdp_pipeline.specs.Merge.{records_in}
-use Rattle.mdp_pipeline.proofs.Joining.{begins_nothing, map_err, map_ok, none_failed, read_for}
+use Rattle.mdp_pipeline.proofs.Joining.{begins_nothing, map_err, map_ok, none_failed, read_for, read_there}
 use Rattle.mdp_pipeline.proofs.Written.{counted_none}
 use Rattle.mdp_pipeline.proofs.threads.run_in.Goals as goal
 
@@ -11,18 +11,18 @@ settle_and_finish-requires-clause-sound g c =
 
 pub settle_and_finish-requires-clause-a : goal.settle_and_finish-requires-clause-a
 settle_and_finish-requires-clause-a g c =
-    read_for c.in-Ok.receiver c.run_crew-crew.result.receiver Feed.A c.args.feeds.a.now c.in-Ok.to_a c.join_reader.result
-    c.run_crew-crew.ensures.takes c.in-Ok.ensures.a (c.join_reader.ensures Feed.A c.args.feeds.a.now c.in-Ok.to_a c.begin_reader-reads_a.ensures)
+    read_for c.in-Ok.receiver c.run_crew-crew.result.receiver Feed.A c.args.feeds.a.now c.in-Ok.to_a c.join.result
+    c.run_crew-crew.ensures.takes c.in-Ok.ensures.a (read_there (λ h. h.promise.feed) (λ h. h.promise.records.value.now) (λ h. h.promise.before.value) c.begin_reader-reads_a.result Feed.A c.args.feeds.a.now c.in-Ok.to_a c.join.result c.begin_reader-reads_a.ensures c.join.ensures)
 
 pub settle_and_finish-requires-clause-b : goal.settle_and_finish-requires-clause-b
 settle_and_finish-requires-clause-b g c =
-    read_for c.in-Ok.receiver c.run_crew-crew.result.receiver Feed.B c.args.feeds.b.now c.in-Ok.to_b c.join_reader-2.result
-    c.run_crew-crew.ensures.takes c.in-Ok.ensures.b (c.join_reader-2.ensures Feed.B c.args.feeds.b.now c.in-Ok.to_b c.begin_reader-reads_b.ensures)
+    read_for c.in-Ok.receiver c.run_crew-crew.result.receiver Feed.B c.args.feeds.b.now c.in-Ok.to_b c.join-2.result
+    c.run_crew-crew.ensures.takes c.in-Ok.ensures.b (read_there (λ h. h.promise.feed) (λ h. h.promise.records.value.now) (λ h. h.promise.before.value) c.begin_reader-reads_b.result Feed.B c.args.feeds.b.now c.in-Ok.to_b c.join-2.result c.begin_reader-reads_b.ensures c.join-2.ensures)
 
 pub settle_and_finish-requires-clause-s : goal.settle_and_finish-requires-clause-s
 settle_and_finish-requires-clause-s g c =
-    read_for c.in-Ok.receiver c.run_crew-crew.result.receiver Feed.S c.args.feeds.s.now c.in-Ok.to_s c.join_reader-3.result
-    c.run_crew-crew.ensures.takes c.in-Ok.ensures.s (c.join_reader-3.ensures Feed.S c.args.feeds.s.now c.in-Ok.to_s c.begin_reader-reads_s.ensures)
+    read_for c.in-Ok.receiver c.run_crew-crew.result.receiver Feed.S c.args.feeds.s.now c.in-Ok.to_s c.join-3.result
+    c.run_crew-crew.ensures.takes c.in-Ok.ensures.s (read_there (λ h. h.promise.feed) (λ h. h.promise.records.value.now) (λ h. h.promise.before.value) c.begin_reader-reads_s.result Feed.S c.args.feeds.s.now c.in-Ok.to_s c.join-3.result c.begin_reader-reads_s.ensures c.join-3.ensures)
 
 -- nothing was begun
 pub returns-in_default-clause-ends : goal.returns-in_default-clause-ends

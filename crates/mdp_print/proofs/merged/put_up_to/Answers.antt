@@ -1,5 +1,5 @@
 use Rattle.std.proofs.Common.{rules, arith, ◌≤◌, ◌+◌, ◌-◌, ◌<◌, ◌++◌, refl, ap, ◌∙◌, sym, take, drop, length, length-append, append_assoc, vec_len, vec_capacity}
-use Rattle.mdp_text.specs.Levels.{quote_text, levels_text}
+use Rattle.mdp_books.specs.Levels.{quote_text, levels_text}
 use Rattle.mdp_quotes.specs.Merged.{totals_to}
 use Rattle.mdp_print.specs.Pieces.{BeginsWith}
 use Rattle.mdp_print.specs.Texts.{totals_text}

@@ -20,7 +20,7 @@ loop-n-preserved g c =
     let marks = c.args.marks.now in
     let spreads = c.args.spreads.now in
     let kept = c.args.kept.now in
-    let line = marked_line c.args.packet c.args.message c.args.listed.now marks kept in
+    let line = marked_line c.args.end c.args.listed.now marks kept in
     let first = c.in-Some.ensures.some in
     let was = c.loop-n.invariant in
     let long = was.long in
@@ -32,7 +32,7 @@ loop-n-preserved g c =
       due = λ k from.
           let other : k ≢ n = λ same. omega (arith, same, from) in
           ap (λ ms. get_or ms k false) c.put.ensures ∙ get_or-set_other due n k false false other ∙ was.due k (omega (arith, from, first.behind));
-      text = line_more line spreads marks c.args.due.now due c.loop-n.from n _ c.loop-n.out.items c.put_marked.new.out.items _ (marks_silent c.args.packet c.args.message c.args.listed.now marks kept) c.requires.quiet was.due first.behind less first.before c.in_ok-put_marked.ensures was.text;
+      text = line_more line spreads marks c.args.due.now due c.loop-n.from n _ c.loop-n.out.items c.put_marked.new.out.items _ (marks_silent c.args.end c.args.listed.now marks kept) c.requires.quiet was.due first.behind less first.before c.in_ok-put_marked.ensures was.text;
     }
 
 pub returns-clause-text : goal.returns-clause-text
@@ -40,8 +40,8 @@ returns-clause-text g c =
     let marks = c.args.marks.now in
     let spreads = c.args.spreads.now in
     let kept = c.args.kept.now in
-    let line = marked_line c.args.packet c.args.message c.args.listed.now marks kept in
+    let line = marked_line c.args.end c.args.listed.now marks kept in
     let was = c.loop-n.invariant in
     let long = was.long in
-    line_end line spreads marks c.args.due.now c.loop-n.due c.loop-n.from c.loop-n.out.items (c.args.out.now.items ++ flat_map line spreads) (marks_silent c.args.packet c.args.message c.args.listed.now marks kept) c.requires.quiet was.due was.inside
+    line_end line spreads marks c.args.due.now c.loop-n.due c.loop-n.from c.loop-n.out.items (c.args.out.now.items ++ flat_map line spreads) (marks_silent c.args.end c.args.listed.now marks kept) c.requires.quiet was.due was.inside
     (λ i from under. c.in_default.ensures.none i from (omega (arith, under, long, c.requires.many))) was.text

@@ -9,8 +9,8 @@ invariant-loop-n g l = record {
   inside : l.from ≤ length l.spreads;
   long : length l.due ≡ length l.initial.due;
   due : (k : ℕ) → l.from ≤ k → get_or l.due k false ≡ get_or l.initial.due k false;
-  text : l.out.items ++ flat_map (marked_line l.packet l.message l.listed l.marks l.kept) (drop l.from l.spreads)
-      ≡ l.initial.out.items ++ flat_map (marked_line l.packet l.message l.listed l.marks l.kept) l.spreads;
+  text : l.out.items ++ flat_map (marked_line l.end l.listed l.marks l.kept) (drop l.from l.spreads)
+      ≡ l.initial.out.items ++ flat_map (marked_line l.end l.listed l.marks l.kept) l.spreads;
 }
 
 -- each turn goes behind one mark

@@ -6,10 +6,9 @@ use Rattle.mdp_reports.proofs.event_end.report_event_end.Goals as goal
 
 pub returns : goal.returns
 returns g c =
-    let k = c.args.packet in
-    let j = c.args.message in
+    let end = c.args.end in
     let slots = c.args.slots.now in
     c.in_ok-tell_marked.ensures
-    ∙ ap (λ (ds : List Desk). reports_with_all (told_of k j slots ds) c.begin.new.self) c.as_slice.ensures
-    ∙ ap (reports_with_all (told_of k j slots c.args.desks.now)) c.in_ok-begin.ensures.begun
-    ∙ all_behind k j (told_of k j slots c.args.desks.now) [] c.args.out.now
+    ∙ ap (λ (ds : List Desk). reports_with_all (told_of end slots ds) c.begin.new.self) c.as_slice.ensures
+    ∙ ap (reports_with_all (told_of end slots c.args.desks.now)) c.in_ok-begin.ensures.begun
+    ∙ all_behind end (told_of end slots c.args.desks.now) [] c.args.out.now

@@ -26,8 +26,8 @@ loop-n-preserved g c =
     record {
       inside = omega (arith, less);
       told =
-          tell_more c.args.packet c.args.message c.args.slots.now ds n 0 _ _ _ c.loop-n.out c.tell_due.new.out (omega (arith, less, many)) less refl c.index-desks-n.is c.in_ok-tell_due.ensures
-          ∙ ap (λ (t : List Told). reports_with_all t c.loop-n.out) (told_between c.args.packet c.args.message c.args.slots.now ds c.loop-n.from n many first.behind clear)
+          tell_more c.args.end c.args.slots.now ds n 0 _ _ _ c.loop-n.out c.tell_due.new.out (omega (arith, less, many)) less refl c.index-desks-n.is c.in_ok-tell_due.ensures
+          ∙ ap (λ (t : List Told). reports_with_all t c.loop-n.out) (told_between c.args.end c.args.slots.now ds c.loop-n.from n many first.behind clear)
           ∙ c.loop-n.invariant.told;
     }
 
@@ -37,4 +37,4 @@ returns g c =
     let long : length c.args.marked.now ≡ length ds = ap length c.requires.marks ∙ simp length-map refl in
     let none = c.in_default.ensures.none in
     let clear = subst (λ (ms : List Bool). AreClear c.loop-n.from (length ds) ms) c.requires.marks (λ i from under. none i from (omega (arith, under, long))) in
-    ap (λ (t : List Told). reports_with_all t c.loop-n.out) (sym (told_end c.args.packet c.args.message c.args.slots.now ds c.loop-n.from c.requires.many c.loop-n.invariant.inside clear)) ∙ c.loop-n.invariant.told
+    ap (λ (t : List Told). reports_with_all t c.loop-n.out) (sym (told_end c.args.end c.args.slots.now ds c.loop-n.from c.requires.many c.loop-n.invariant.inside clear)) ∙ c.loop-n.invariant.told

@@ -7,7 +7,7 @@ use Rattle.mdp_reports.proofs.event_end.tell_marked.Given as goal
 abbrev pub invariant-loop-n : goal.invariant-loop-n
 invariant-loop-n g l = record {
   inside : l.from ≤ length l.desks;
-  told : reports_with_all (told_of l.packet l.message (drop l.from l.slots) (drop l.from l.desks)) l.out ≡ reports_with_all (told_of l.packet l.message l.slots l.desks) l.initial.out;
+  told : reports_with_all (told_of l.end (drop l.from l.slots) (drop l.from l.desks)) l.out ≡ reports_with_all (told_of l.end l.slots l.desks) l.initial.out;
 }
 
 -- each turn goes behind one mark

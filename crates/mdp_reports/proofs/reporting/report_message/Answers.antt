@@ -24,7 +24,7 @@ returns-in_ok-report_event_end-clause-reports g c =
     let k = c.args.packet in
     let j = c.args.message in
     c.in_ok-report_event_end.ensures
-    ∙ ap (λ (ds : List Desk). c.args.out.now ++ tells k j (told_of k j c.args.slots.now ds) ∷ []) (c.hear.ensures ∙ ap (λ (es : List Entry). desks_through k j 1 es c.args.desks.now) c.entries.ensures.items)
+    ∙ ap (λ (ds : List Desk). c.args.out.now ++ tells (record { packet = k; message = j }) (told_of (record { packet = k; message = j }) c.args.slots.now ds) ∷ []) (c.hear.ensures ∙ ap (λ (es : List Entry). desks_through k j 1 es c.args.desks.now) c.entries.ensures.items)
     ∙ ap (λ (t : List Report). c.args.out.now ++ t) (ap (map (report_by c.args.slots.now)) (ended_moment k j c.args.taken.now.entries c.args.desks.now c.args.taken.now.end (sym c.is_end.ensures ∙ c.if-is_end.true)))
 
 pub returns-else-is_end-clause-desks : goal.returns-else-is_end-clause-desks

@@ -5,7 +5,7 @@ use Rattle.mdp_templates.specs.declared.entry.Kind.TheVariants as kinds
 use Rattle.mdp_templates.specs.declared.quote.Quote.{Quote}
 use Rattle.mdp_templates.specs.Entry.{direct_depth, implied_depth}
 use Rattle.mdp_templates.specs.Layout.{IsLaidOut}
-use Rattle.mdp_templates.specs.Recovery.{quote_in, HasBadSide}
+use Rattle.mdp_templates.specs.Recovery.{full_refresh, HasBadSide}
 use Rattle.mdp_templates.specs.Recovery.IsRefusedSnapshot.{in_sides}
 use Rattle.mdp_templates.specs.Side.{AreShallow}
 use Rattle.mdp_templates.proofs.Messages.{refused_snapshot}
@@ -20,25 +20,25 @@ returns-in_err-root-clause-refused g c =
 
 pub snapshot_of-requires-clause-bids : goal.snapshot_of-requires-clause-bids
 snapshot_of-requires-clause-bids g c =
-    let laid_out = adds_to_none (IsLaidOut quote_in 16 22 (parts c.args.message.now) c.in_ok-root.root.now) c.new-quotes.result.items c.read_layout.new.list.items c.new-quotes.ensures.items c.in_ok-root.ensures.ok in
+    let laid_out = adds_to_none (IsLaidOut full_refresh (parts c.args.message.now) c.in_ok-root.root.now) c.new-quotes.result.items c.read_layout.new.list.items c.new-quotes.ensures.items c.in_ok-root.ensures.ok in
     subst (λ (qs : List (Option Quote)). AreShallow kinds.Bid direct_depth qs) (sym c.deref.ensures.value) (are_shallow kinds.Bid laid_out.texts c.read_layout.new.list.items laid_out.each)
 
 pub snapshot_of-requires-clause-offers : goal.snapshot_of-requires-clause-offers
 snapshot_of-requires-clause-offers g c =
-    let laid_out = adds_to_none (IsLaidOut quote_in 16 22 (parts c.args.message.now) c.in_ok-root.root.now) c.new-quotes.result.items c.read_layout.new.list.items c.new-quotes.ensures.items c.in_ok-root.ensures.ok in
+    let laid_out = adds_to_none (IsLaidOut full_refresh (parts c.args.message.now) c.in_ok-root.root.now) c.new-quotes.result.items c.read_layout.new.list.items c.new-quotes.ensures.items c.in_ok-root.ensures.ok in
     subst (λ (qs : List (Option Quote)). AreShallow kinds.Offer direct_depth qs) (sym c.deref.ensures.value) (are_shallow kinds.Offer laid_out.texts c.read_layout.new.list.items laid_out.each)
 
 pub snapshot_of-requires-clause-implied_bids : goal.snapshot_of-requires-clause-implied_bids
 snapshot_of-requires-clause-implied_bids g c =
-    let laid_out = adds_to_none (IsLaidOut quote_in 16 22 (parts c.args.message.now) c.in_ok-root.root.now) c.new-quotes.result.items c.read_layout.new.list.items c.new-quotes.ensures.items c.in_ok-root.ensures.ok in
+    let laid_out = adds_to_none (IsLaidOut full_refresh (parts c.args.message.now) c.in_ok-root.root.now) c.new-quotes.result.items c.read_layout.new.list.items c.new-quotes.ensures.items c.in_ok-root.ensures.ok in
     subst (λ (qs : List (Option Quote)). AreShallow kinds.ImpliedBid implied_depth qs) (sym c.deref.ensures.value) (are_shallow kinds.ImpliedBid laid_out.texts c.read_layout.new.list.items laid_out.each)
 
 pub snapshot_of-requires-clause-implied_offers : goal.snapshot_of-requires-clause-implied_offers
 snapshot_of-requires-clause-implied_offers g c =
-    let laid_out = adds_to_none (IsLaidOut quote_in 16 22 (parts c.args.message.now) c.in_ok-root.root.now) c.new-quotes.result.items c.read_layout.new.list.items c.new-quotes.ensures.items c.in_ok-root.ensures.ok in
+    let laid_out = adds_to_none (IsLaidOut full_refresh (parts c.args.message.now) c.in_ok-root.root.now) c.new-quotes.result.items c.read_layout.new.list.items c.new-quotes.ensures.items c.in_ok-root.ensures.ok in
     subst (λ (qs : List (Option Quote)). AreShallow kinds.ImpliedOffer implied_depth qs) (sym c.deref.ensures.value) (are_shallow kinds.ImpliedOffer laid_out.texts c.read_layout.new.list.items laid_out.each)
 
 pub returns-clause-refused : goal.returns-clause-refused
 returns-clause-refused g c =
-    let laid_out = adds_to_none (IsLaidOut quote_in 16 22 (parts c.args.message.now) c.in_ok-root.root.now) c.new-quotes.result.items c.read_layout.new.list.items c.new-quotes.ensures.items c.in_ok-root.ensures.ok in
+    let laid_out = adds_to_none (IsLaidOut full_refresh (parts c.args.message.now) c.in_ok-root.root.now) c.new-quotes.result.items c.read_layout.new.list.items c.new-quotes.ensures.items c.in_ok-root.ensures.ok in
     in_sides c.in_ok-root.root.now c.read_layout.new.list.items laid_out (subst (λ (qs : List (Option Quote)). HasBadSide qs) c.deref.ensures.value c.in-None.ensures.none) refl

@@ -6,6 +6,7 @@ use Rattle.std.proofs.lemmas.Result.{err_from_is_err_and}
 use Rattle.mdp_capture.specs.Parsed.{ListsDepth, content_of}
 use Rattle.mdp_capture.specs.Part.{ListDepths, capture_after, contents_of}
 use Rattle.mdp_capture.proofs.Parts.{content_added, content_refused, next_contents}
+use Rattle.mdp_capture.proofs.Drafts.{out_is_fault}
 use Rattle.mdp_capture.proofs.Pieces.{same_fault}
 use Rattle.mdp_capture.proofs.draft.Draft.add_lines.Goals as goal
 
@@ -38,7 +39,7 @@ returns-in_err-add_line-clause-refused g c =
     let x = c.in-Some.line in
     let left = into_iter_items at.line-iterator in
     let further = into_iter_items c.next.new.self in
-    rw (p.1, p.2) (λ rest. same_fault _ _ _ (at.invariant.capture rest ∙ ap (capture_after at.self) (next_contents left further x rest c.in-Some.ensures.steps.0)) (content_refused at.self (content_of x) (contents_of further ++ rest) _ c.in_err-add_line.ensures.refused))
+    rw (p.1, p.2) (λ rest. same_fault _ _ _ (at.invariant.capture rest ∙ ap (capture_after at.self) (next_contents left further x rest c.in-Some.ensures.steps.0)) (content_refused at.self (content_of x) (contents_of further ++ rest) _ (out_is_fault at.self c.add_line.new.self (content_of x) _ c.in_err-add_line.ensures.refused)))
 
 pub returns-clause-capture : goal.returns-clause-capture
 returns-clause-capture g c rest =

@@ -2,7 +2,7 @@ use Rattle.std.proofs.Common.{◌≡◌, ◌≢◌, ◌<◌, ℤ, List, length, 
 use Rattle.std.proofs.lemmas.List.{length-map, get_or-set_same}
 use Rattle.std.specs.Prelude.{slice_get}
 use Rattle.std.specs.List.{AllPairs}
-use Rattle.mdp_arbiter.specs.Channel.{ids_of}
+use Rattle.mdp_templates.specs.Instrument.{ids_of}
 use Rattle.mdp_desks.specs.declared.desk.Desk.{Desk}
 use Rattle.mdp_desks.proofs.Passing.{marks_put, depths_kept}
 use Rattle.mdp_desks.proofs.Hearing.{ids_in, slot_under, one_heard, none_heard, listed_entered}

@@ -1,6 +1,6 @@
 use Rattle.std.proofs.Common.{◌≡◌, List, length, drop, sym, ap, subst, ◌∙◌}
 use Rattle.std.proofs.lemmas.List.{take_at}
-use Rattle.mdp_arbiter.specs.Channel.{ids_of}
+use Rattle.mdp_templates.specs.Instrument.{ids_of}
 use Rattle.mdp_desks.specs.declared.desk.Desk.{Desk}
 use Rattle.mdp_desks.specs.Desks.{rebased_desks}
 use Rattle.mdp_desks.specs.Beside.{listed_in, AreBeside}

@@ -4,7 +4,7 @@ use Rattle.std.specs.Prelude.{List, ℕ, All, get_or}
 use Rattle.std.proofs.lemmas.List.{length-map, length-replicate}
 use Rattle.mdp_desks.specs.Beside.{listed_in}
 use Rattle.mdp_desks.specs.Desks.{desk_at_start}
-use Rattle.mdp_arbiter.specs.Channel.{ids_of}
+use Rattle.mdp_templates.specs.Instrument.{ids_of}
 use Rattle.mdp_desks.proofs.Hearing.{start_listed, ids_differ}
 use Rattle.mdp_engine.specs.Spreads.{IsUnder, spreads_from}
 use Rattle.mdp_engine.specs.Parts.{AreAudited, AreParts, lists_in}

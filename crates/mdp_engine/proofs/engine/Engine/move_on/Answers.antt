@@ -25,8 +25,8 @@ returns-clause-advances g c =
     let kept = ap (λ (v : View). v.arbiter.channel) c.self.view_is ∙ c.loop-step.invariant.channel in
     moves_settled c.args.self.now _ _ c.step.result c.in_default.is so_far kept c.step.ensures.steps c.in_default.ensures.channel refl refl
 
-pub returns-in_err-take_step-clause-err : goal.returns-in_err-take_step-clause-err
-returns-in_err-take_step-clause-err g c =
+pub returns-in_err-take_step-clause-front : goal.returns-in_err-take_step-clause-front
+returns-in_err-take_step-clause-front g c =
     let so_far = subst (λ (v : View). BeginsWith v.held c.args.self.now.held) (sym c.self.view_is) c.loop-step.invariant.front in
-    let front : BeginsWith c.take_step.new.self.held c.args.self.now.held = begins_first c.args.self.now.held _ c.take_step.new.self.held so_far c.in_err-take_step.ensures.err in
+    let front : BeginsWith c.take_step.new.self.held c.args.self.now.held = begins_first c.args.self.now.held _ c.take_step.new.self.held so_far c.in_err-take_step.ensures.front in
     search rules

@@ -1,8 +1,8 @@
 use Rattle.std.proofs.Common.{◌≡◌, ◌++◌, ℕ, List, Some, sym, ap, subst, take}
 use Rattle.mdp_pcap.specs.File.{front_of, Whole, Faulty}
 use Rattle.mdp_pcap.specs.Placing.{block_in}
-use Rattle.mdp_pcap.specs.Reader.{ReaderContent, content_of}
-use Rattle.mdp_pcap.specs.Stepping.{HasTaken}
+use Rattle.mdp_pcap.specs.Block.{frames_of}
+use Rattle.mdp_pcap.specs.Reader.{ReaderContent, Takes, content_of, numbered}
 use Rattle.mdp_pcap.specs.declared.layout.Interface.{Interface}
 use Rattle.mdp_pcap.proofs.Readers.{reads_none, went_in_held, stopped_in_held, halts_after}
 use Rattle.mdp_pcap.proofs.Fronts.{whole_more}
@@ -26,7 +26,7 @@ returns-in-Ok-move_on-clause-stepped g c =
     let dropped : List ℕ → ReaderContent = λ left. record old { held = left } in
     let there = subst (λ (bytes : List ℕ). front_of c.args.self.now.layout c.as_slice.result.now bytes ≡ Whole count (block_in (take count bytes) block)) c.as_slice-2.ensures.value (sym {b = front_of c.args.self.now.layout c.as_slice.result.now c.as_slice-2.result.now} c.in-Whole.ensures.said) in
     let front = subst (λ (interfaces : List Interface). front_of c.args.self.now.layout interfaces held ≡ Whole count (block_in (take count held) block)) c.as_slice.ensures.value there in
-    let taken = subst (λ (bytes : List ℕ). HasTaken g.S.TakesFrames.holds c.args.self.now.number (block_in (take count bytes) block) c.args.sink.now c.hand_on.new.sink) c.deref.ensures.value c.in_ok-hand_on-in-Whole.ensures.taken in
+    let taken = subst (λ (bytes : List ℕ). Takes g.S.TakesFrames.holds c.args.sink.now c.hand_on.new.sink (numbered c.args.self.now.number (frames_of (block_in (take count bytes) block)))) c.deref.ensures.value c.in_ok-hand_on-in-Whole.ensures.taken in
     went_in_held g.S.TakesFrames.holds old (dropped c.drop_front.new.bytes.items) (content_of c.move_on.new.self) c.args.rest.now c.args.sink.now c.hand_on.new.sink count block
     (ap dropped c.drop_front.ensures) c.requires front c.in-Ok-move_on.ensures taken
 
@@ -47,6 +47,6 @@ returns-in_default-move_on-clause-halted g c =
     let rest = c.args.rest.now in
     let there = subst (λ (bytes : List ℕ). front_of layout c.as_slice.result.now bytes ≡ Whole count (block_in (take count bytes) block)) c.as_slice-2.ensures.value (sym {b = front_of c.args.self.now.layout c.as_slice.result.now c.as_slice-2.result.now} c.in-Whole.ensures.said) in
     let front = subst (λ (is : List Interface). front_of layout is held ≡ Whole count (block_in (take count held) block)) c.as_slice.ensures.value there in
-    let taken = subst (λ (bytes : List ℕ). HasTaken holds c.args.self.now.number (block_in (take count bytes) block) c.args.sink.now c.hand_on.new.sink) c.deref.ensures.value c.in_ok-hand_on-in-Whole.ensures.taken in
+    let taken = subst (λ (bytes : List ℕ). Takes holds c.args.sink.now c.hand_on.new.sink (numbered c.args.self.now.number (frames_of (block_in (take count bytes) block)))) c.deref.ensures.value c.in_ok-hand_on-in-Whole.ensures.taken in
     halts_after holds (content_of c.args.self.now) (held ++ rest) c.args.sink.now c.hand_on.new.sink count (block_in (take count held) block)
     (whole_more layout interfaces held rest count (block_in (take count held) block) front) taken

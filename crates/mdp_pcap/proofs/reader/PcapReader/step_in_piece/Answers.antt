@@ -1,7 +1,7 @@
 use Rattle.std.proofs.Common.{◌≡◌, ◌++◌, ℕ, List, sym, subst, take}
 use Rattle.mdp_pcap.specs.File.{front_of, Whole}
 use Rattle.mdp_pcap.specs.Placing.{block_in}
-use Rattle.mdp_pcap.specs.Reader.{content_of, IsReadSome}
+use Rattle.mdp_pcap.specs.Reader.{Takes, content_of, IsReadSome}
 use Rattle.mdp_pcap.specs.declared.layout.Interface.{Interface}
 use Rattle.mdp_pcap.proofs.Readers.{reads_none, went_in_piece, halts_after}
 use Rattle.mdp_pcap.proofs.reader.PcapReader.step_in_piece.Goals as goal
@@ -30,4 +30,4 @@ returns-in_default-move_on-clause-halted g c =
     let block = c.in-Whole.block in
     let front = subst (λ (interfaces : List Interface). front_of c.args.self.now.layout interfaces rest ≡ Whole count (block_in (take count rest) block)) c.as_slice.ensures.value (sym {b = front_of c.args.self.now.layout c.as_slice.result.now rest} c.in-Whole.ensures.said) in
     let halted = halts_after holds old rest c.args.sink.now c.hand_on.new.sink count (block_in (take count rest) block) front c.in_ok-hand_on-in-Whole.ensures.taken in
-    subst (λ (held : List ℕ). IsReadSome holds old (held ++ rest) c.args.sink.now c.hand_on.new.sink) (sym c.requires.empty) halted
+    subst (λ (held : List ℕ). IsReadSome (Takes holds c.args.sink.now c.hand_on.new.sink) old (held ++ rest)) (sym c.requires.empty) halted

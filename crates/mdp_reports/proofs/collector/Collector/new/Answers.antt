@@ -24,13 +24,11 @@ invariant_of-result g c =
     let are = c.in_ok-spreads.ensures ∙ ap (λ ids. spreads_from 0 ids listed) c.in_ok-slots.ensures in
     let count : c.len.result ≡ length spreads = omega (arith, c.len.ensures) in
     let due : length c.in_ok-due.due ≡ c.len.result = ap length c.in_ok-due.ensures ∙ simp length-replicate refl in
-    let marks : length c.in_ok-marks.marks ≡ length listed = ap length c.in_ok-marks.ensures ∙ simp length-replicate refl in
-    record {
-      audited = record {
+    let marks : length c.in_ok-marks.marks ≡ length listed = ap length c.in_ok-marks.ensures ∙ simp length-replicate refl in (
+      record {
         spreads_are = record { differ = ids_differ listed c.requires; spreads_are = are };
         parts_are = subst (λ (ss : List Spread). AreParts (length listed) (length ss) ss (lists_in c.in_ok-parts.parts.items)) c.deref.ensures.value c.in_ok-parts.ensures;
         many = due ∙ count;
-      };
-      kept_long = ap length c.in_ok-kept.ensures ∙ simp length-map refl;
-      long = marks;
-    }
+      },
+      record { kept_long = ap length c.in_ok-kept.ensures ∙ simp length-map refl; long = marks },
+    )

@@ -1,6 +1,6 @@
 use Rattle.std.proofs.Common.{◌≤◌, ◌++◌, List, length, map, sym, ap, ◌∙◌, append-nil, arith}
 use Rattle.mdp_desks.specs.Reports.{Report}
-use Rattle.mdp_engine.specs.Rounds.{text_from, rounds_in}
+use Rattle.mdp_reports.specs.Rounds.{text_from, rounds_in}
 use Rattle.mdp_reports.specs.FromAnswers.{told_in_answer}
 use Rattle.mdp_reports.specs.BoardSteps.{steps_in}
 use Rattle.mdp_reports.specs.Taking.{View, first_list, kept_after_rounds, rounds_left}

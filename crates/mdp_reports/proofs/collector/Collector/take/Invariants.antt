@@ -1,5 +1,5 @@
 use Rattle.std.proofs.Common.{◌≡◌, ◌++◌, map}
-use Rattle.mdp_engine.specs.Rounds.{text_from}
+use Rattle.mdp_reports.specs.Rounds.{text_from}
 use Rattle.mdp_reports.specs.FromAnswers.{told_in_answer}
 use Rattle.mdp_reports.specs.BoardSteps.{steps_in}
 use Rattle.mdp_reports.specs.Taking.{rounds_left, kept_after_rounds}

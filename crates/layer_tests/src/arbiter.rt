@@ -1,0 +1,397 @@
+//! Tables of calls over every window, and each allocation refused in turn. One security is listed.
+
+ghost use Rattle.std.specs.Prelude.{◌≡◌, IfOk, length};
+ghost use Rattle.std.specs.FinMap as map;
+ghost use Rattle.mdp_templates.specs.Instrument.{AreFit};
+
+use arrayvec::{ArrayString, ArrayVec};
+use mdp_arbiter::{Arbiter, Start, Step};
+use mdp_templates::{Instrument, InstrumentKind, Name, Packet, Snapshot, are_fit};
+use mdp_window::{MapWindow, Put, RingWindow, Window};
+use refusing::Refusing;
+use std::alloc::Global;
+use std::process::Abort;
+use std::test::Fail;
+
+/// The one listed security.
+fn near() -> Result<[Instrument; 1], Fail>
+    ensures { IfOk result AreFit }
+{
+    let mut text = ArrayString::new();
+    if text.try_push_str("NEAR").is_err() {
+        return Err("a long name".into());
+    }
+    let listed = [Instrument {
+        id: 1,
+        name: Name::new(text),
+        kind: InstrumentKind::Outright,
+        depth: 10,
+    }];
+    if !are_fit(&listed) {
+        return Err("unfit".into());
+    }
+    Ok(listed)
+}
+
+/// A packet with as many messages, each without entries.
+fn packet(alloc: Global, number: u32, messages: u8) -> Result<Packet<Global>, Fail> {
+    let mut packet = Packet::new(alloc, number);
+    for _ in 0..messages {
+        if packet.push(&[], true).is_err() {
+            return Err("out of memory".into());
+        }
+    }
+    Ok(packet)
+}
+
+/// A snapshot of an empty book.
+fn snapshot(security: i32, last: u32) -> Snapshot {
+    Snapshot::new(
+        security,
+        last,
+        ArrayVec::new(),
+        ArrayVec::new(),
+        ArrayVec::new(),
+        ArrayVec::new(),
+    )
+}
+
+fn is_kept(answer: Put<Packet<Global>>) -> bool {
+    matches!(answer, Put::Kept)
+}
+
+#[derive(Clone, Copy)]
+enum Call {
+    /// A packet of this number, with as many messages.
+    Packet(u32, u8),
+    /// A snapshot of this security, with the number of the packet that it includes last.
+    Snapshot(i32, u32),
+    Close,
+    Step,
+}
+
+#[derive(Clone, Copy, Debug, PartialEq, Eq)]
+enum Answer {
+    Kept,
+    Back,
+    /// A packet of this number passed, with as many messages.
+    Pass(u32, usize),
+    Jump(u64, u64),
+    Nothing,
+}
+
+/// A call and its answer, and then the number of the packet that passes next, and whether the receiver is lost.
+type Row = (Call, Answer, u64, bool);
+
+fn answer_to<W: Window<Packet<Global>> + Drop>(
+    alloc: Global,
+    arbiter: &mut Arbiter<Global, W>,
+    call: Call,
+) -> Result<Answer, Fail> {
+    Ok(match call {
+        Call::Packet(number, messages) => match arbiter.packet(packet(alloc, number, messages)?) {
+            Put::Kept => Answer::Kept,
+            Put::Back(_) => Answer::Back,
+            Put::Memory(_) => Answer::Nothing,
+        },
+        Call::Snapshot(security, last) => match arbiter.snapshot(snapshot(security, last)) {
+            Some(_) => Answer::Back,
+            None => Answer::Kept,
+        },
+        Call::Close => {
+            arbiter.close();
+            Answer::Nothing
+        }
+        Call::Step => match arbiter.step() {
+            Some(Step::Pass(packet)) => Answer::Pass(packet.number(), packet.len()),
+            Some(Step::Jump { old, new }) => Answer::Jump(old, new),
+            None => Answer::Nothing,
+        },
+    })
+}
+
+/// Makes the calls of a table on a new arbiter over this window.
+fn follow<W: Window<Packet<Global>> + Drop>(
+    rt: &impl Abort,
+    alloc: Global,
+    window: W,
+    start: Start,
+    table: &[Row],
+) -> Result<(), Fail>
+    requires first { (W.view window).first ≡ 1 }
+    requires empty { (W.view window).held ≡ map.empty }
+{
+    let mut arbiter = Arbiter::new(alloc, &near()?, window, start)?;
+    for (call, answer, next, lost) in table.iter() {
+        assert_eq!(rt; answer_to(alloc, &mut arbiter, *call)?, *answer);
+        assert_eq!(rt; arbiter.next(), *next);
+        assert_eq!(rt; arbiter.lost(), *lost);
+    }
+    Ok(())
+}
+
+/// Follows a table over each window, of four places.
+fn follow_over_both(
+    rt: &impl Abort,
+    alloc: Global,
+    start: Start,
+    table: &[Row],
+) -> Result<(), Fail> {
+    follow(rt, alloc, MapWindow::new(alloc, 4), start, table)?;
+    follow(rt, alloc, RingWindow::new(alloc, 4)?, start, table)
+}
+
+#[test]
+fn packets_out_of_order_pass_in_order_and_the_first_copy_counts(
+    rt: HostRuntime,
+) -> Result<(), Fail> {
+    let table: [Row; 8] = [
+        (Call::Packet(2, 1), Answer::Kept, 1, false),
+        (Call::Step, Answer::Nothing, 1, false),
+        (Call::Packet(2, 0), Answer::Back, 1, false),
+        (Call::Packet(1, 3), Answer::Kept, 1, false),
+        (Call::Step, Answer::Pass(1, 3), 2, false),
+        (Call::Step, Answer::Pass(2, 1), 3, false),
+        (Call::Step, Answer::Nothing, 3, false),
+        (Call::Packet(1, 3), Answer::Back, 3, false),
+    ];
+    follow_over_both(&rt, rt.alloc(), Start::FromOne, &table)
+}
+
+#[test]
+fn a_packet_at_the_last_place_gives_none_up(rt: HostRuntime) -> Result<(), Fail> {
+    let table: [Row; 9] = [
+        (Call::Packet(4, 1), Answer::Kept, 1, false),
+        (Call::Step, Answer::Nothing, 1, false),
+        (Call::Packet(3, 1), Answer::Kept, 1, false),
+        (Call::Packet(1, 1), Answer::Kept, 1, false),
+        (Call::Step, Answer::Pass(1, 1), 2, false),
+        (Call::Packet(2, 1), Answer::Kept, 2, false),
+        (Call::Step, Answer::Pass(2, 1), 3, false),
+        (Call::Step, Answer::Pass(3, 1), 4, false),
+        (Call::Step, Answer::Pass(4, 1), 5, false),
+    ];
+    follow_over_both(&rt, rt.alloc(), Start::FromOne, &table)
+}
+
+#[test]
+fn a_packet_past_the_last_place_gives_the_next_up(rt: HostRuntime) -> Result<(), Fail> {
+    let table: [Row; 8] = [
+        (Call::Packet(5, 1), Answer::Kept, 1, true),
+        (Call::Packet(1, 1), Answer::Back, 1, true),
+        (Call::Packet(2, 1), Answer::Kept, 1, true),
+        (Call::Step, Answer::Nothing, 1, true),
+        (Call::Snapshot(1, 1), Answer::Kept, 1, true),
+        (Call::Step, Answer::Jump(1, 2), 2, false),
+        (Call::Step, Answer::Pass(2, 1), 3, false),
+        (Call::Step, Answer::Nothing, 3, false),
+    ];
+    follow_over_both(&rt, rt.alloc(), Start::FromOne, &table)
+}
+
+#[test]
+fn the_largest_numbers_pass(rt: HostRuntime) -> Result<(), Fail> {
+    let table: [Row; 10] = [
+        (Call::Packet(4294967295, 1), Answer::Kept, 1, true),
+        (Call::Packet(4294967291, 1), Answer::Back, 1, true),
+        (Call::Packet(4294967292, 1), Answer::Kept, 1, true),
+        (Call::Snapshot(1, 4294967290), Answer::Kept, 1, true),
+        (Call::Step, Answer::Nothing, 1, true),
+        (Call::Snapshot(1, 4294967294), Answer::Kept, 1, true),
+        (Call::Step, Answer::Jump(1, 4294967295), 4294967295, false),
+        (Call::Step, Answer::Pass(4294967295, 1), 4294967296, false),
+        (Call::Step, Answer::Nothing, 4294967296, false),
+        (Call::Packet(4294967295, 1), Answer::Back, 4294967296, false),
+    ];
+    follow_over_both(&rt, rt.alloc(), Start::FromOne, &table)
+}
+
+#[test]
+fn an_older_snapshot_leaves_the_receiver_lost(rt: HostRuntime) -> Result<(), Fail> {
+    let table: [Row; 10] = [
+        (Call::Packet(2, 0), Answer::Kept, 1, false),
+        (Call::Packet(6, 0), Answer::Kept, 1, true),
+        (Call::Snapshot(2, 9), Answer::Back, 1, true),
+        (Call::Snapshot(1, 1), Answer::Kept, 1, true),
+        (Call::Snapshot(1, 1), Answer::Back, 1, true),
+        (Call::Step, Answer::Nothing, 1, true),
+        (Call::Snapshot(1, 9), Answer::Kept, 1, true),
+        (Call::Step, Answer::Jump(1, 10), 10, false),
+        (Call::Step, Answer::Nothing, 10, false),
+        (Call::Packet(9, 0), Answer::Back, 10, false),
+    ];
+    follow_over_both(&rt, rt.alloc(), Start::FromOne, &table)
+}
+
+#[test]
+fn after_a_close_everything_comes_back(rt: HostRuntime) -> Result<(), Fail> {
+    let table: [Row; 5] = [
+        (Call::Packet(5, 1), Answer::Kept, 1, true),
+        (Call::Close, Answer::Nothing, 1, true),
+        (Call::Snapshot(1, 2), Answer::Back, 1, true),
+        (Call::Packet(1, 1), Answer::Back, 1, true),
+        (Call::Step, Answer::Nothing, 1, true),
+    ];
+    follow_over_both(&rt, rt.alloc(), Start::FromOne, &table)
+}
+
+#[test]
+fn who_joins_takes_no_packet_before_a_jump(rt: HostRuntime) -> Result<(), Fail> {
+    let table: [Row; 8] = [
+        (Call::Packet(1, 1), Answer::Kept, 1, true),
+        (Call::Step, Answer::Nothing, 1, true),
+        (Call::Packet(1, 0), Answer::Back, 1, true),
+        (Call::Snapshot(1, 0), Answer::Kept, 1, true),
+        (Call::Step, Answer::Jump(1, 1), 1, false),
+        (Call::Step, Answer::Pass(1, 1), 2, false),
+        (Call::Packet(3, 1), Answer::Kept, 2, false),
+        (Call::Step, Answer::Nothing, 2, false),
+    ];
+    follow_over_both(&rt, rt.alloc(), Start::Join, &table)
+}
+
+#[test]
+fn who_joins_goes_on_with_the_packets_that_came_before_the_snapshot(
+    rt: HostRuntime,
+) -> Result<(), Fail> {
+    let table: [Row; 8] = [
+        (Call::Packet(4, 1), Answer::Kept, 1, true),
+        (Call::Packet(3, 2), Answer::Kept, 1, true),
+        (Call::Step, Answer::Nothing, 1, true),
+        (Call::Snapshot(1, 2), Answer::Kept, 1, true),
+        (Call::Step, Answer::Jump(1, 3), 3, false),
+        (Call::Step, Answer::Pass(3, 2), 4, false),
+        (Call::Step, Answer::Pass(4, 1), 5, false),
+        (Call::Step, Answer::Nothing, 5, false),
+    ];
+    follow_over_both(&rt, rt.alloc(), Start::Join, &table)
+}
+
+#[test]
+fn who_joins_waits_for_a_snapshot_of_what_is_given_up(rt: HostRuntime) -> Result<(), Fail> {
+    let table: [Row; 9] = [
+        (Call::Packet(9, 1), Answer::Kept, 1, true),
+        (Call::Packet(5, 1), Answer::Back, 1, true),
+        (Call::Snapshot(1, 4), Answer::Kept, 1, true),
+        (Call::Step, Answer::Nothing, 1, true),
+        (Call::Snapshot(1, 9), Answer::Kept, 1, true),
+        (Call::Step, Answer::Jump(1, 10), 10, false),
+        (Call::Packet(14, 1), Answer::Kept, 10, true),
+        (Call::Close, Answer::Nothing, 10, true),
+        (Call::Step, Answer::Nothing, 10, true),
+    ];
+    follow_over_both(&rt, rt.alloc(), Start::Join, &table)
+}
+
+#[test]
+fn a_jump_makes_the_newest_snapshots_the_bases(rt: HostRuntime) -> Result<(), Fail> {
+    let alloc = rt.alloc();
+    let mut arbiter = Arbiter::new(alloc, &near()?, MapWindow::new(alloc, 4), Start::FromOne)?;
+    assert!(rt; is_kept(arbiter.packet(packet(alloc, 5, 1)?)));
+    assert!(rt; arbiter.snapshot(snapshot(1, 2)).is_none());
+    assert!(rt; arbiter.base(0).is_none());
+    assert!(rt; arbiter.step().is_some());
+    assert_eq!(rt; arbiter.base(0).map(Snapshot::last), Some(2));
+    Ok(())
+}
+
+type OverRefusing<'a> = Arbiter<Global, MapWindow<Packet<Global>, &'a Refusing<Global>>>;
+
+/// Takes in packets 2 to 40, each once more where it came back for want of memory, and answers how often that was.
+fn take_in_all(rt: &impl Abort, alloc: Global, arbiter: &mut OverRefusing) -> Result<u32, Fail> {
+    let mut came_back = 0u32;
+    for number in 2..=40u32 {
+        let Put::Memory(back) = arbiter.packet(packet(alloc, number, 1)?) else {
+            continue;
+        };
+        came_back = came_back.saturating_add(1);
+        assert_eq!(rt; back.number(), number);
+        assert_eq!(rt; back.len(), 1);
+        assert_eq!(rt; arbiter.next(), 1);
+        // so far packet 33 came, which is as far ahead of packet 1 as the window has room
+        assert_eq!(rt; arbiter.lost(), number > 33);
+        assert!(rt; arbiter.step().is_none());
+        assert!(rt; is_kept(arbiter.packet(back)));
+    }
+    Ok(came_back)
+}
+
+/// Jumps behind a snapshot that includes packet 8, and passes all packets from there.
+fn recovers(rt: &impl Abort, arbiter: &mut OverRefusing) {
+    assert!(rt; arbiter.lost());
+    assert!(rt; arbiter.snapshot(snapshot(1, 8)).is_none());
+    assert!(rt; matches!(arbiter.step(), Some(Step::Jump { old: 1, new: 9 })));
+    for number in 9..=40u32 {
+        match arbiter.step() {
+            Some(Step::Pass(packet)) => {
+                assert_eq!(rt; packet.number(), number);
+                assert_eq!(rt; packet.len(), 1);
+            }
+            _ => assert!(rt; false),
+        }
+    }
+    assert!(rt; arbiter.step().is_none());
+    assert_eq!(rt; arbiter.next(), 41);
+}
+
+#[test]
+fn a_packet_that_came_back_for_want_of_memory_can_be_handed_in_again(
+    rt: HostRuntime,
+) -> Result<(), Fail> {
+    let alloc = rt.alloc();
+    let mut refused = 0u64;
+    for number in 1..100u64 {
+        let heap = Refusing::new(alloc, number);
+        let mut arbiter = Arbiter::new(alloc, &near()?, MapWindow::new(&heap, 32), Start::FromOne)?;
+        let came_back = take_in_all(&rt, alloc, &mut arbiter)?;
+        recovers(&rt, &mut arbiter);
+        if !heap.has_refused() {
+            assert_eq!(rt; came_back, 0);
+            break;
+        }
+        assert_eq!(rt; came_back, 1);
+        refused = number;
+    }
+    assert!(rt; refused > 1);
+    Ok(())
+}
+
+#[test]
+fn a_packet_that_came_back_for_want_of_memory_gives_no_packet_up(
+    rt: HostRuntime,
+) -> Result<(), Fail> {
+    let alloc = rt.alloc();
+    let heap = Refusing::new(alloc, 1);
+    let mut arbiter = Arbiter::new(alloc, &near()?, MapWindow::new(&heap, 32), Start::FromOne)?;
+    let Put::Memory(far) = arbiter.packet(packet(alloc, 40, 1)?) else {
+        return Err("there was memory".into());
+    };
+    assert!(rt; !arbiter.lost());
+    assert!(rt; is_kept(arbiter.packet(packet(alloc, 1, 1)?)));
+    assert!(rt; matches!(arbiter.step(), Some(Step::Pass(_))));
+    assert_eq!(rt; arbiter.next(), 2);
+    assert!(rt; is_kept(arbiter.packet(far)));
+    assert!(rt; arbiter.lost());
+    Ok(())
+}
+
+#[test]
+fn no_arbiter_is_made_without_its_room(rt: HostRuntime) -> Result<(), Fail> {
+    let alloc = rt.alloc();
+    let mut refused = 0u64;
+    for number in 1..100u64 {
+        let heap = Refusing::new(alloc, number);
+        let window: MapWindow<Packet<&Refusing<Global>>, &Refusing<Global>> = MapWindow::new(
+            &heap, 4,
+        );
+        let made = Arbiter::new(&heap, &near()?, window, Start::FromOne).is_ok();
+        assert_eq!(rt; made, !heap.has_refused());
+        if made {
+            break;
+        }
+        refused = number;
+    }
+    // the places, and two snapshots of each security
+    assert!(rt; refused >= 3);
+    Ok(())
+}

@@ -1,0 +1,215 @@
+//! A handler that datagrams are pushed into, one by one, as an embedder does it. The manual shows this code.
+
+ghost use Rattle.std.specs.Prelude.{IfSome};
+ghost use Rattle.mdp_templates.specs.Instrument.{AreFit};
+
+use mdp_arbiter::{PacketFate, Start};
+use mdp_capture::{Capture, CountingReader, Record, read_capture};
+use mdp_quotes::Total;
+use mdp_receiver::{ChannelState, Handler, SnapshotCounts, Taken};
+use mdp_sbe::Refusal;
+use mdp_templates::{Feed, Memory};
+use refusing::Refusing;
+use std::alloc::Allocator;
+use std::process::Abort;
+use std::test::Fail;
+use worked_runs::{RECOVERY, RECOVERY_TEXT};
+
+/// Pushes what came on a feed into a handler, and hands on the lines that each datagram makes.
+fn push<A: Allocator + Copy>(
+    alloc: A,
+    handler: &mut Handler<A>,
+    feed: Feed,
+    records: &[Record<A>],
+    text: &mut Vec<u8, A>,
+) -> Result<(), Memory> {
+    for record in records {
+        match record.bytes() {
+            Some(bytes) => {
+                let _taken = handler.datagram(alloc, feed, bytes)?;
+            }
+            None => handler.close()?,
+        }
+        text.extend_from_slice(handler.lines())?;
+        handler.clear_lines();
+    }
+    Ok(())
+}
+
+/// Gives the text that a handler makes of a capture, feed by feed.
+fn text_of<A: Allocator + Copy>(alloc: A, capture: &Capture<A>) -> Result<Vec<u8, A>, Memory>
+    requires { AreFit capture.now.instruments }
+{
+    let mut handler = Handler::new(alloc, capture.instruments(), 4, Start::FromOne)?;
+    let mut text = Vec::new(alloc);
+    push(alloc, &mut handler, Feed::A, capture.a(), &mut text)?;
+    push(alloc, &mut handler, Feed::B, capture.b(), &mut text)?;
+    push(alloc, &mut handler, Feed::S, capture.s(), &mut text)?;
+    handler.put_end(&mut text)?;
+    Ok(text)
+}
+
+/// Reads the capture of a recovery, in which packet 1 is lost.
+fn recovery<A: Allocator + Copy>(alloc: A) -> Option<Capture<A>>
+    ensures { IfSome result (λ capture. AreFit capture.instruments) }
+{
+    let mut input = CountingReader::new(RECOVERY);
+    match read_capture(alloc, &mut input) {
+        Ok(capture) => Some(capture),
+        Err(_) => None,
+    }
+}
+
+#[test]
+fn datagrams_that_are_pushed_print_the_text_of_the_run(rt: HostRuntime) -> Result<(), Fail> {
+    let alloc = rt.alloc();
+    let Some(capture) = recovery(alloc) else {
+        return Err("no capture".into());
+    };
+    let text = text_of(alloc, &capture)?;
+    assert_eq!(rt; text.as_slice(), RECOVERY_TEXT);
+    Ok(())
+}
+
+#[test]
+fn each_want_of_memory_is_answered(rt: HostRuntime) -> Result<(), Fail> {
+    let mut refused = 0u64;
+    for number in 1..10000u64 {
+        let heap = Refusing::new(rt.alloc(), number);
+        let Some(capture) = recovery(&heap) else {
+            continue;
+        };
+        let was_made = text_of(&heap, &capture).is_ok();
+        assert_eq!(rt; was_made, !heap.has_refused());
+        if was_made {
+            break;
+        }
+        refused = number;
+    }
+    assert!(rt; refused > 30);
+    Ok(())
+}
+
+/// Tells what became of a record's datagram, and where the channel stands after it.
+fn one<A: Allocator + Copy>(
+    alloc: A,
+    handler: &mut Handler<A>,
+    feed: Feed,
+    record: &Record<A>,
+) -> Result<(Taken, ChannelState), Memory> {
+    let bytes = match record.bytes() {
+        Some(bytes) => bytes,
+        None => &[],
+    };
+    let taken = handler.datagram(alloc, feed, bytes)?;
+    Ok((taken, handler.state()))
+}
+
+/// What becomes of a datagram with so many snapshots that are news, and so many that are older.
+fn snapshots(news: usize, older: usize) -> Taken {
+    Taken::Snapshots(SnapshotCounts {
+        news,
+        older,
+        unlisted: 0,
+        after_close: 0,
+    })
+}
+
+/// The state where packet 1 has not come, and packets up to this one wait.
+fn waits_up_to(highest: u64) -> ChannelState {
+    ChannelState {
+        next: 1,
+        lost: highest >= 5,
+        highest,
+        waiting: highest - 1,
+        stale: if highest >= 5 { Some(0) } else { None },
+    }
+}
+
+/// Checks what becomes of packets 2 to 5, of which the last gives packet 1 up, and of the snapshots that come then.
+fn recovers<A: Allocator + Copy, T: Abort>(
+    rt: &T,
+    alloc: A,
+    handler: &mut Handler<A>,
+    capture: &Capture<A>,
+) -> Result<(), Memory> {
+    let mut highest = 2;
+    for record in capture.a() {
+        let first = (Taken::Packet(PacketFate::First), waits_up_to(highest));
+        assert_eq!(rt; one(alloc, handler, Feed::A, record)?, first);
+        let again = (Taken::Packet(PacketFate::Repeat), waits_up_to(highest));
+        assert_eq!(rt; one(alloc, handler, Feed::B, record)?, again);
+        highest += 1;
+    }
+    for record in capture.s() {
+        let (taken, state) = one(alloc, handler, Feed::S, record)?;
+        assert_eq!(rt; taken, snapshots(3, 0));
+        assert_eq!(rt;
+            (state.next, state.lost, state.waiting, state.stale),
+            (6, false, 0, None)
+        );
+        let (taken, _) = one(alloc, handler, Feed::S, record)?;
+        assert_eq!(rt; taken, snapshots(0, 3));
+    }
+    Ok(())
+}
+
+#[test]
+fn a_handler_tells_what_became_of_each_datagram(rt: HostRuntime) -> Result<(), Fail> {
+    let alloc = rt.alloc();
+    let Some(capture) = recovery(alloc) else {
+        return Err("no capture".into());
+    };
+    let mut handler = Handler::new(alloc, capture.instruments(), 4, Start::FromOne)?;
+    recovers(&rt, alloc, &mut handler, &capture)?;
+    let refused = handler.datagram(alloc, Feed::A, b"short")?;
+    assert_eq!(rt; refused, Taken::Refused(Refusal::TooShort));
+    for record in capture.a() {
+        let (taken, _) = one(alloc, &mut handler, Feed::B, record)?;
+        assert_eq!(rt; taken, Taken::Packet(PacketFate::Past));
+    }
+    handler.close()?;
+    for record in capture.a() {
+        let (taken, _) = one(alloc, &mut handler, Feed::B, record)?;
+        assert_eq!(rt; taken, Taken::Packet(PacketFate::AfterClose));
+    }
+    Ok(())
+}
+
+#[test]
+fn a_handler_lends_the_books_as_they_stand(rt: HostRuntime) -> Result<(), Fail> {
+    let alloc = rt.alloc();
+    let Some(capture) = recovery(alloc) else {
+        return Err("no capture".into());
+    };
+    let mut handler = Handler::new(alloc, capture.instruments(), 4, Start::FromOne)?;
+    assert!(rt; handler.is_current(0));
+    assert!(rt; handler.best(3).is_none());
+    recovers(&rt, alloc, &mut handler, &capture)?;
+    let Some(near) = handler.best(0) else {
+        return Err("no best levels".into());
+    };
+    assert_eq!(rt;
+        near.bid,
+        Some(Total {
+            price: 101,
+            size: 9
+        })
+    );
+    assert_eq!(rt;
+        near.offer,
+        Some(Total {
+            price: 103,
+            size: 4
+        })
+    );
+    let Some(far) = handler.consolidated(1) else {
+        return Err("no levels".into());
+    };
+    assert_eq!(rt; far.bids().len(), 0);
+    assert_eq!(rt; far.offers(), [Total { price: 90, size: 3 }].as_slice());
+    assert!(rt; handler.book(2).is_some());
+    assert!(rt; handler.book(3).is_none());
+    assert!(rt; handler.is_current(0) && handler.is_current(2) && !handler.is_current(3));
+    Ok(())
+}

@@ -1,5 +1,0 @@
-use Rattle.mdp_engine.proofs.Batching.{law_of_runs}
-use Rattle.mdp_engine.proofs.laws.law_of_runs.Goals as goal
-
-pub returns : goal.returns
-returns c = law_of_runs

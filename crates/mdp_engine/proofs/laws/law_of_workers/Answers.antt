@@ -1,5 +1,0 @@
-use Rattle.mdp_engine.proofs.Collecting.{law_of_workers}
-use Rattle.mdp_engine.proofs.laws.law_of_workers.Goals as goal
-
-pub returns : goal.returns
-returns c = law_of_workers

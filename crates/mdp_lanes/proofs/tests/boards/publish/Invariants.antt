@@ -1,5 +1,0 @@
-use Rattle.std.proofs.Common.{◌≡◌}
-use Rattle.mdp_lanes.proofs.tests.boards.publish.Given as goal
-
-abbrev pub invariant-loop-message : goal.invariant-loop-message
-invariant-loop-message g l = l.publisher.board ≡ l.fn.publisher.board

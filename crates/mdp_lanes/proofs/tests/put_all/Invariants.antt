@@ -1,6 +1,0 @@
-use Rattle.std.proofs.Common.{◌≡◌}
-use Rattle.mdp_lanes.proofs.tests.put_all.Given as goal
-
--- the sender is the same one
-abbrev pub invariant-loop-number : goal.invariant-loop-number
-invariant-loop-number g l = (l.sender.intake ≡ l.fn.sender.intake) × (l.sender.tag ≡ l.fn.sender.tag)

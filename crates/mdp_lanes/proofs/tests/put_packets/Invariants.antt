@@ -1,6 +1,0 @@
-use Rattle.std.proofs.Common.{◌≡◌}
-use Rattle.mdp_lanes.proofs.tests.put_packets.Given as goal
-
--- the sender is that of the same lane
-abbrev pub invariant-loop-number : goal.invariant-loop-number
-invariant-loop-number g l = l.sender.lane ≡ l.fn.sender.lane

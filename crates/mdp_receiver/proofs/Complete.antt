@@ -1,0 +1,50 @@
+-- What a handler's text and books have to do with a complete feed that agrees with its events.
+use Rattle.std.proofs.Common.{◌≡◌, ℕ, ◌-◌, ◌<◌, Bool, true, false, List, take, refl, ap, subst, ◌∙◌, arith}
+use Rattle.std.specs.Prelude.{◌&&◌, max, slice_get, Option, Some, None, IsSomeAnd, MatchOption}
+use Rattle.std.specs.List.{AllZip}
+use Rattle.std.proofs.lemmas.Bool.Decides.{nat_tests}
+use Rattle.std.proofs.lemmas.Slice.Zip.{AllZip-right}
+use Rattle.mdp_templates.specs.Packet.{PacketContent}
+use Rattle.mdp_books.specs.Feed.{book_at, sent_by}
+use Rattle.mdp_arbiter.specs.Channel.{Channel}
+use Rattle.mdp_arbiter.specs.Machine.{trace}
+use Rattle.mdp_desks.specs.Moments.{shown_lines}
+use Rattle.mdp_desks.specs.Shown.{Start, standing_after}
+use Rattle.mdp_desks.specs.declared.desk.Desk.{Desk}
+use Rattle.mdp_engine.specs.Engine.{HoldsBook}
+use Rattle.mdp_engine.specs.Owed.{lines, steps_of}
+use Rattle.mdp_engine.proofs.Holding.{law_of_owed_books}
+use Rattle.mdp_engine.proofs.Owing.{law_of_owed_text}
+use Rattle.mdp_receiver.specs.Handling.{LawOfCurrentBooks, LawOfHandlers, is_within}
+
+pub law_of_handlers : LawOfHandlers
+law_of_handlers channel events sent v h =
+    let listed = channel.listed in (
+      h.stands.shows.text_is ∙ ap (λ (c : Channel). shown_lines listed (trace c events)) h.channel_is,
+      λ feed honest. (
+        law_of_owed_text listed feed events sent v honest h.stands ∙ ap (λ (c : Channel). lines listed feed (steps_of (trace c events))) h.channel_is,
+        subst (λ (c : Channel). AllZip (HoldsBook feed v.arbiter.next) (standing_after listed (trace c events)).starts v.desks) h.channel_is
+            (law_of_owed_books listed feed events sent v honest h.stands),
+      ),
+    )
+
+right_of : (a b : Bool) → (a && b) ≡ true → b ≡ true
+right_of true b e = e
+right_of false b e = cc
+
+-- the book of a desk whose snapshot includes nothing that is still to come
+current : (feed : List PacketContent) (next : ℕ) (desk : Desk) (start : Option Start) → IsSomeAnd start (λ (i : Start). HoldsBook feed next i desk) → desk.base < next → desk.book ≡ book_at desk.instrument (sent_by (take (next - 1) feed))
+current feed next desk None holds before = absurd holds
+current feed next desk (Some i) holds before =
+    let same : max (next - 1) i.base ≡ next - 1 = omega (arith, before, holds.base) in
+    holds.book ∙ ap (λ (n : ℕ). book_at i.instrument (sent_by (take n feed))) same ∙ rw (holds.instrument) refl
+
+pub law_of_current_books : LawOfCurrentBooks
+law_of_current_books channel events sent v feed slot desk h honest is at =
+    let each = law_of_owed_books channel.listed feed events sent v honest h.stands in
+    let starts = (standing_after channel.listed (trace v.arbiter.channel events)).starts in
+    let there = subst (λ (o : Option Desk). MatchOption o (Unit {0}) (λ (d : Desk). IsSomeAnd (slice_get starts slot) (λ (i : Start). HoldsBook feed v.arbiter.next i d))) at
+    (AllZip-right (HoldsBook feed v.arbiter.next) starts v.desks each slot) in
+    let within : is_within v.arbiter.next (Some desk) ≡ true = subst (λ (o : Option Desk). is_within v.arbiter.next o ≡ true) at (right_of _ (is_within v.arbiter.next (slice_get v.desks slot)) is) in
+    let before : desk.base < v.arbiter.next = grind (arith, nat_tests, within) in
+    current feed v.arbiter.next desk (slice_get starts slot) there before

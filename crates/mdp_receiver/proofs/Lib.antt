@@ -1,0 +1,4 @@
+pub mod Copying
+pub mod Going
+pub mod Counting
+pub mod Complete

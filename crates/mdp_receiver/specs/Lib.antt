@@ -1,0 +1,4 @@
+pub mod Said
+pub mod Copies
+pub mod Taken
+pub mod Handling

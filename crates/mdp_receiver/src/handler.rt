@@ -1,0 +1,363 @@
+//! A handler of one channel, which takes datagrams as they come.
+
+ghost use Rattle.std.specs.Prelude.{◌≡◌, ◌≤◌, ◌++◌, [], ◌∷◌, ℕ, List, true, false, map, slice_get, option_copied, IfOk, IfErr, IsErr, OnErr, OnOk, IfSome};
+ghost use Rattle.std.specs.Option.{option_map};
+ghost use Rattle.mdp_templates.specs.Instrument.{AreFit};
+ghost use Rattle.mdp_print.specs.Pieces.{Appends, BeginsWith};
+ghost use Rattle.mdp_print.specs.Texts.{last_line};
+ghost use Rattle.mdp_quotes.specs.Consolidation.{consolidation_of};
+ghost use Rattle.mdp_quotes.specs.Top.{top_of_book};
+ghost use Rattle.mdp_templates.specs.declared.instrument.Instrument.{Instrument};
+ghost use Rattle.mdp_arbiter.specs.Accepted.{Event as Accepted, came, closed, recovered};
+ghost use Rattle.mdp_arbiter.specs.Machine.{is_lost, state_at};
+ghost use Rattle.mdp_engine.specs.Engine.{Stands};
+ghost use Rattle.mdp_arbiter.specs.Arbiter.{is_lost_now};
+ghost use Rattle.mdp_engine.specs.Steps.{event_of};
+ghost use Rattle.mdp_receiver.specs.Copies.{IsPacketOf};
+ghost use Rattle.mdp_receiver.specs.Handling.{GoesOn, Handles, IsCopy, IsPast, TakesDatagram, TakesSaid, is_current, is_within, state_of};
+ghost use Rattle.mdp_receiver.specs.Said.{IsSaid, brings, kind_of, said_of};
+
+use crate::decoding::{Decoded, decode};
+use crate::last_packet::LastPacket;
+use crate::taken::{SnapshotCounts, Taken};
+use mdp_arbiter::Start;
+use mdp_books::Book;
+use mdp_desks::Desk;
+use mdp_engine::{Engine, Event};
+use mdp_print::put_last;
+use mdp_quotes::{Consolidated, TopOfBook};
+use mdp_templates::{Feed, Instrument, Memory, Packet, Snapshot};
+use mdp_window::RingWindow;
+use std::alloc::Allocator;
+use std::marker::Model;
+
+/// Where a channel stands.
+#[derive(Clone, Copy, Debug, PartialEq, Eq)]
+pub struct ChannelState {
+    /// The number of the packet that comes next, 1 to 4294967296.
+    pub next: u64,
+    /// Whether the receiver is lost: it has not joined, or that packet is given up.
+    pub lost: bool,
+    /// The highest number of a packet that came, or `next - 1`, if that is greater.
+    pub highest: u64,
+    /// How many packets wait for one before them.
+    pub waiting: u64,
+    /// While it is lost, the slot of the first listed security that a jump waits for: it has no snapshot, or none that
+    /// includes all packets that are given up.
+    pub stale: Option<usize>,
+}
+
+/// A handler of one channel. It takes the datagrams of the channel's feeds as they come, keeps the books of the listed
+/// securities, and holds the lines of the event ends until they are cleared; nothing else of it grows. A slot is a
+/// security's place among the instruments, from 0.
+///
+/// Once memory has run out the handler has failed: it takes no more datagrams, and the lines that it holds may break
+/// off anywhere. All else is answered as before.
+#[derive(Drop)]
+pub struct Handler<A: Allocator + Copy> {
+    engine: Engine<A, RingWindow<Packet<A>, A>>,
+    last: LastPacket<A>,
+}
+
+impl<A: Allocator + Copy> Model for Handler<A> {
+    ghost use Rattle.mdp_engine.specs.Engine.{View, view_code};
+
+    ghost Value = { View };
+
+    ghost coded = { view_code };
+
+    ghost view = { λ h. h.engine };
+}
+
+impl<A: Allocator + Copy> Handler<A> {
+    /// Makes a handler that has taken nothing, of these instruments, which are fit. The packet `window` numbers after
+    /// the next one gives that one up.
+    ///
+    /// # Errors
+    ///
+    /// Memory ran out.
+    pub fn new(
+        alloc: A,
+        instruments: &[Instrument],
+        window: u32,
+        start: Start,
+    ) -> Result<Handler<A>, Memory>
+        requires fit { AreFit instruments.now }
+        requires some { 1 ≤ window }
+        requires most { window ≤ 65536 }
+        ensures handles { IfOk result (Handles
+            (record { listed = instruments.now; room = window; start = start }) [] []) }
+        ensures sound { IfOk result (λ handler. handler.has_failed ≡ false) }
+        ensures empty { IfOk result (λ handler. handler.held ≡ []) }
+    {
+        let ring = RingWindow::new(alloc, u64::from(window))?;
+        Ok(Handler {
+            engine: Engine::new(alloc, instruments, ring, start)?,
+            last: LastPacket::new(alloc),
+        })
+    }
+
+    /// Takes a datagram of a feed, and tells what became of it. What it brings is taken in, all moves that are then
+    /// possible are made, and the lines that they owe are held. A datagram that is refused changes nothing.
+    ///
+    /// # Errors
+    ///
+    /// Memory ran out, now or in an earlier call.
+    pub fn datagram(&mut self, alloc: A, feed: Feed, bytes: &[u8]) -> Result<Taken, Memory>
+        ensures taken { IfOk result (λ taken. TakesDatagram feed bytes.now taken self.old self.new) }
+        ensures sound { OnOk result (self.old.has_failed ≡ false) }
+        ensures fails { IfErr result (λ _. self.new.has_failed ≡ true) }
+        ensures err { OnErr result (BeginsWith self.new.held self.old.held) }
+        ensures stays { self.old.has_failed ≡ true → IsErr result }
+    {
+        if self.engine.has_failed() {
+            return Err(Memory);
+        }
+        let answer = self.take(alloc, feed, bytes);
+        if answer.is_err() {
+            self.engine.fail();
+        }
+        answer
+    }
+
+    /// Closes the channel: from now on no packet passes, and no snapshot counts.
+    ///
+    /// # Errors
+    ///
+    /// Memory ran out in an earlier call.
+    pub fn close(&mut self) -> Result<(), Memory>
+        ensures goes { OnOk result (GoesOn (closed ∷ []) self.old self.new) }
+        ensures fails { IfErr result (λ _. self.new.has_failed ≡ true) }
+        ensures err { OnErr result (BeginsWith self.new.held self.old.held) }
+        ensures stays { self.old.has_failed ≡ true → IsErr result }
+    {
+        self.on(Event::Close)
+    }
+
+    /// Lends the lines that are held.
+    pub fn lines(&self) -> &[u8]
+        ensures { result.now ≡ self.now.held }
+    {
+        self.engine.lines()
+    }
+
+    /// Forgets the lines that are held, since they were handed on.
+    pub fn clear_lines(&mut self)
+        ensures cleared { self.new ≡ record self.old { held = [] } }
+        ensures stands { (listed : List Instrument) (events : List Accepted) (sent : List ℕ)
+            → Stands listed events sent self.old
+            → Stands listed events (sent ++ self.old.held) self.new }
+    {
+        self.engine.clear_lines();
+    }
+
+    /// Tells the number of the packet that comes next, from 1 to 4294967296.
+    pub fn next(&self) -> u64
+        ensures next { result ≡ self.now.arbiter.next }
+        ensures least { 1 ≤ result }
+        ensures most { result ≤ 4294967296 }
+        ensures stands { (listed : List Instrument) (events : List Accepted) (sent : List ℕ)
+            → Stands listed events sent self.now
+            → result ≡ (state_at self.now.arbiter.channel events).next }
+    {
+        self.engine.next()
+    }
+
+    /// Tells whether the receiver is lost: it has not joined the channel, or the next packet is given up.
+    pub fn lost(&self) -> bool
+        ensures now { result ≡ is_lost_now self.now.arbiter }
+        ensures stands { (listed : List Instrument) (events : List Accepted) (sent : List ℕ)
+            → Stands listed events sent self.now
+            → result ≡ is_lost self.now.arbiter.channel events (state_at self.now.arbiter.channel events) }
+    {
+        self.engine.lost()
+    }
+
+    /// Appends the last line of a run that ends here.
+    ///
+    /// # Errors
+    ///
+    /// Memory ran out. Then nothing is appended.
+    pub fn put_end(&self, out: &mut Vec<u8, A>) -> Result<(), Memory>
+        ensures { Appends (last_line self.now.arbiter.next (is_lost_now self.now.arbiter))
+            out.old out.new result }
+    {
+        put_last(out, self.next(), self.lost())
+    }
+
+    /// Tells where the channel stands.
+    pub fn state(&self) -> ChannelState
+        ensures { result ≡ state_of self.now }
+    {
+        let arbiter = self.engine.arbiter();
+        let lost = arbiter.lost();
+        ChannelState {
+            next: arbiter.next(),
+            lost,
+            highest: arbiter.highest(),
+            waiting: arbiter.waiting(),
+            stale: if lost { arbiter.first_stale() } else { None },
+        }
+    }
+
+    /// Lends the book at a slot, whole: its four sides, or the place of its fault.
+    pub fn book(&self, slot: usize) -> Option<&Book>
+        ensures { option_copied result ≡ option_map (λ d. d.book) (slice_get self.now.desks slot) }
+    {
+        match self.desk(slot) {
+            Some(desk) => Some(desk.book.book()),
+            None => None,
+        }
+    }
+
+    /// Gives the consolidated levels of the book at a slot; none where the book is faulty or no security is listed
+    /// there.
+    pub fn consolidated(&self, slot: usize) -> Option<Consolidated>
+        ensures { IfSome (slice_get self.now.desks slot) (λ d. result ≡ consolidation_of d.book) }
+    {
+        match self.desk(slot) {
+            Some(desk) => desk.book.consolidated(),
+            None => None,
+        }
+    }
+
+    /// Gives the best level of each consolidated side of the book at a slot; none where the book is faulty or no
+    /// security is listed there.
+    pub fn best(&self, slot: usize) -> Option<TopOfBook>
+        ensures { IfSome (slice_get self.now.desks slot) (λ d. result ≡ top_of_book d.book) }
+    {
+        match self.consolidated(slot) {
+            Some(consolidated) => Some(consolidated.top()),
+            None => None,
+        }
+    }
+
+    /// Tells whether the book at a slot is the complete feed's right before the packet that comes next: no packet is
+    /// given up, and the security's snapshot includes none that is still to come.
+    pub fn is_current(&self, slot: usize) -> bool
+        ensures { result ≡ is_current self.now slot }
+    {
+        !self.engine.lost() && self.is_within(slot)
+    }
+
+    // Lends the desk at a slot.
+    fn desk(&self, slot: usize) -> Option<&Desk>
+        ensures { option_copied result ≡ slice_get self.now.desks slot }
+    {
+        self.engine.desks().get(slot)
+    }
+
+    // Tells whether the snapshot of the book at a slot includes no packet that is still to come.
+    fn is_within(&self, slot: usize) -> bool
+        ensures { result ≡ is_within self.now.arbiter.next (slice_get self.now.desks slot) }
+    {
+        match self.desk(slot) {
+            Some(desk) => u64::from(desk.base) < self.engine.next(),
+            None => false,
+        }
+    }
+
+    // Takes an event; the lines that it owes are held.
+    fn on(&mut self, event: Event<A>) -> Result<(), Memory>
+        ensures goes { OnOk result (GoesOn (event_of event ∷ []) self.old self.new) }
+        ensures fails { IfErr result (λ _. self.new.has_failed ≡ true) }
+        ensures front { BeginsWith self.new.held self.old.held }
+        ensures stays { self.old.has_failed ≡ true → IsErr result }
+    {
+        self.engine.on(event)
+    }
+
+    // Takes a datagram of a feed.
+    fn take(&mut self, alloc: A, feed: Feed, bytes: &[u8]) -> Result<Taken, Memory>
+        ensures taken { IfOk result (λ taken. TakesDatagram feed bytes.now taken self.old self.new) }
+        ensures front { BeginsWith self.new.held self.old.held }
+    {
+        if let Some(number) = self.copied(feed, bytes) {
+            return Ok(Taken::Packet(self.engine.arbiter().fate_of(number)));
+        }
+        let decoded = decode(alloc, feed, bytes)?;
+        self.keep(feed, bytes, &decoded)?;
+        self.take_in(alloc, decoded)
+    }
+
+    // Tells the number of the packet that a datagram is, where it is the second copy of one that has passed.
+    fn copied(&self, feed: Feed, bytes: &[u8]) -> Option<u32>
+        ensures { IfSome result (λ number. IsCopy feed bytes.now number self.now) }
+    {
+        match feed {
+            Feed::A => self.past_number(bytes),
+            Feed::B => self.past_number(bytes),
+            Feed::S => None,
+        }
+    }
+
+    // Tells the number of the newest packet, where these are its bytes and it has passed.
+    fn past_number(&self, bytes: &[u8]) -> Option<u32>
+        ensures packet { IfSome result (IsPacketOf bytes.now) }
+        ensures past { IfSome result (λ number. IsPast number self.now) }
+    {
+        match self.last.number_of(bytes) {
+            Some(number) => self.if_past(number),
+            None => None,
+        }
+    }
+
+    // Gives a number back where it has passed or was given up.
+    fn if_past(&self, number: u32) -> Option<u32>
+        ensures same { IfSome result (λ past. past ≡ number) }
+        ensures past { IfSome result (λ past. IsPast past self.now) }
+    {
+        if self.engine.is_past(number) {
+            return Some(number);
+        }
+        None
+    }
+
+    // Keeps the bytes of a datagram that was decoded as a packet.
+    fn keep(&mut self, feed: Feed, bytes: &[u8], decoded: &Decoded<A>) -> Result<(), Memory>
+        requires { IsSaid (kind_of feed) bytes.now (said_of decoded.now) }
+        ensures { self.new ≡ self.old }
+    {
+        match decoded {
+            Decoded::Packet(packet) => self.last.keep(bytes, packet.number()),
+            _ => Ok(()),
+        }
+    }
+
+    // Takes in what a datagram says.
+    fn take_in(&mut self, alloc: A, decoded: Decoded<A>) -> Result<Taken, Memory>
+        ensures taken { IfOk result (λ taken. TakesSaid (said_of decoded) taken self.old self.new) }
+        ensures front { BeginsWith self.new.held self.old.held }
+    {
+        match decoded {
+            Decoded::Packet(packet) => self.pass(packet),
+            Decoded::Snapshots(snapshots) => self.recover(alloc, &snapshots),
+            Decoded::Refused(refusal) => Ok(Taken::Refused(refusal)),
+        }
+    }
+
+    // Takes a packet.
+    fn pass(&mut self, packet: Packet<A>) -> Result<Taken, Memory>
+        ensures taken { IfOk result (λ taken. TakesSaid
+            (brings (came packet ∷ [])) taken self.old self.new) }
+        ensures front { BeginsWith self.new.held self.old.held }
+    {
+        let fate = self.engine.arbiter().fate_of(packet.number());
+        self.on(Event::Packet(packet))?;
+        Ok(Taken::Packet(fate))
+    }
+
+    // Takes snapshots, in their order.
+    fn recover(&mut self, alloc: A, snapshots: &[Snapshot]) -> Result<Taken, Memory>
+        ensures taken { IfOk result (λ taken. TakesSaid
+            (brings (map recovered snapshots.now)) taken self.old self.new) }
+        ensures front { BeginsWith self.new.held self.old.held }
+    {
+        let mut counts = SnapshotCounts::NONE;
+        for snapshot in snapshots {
+            counts = counts.and(self.engine.arbiter().fate_of_snapshot(snapshot));
+            self.on(Event::snapshot(alloc, snapshot.copy())?)?;
+        }
+        Ok(Taken::Snapshots(counts))
+    }
+}

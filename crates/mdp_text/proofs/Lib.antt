@@ -1,4 +1,0 @@
-mod Decimals
-mod Ends
-mod Pieces
-mod Printed
