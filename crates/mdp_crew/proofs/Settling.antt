@@ -16,7 +16,7 @@ use Rattle.mdp_reports.specs.declared.answer.Answer.{Answer}
 use Rattle.mdp_reports.specs.declared.answer.Answer.TheVariants.{Tells, Finished}
 use Rattle.mdp_crew.specs.declared.crew.Post.{Post}
 use Rattle.mdp_crew.specs.declared.order.Order.{Order}
-use Rattle.mdp_crew.specs.declared.stop.Stop.{Stop}
+use Rattle.mdp_crew.specs.declared.fault.RunFault.{RunFault}
 use Rattle.mdp_crew.specs.declared.worker.WorkerEnds.{WorkerEnds}
 use Rattle.mdp_crew.specs.Collecting.{EndsCollecting, HasAll, HasSome, Showing, steps_of_batches, text_of_batches}
 use Rattle.mdp_crew.specs.Publishing.{published_on}
@@ -250,6 +250,6 @@ module _ {A : Type 0} where
   all_published listed n xs ss old new is has = has.steps ∙ ap (λ (l : List (List (List Report))). published_on old.board (steps_of_batches l)) (all_rounds listed n xs ss old new is has)
 
   -- whatever it came to, it took some answers of each worker
-  pub ended_took : (old new : Showing A) (result : Result (Unit {0}) Stop) → EndsCollecting old new result → (rows : List (List (Answer A))) × (new.posts ≡ all_took old.posts rows)
+  pub ended_took : (old new : Showing A) (result : Result (Unit {0}) RunFault) → EndsCollecting old new result → (rows : List (List (Answer A))) × (new.posts ≡ all_took old.posts rows)
   ended_took old new (Ok done) is = (laid is.rounds (replicate (length old.posts) (Finished ∷ [])), is.took_is)
-  ended_took old new (Err stop) is = (laid is.rounds is.more, is.took_is)
+  ended_took old new (Err fault) is = (laid is.rounds is.more, is.took_is)

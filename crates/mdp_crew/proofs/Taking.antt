@@ -14,7 +14,7 @@ use Rattle.mdp_crew.proofs.Boards.{published_nothing, published_more, steps-appe
 use Rattle.mdp_desks.specs.Reports.{Report}
 use Rattle.mdp_reports.specs.FromAnswers.{told_in_answer}
 use Rattle.mdp_reports.specs.Taking.{View}
-use Rattle.mdp_crew.specs.declared.stop.Stop.{Stop}
+use Rattle.mdp_crew.specs.declared.fault.RunFault.{RunFault}
 use Rattle.mdp_crew.specs.declared.crew.Post.{Post}
 use Rattle.mdp_reports.specs.declared.answer.Answer.{Answer}
 use Rattle.mdp_reports.specs.declared.answer.Answer.TheVariants.{Tells, Failed, Finished}
@@ -404,9 +404,9 @@ module _ {A : Type 0} where
         out = cut_on old now new last.rounds under_way last.out;
       }
 
-  pub ended : (old now new : Showing A) (outcome : Result (Unit {0}) Stop) → EndsCollecting now new outcome → IsCollecting old now → EndsCollecting old new outcome
+  pub ended : (old now new : Showing A) (outcome : Result (Unit {0}) RunFault) → EndsCollecting now new outcome → IsCollecting old now → EndsCollecting old new outcome
   ended old now new (Ok done) last under_way = took_on (Finished ∷ []) old now new under_way last
-  ended old now new (Err stop) last under_way = ended_some old now new last under_way
+  ended old now new (Err fault) last under_way = ended_some old now new last under_way
 
   pub each-push : (answers : List (Answer A)) (a : Answer A) → one_each (answers ++ a ∷ []) ≡ one_each answers ++ (a ∷ []) ∷ []
   each-push [] a = refl

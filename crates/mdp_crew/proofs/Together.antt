@@ -23,7 +23,7 @@ use Rattle.mdp_crew.specs.declared.arbiter.ArbiterOutcome.{ArbiterOutcome}
 use Rattle.mdp_arbiter.specs.declared.arbiter.Standing.{Standing}
 use Rattle.mdp_crew.specs.declared.batch.Batch.{Batch}
 use Rattle.mdp_crew.specs.declared.order.Order.{Order}
-use Rattle.mdp_crew.specs.declared.stop.Stop.{Stop}
+use Rattle.mdp_crew.specs.declared.fault.RunFault.{RunFault}
 use Rattle.mdp_crew.specs.Arbitrating.{HasSent}
 use Rattle.mdp_crew.specs.Batches.{events_taken}
 use Rattle.mdp_crew.specs.Collecting.{EndsCollecting, HasAll, HasSome, Showing, text_of_batches}
@@ -38,8 +38,8 @@ use Rattle.mdp_crew.proofs.Meeting.{ascend_front, steps_are_shown, text_is_shown
 use Rattle.mdp_crew.proofs.Settling.{AllSettled, all_published, all_written, rounds_of, some_rounds}
 
 -- nothing went out
-pub shown_nothing : (channel : ListedChannel) (events : List Event) (start : List ℕ) (board : Option Published) (stop : Stop) → HasShown channel events (out start board) (out start board) (Err stop)
-shown_nothing channel events start board stop = record {
+pub shown_nothing : (channel : ListedChannel) (events : List Event) (start : List ℕ) (board : Option Published) (fault : RunFault) → HasShown channel events (out start board) (out start board) (Err fault)
+shown_nothing channel events start board fault = record {
   all = tt;
   some = record {
     sent = [];
@@ -66,10 +66,10 @@ module _ {A : Type 0} where
     settled_are = subst (λ (l : List (LaneSenderView (Order A))). AllZip IsSettled l new.posts) sent.lanes settled_are;
   }
 
-  pub met : (channel : ListedChannel) (n : ℕ) (ss : List (LaneSenderView (Order A))) (old new : Showing A) (receiver : IntakeReceiverView (Batch A)) (outcome : ArbiterOutcome A) (collected : Result (Unit {0}) Stop)
+  pub met : (channel : ListedChannel) (n written : ℕ) (ss : List (LaneSenderView (Order A))) (old new : Showing A) (receiver : IntakeReceiverView (Batch A)) (outcome : ArbiterOutcome A) (collected : Result (Unit {0}) RunFault)
       → 1 ≤ n → AllPairs (λ a b. a ≢ b) (ids_of channel.listed) → IsCrew (share_of channel.listed n 0) n ss old.posts → old.collector ≡ begun channel.listed → HasSent channel receiver ss outcome → EndsCollecting old new collected
-      → AllZip IsSettled outcome.senders.items new.posts → HasShown channel (events_taken outcome.receiver.taken) (out old.taken old.board) (out new.taken new.board) (outcome_of collected outcome.standing)
-  met channel n ss old new receiver outcome collected some differ crew collector_is sent ends settled_are =
+      → AllZip IsSettled outcome.senders.items new.posts → HasShown channel (events_taken outcome.receiver.taken) (out old.taken old.board) (out new.taken new.board) (outcome_of written collected outcome.standing)
+  met channel n written ss old new receiver outcome collected some differ crew collector_is sent ends settled_are =
       by_both collected outcome.standing ends sent.sent.whole sent.stands
     where
       moves : List Move
@@ -108,9 +108,9 @@ module _ {A : Type 0} where
           subst (λ (ms : List Moment). WentOut ms [] (out old.taken old.board) (out new.taken new.board)) (sym (ap (moments channel.listed) all ∙ moments-append channel.listed [] first (moves_sent at.1)))
           (out_more (moments channel.listed first) (moments_after channel.listed first (moves_sent at.1)) [] (out old.taken old.board) (out new.taken new.board) went)
 
-      by_both : {E : Type 0} (collected : Result (Unit {0}) Stop) (standing : Result Standing E) → EndsCollecting old new collected → OnOk standing (sent.sent.rest ≡ [])
+      by_both : {E : Type 0} (collected : Result (Unit {0}) RunFault) (standing : Result Standing E) → EndsCollecting old new collected → OnOk standing (sent.sent.rest ≡ [])
           → IfOk standing (λ (s : Standing). s ≡ stands_after channel (events_taken outcome.receiver.taken))
-          → HasShown channel (events_taken outcome.receiver.taken) (out old.taken old.board) (out new.taken new.board) (outcome_of collected standing)
+          → HasShown channel (events_taken outcome.receiver.taken) (out old.taken old.board) (out new.taken new.board) (outcome_of written collected standing)
       by_both (Ok done) (Ok standing) e whole stands =
           let same : moves ≡ moves_of channel (events_taken outcome.receiver.taken) = sym (append-nil moves) ∙ ap (λ (l : List Move). moves ++ l) (sym whole) ∙ sym sent.sent.front in
           record {
@@ -122,4 +122,4 @@ module _ {A : Type 0} where
             some = tt;
           }
       by_both (Ok done) (Err memory) e whole stands = record { all = tt; some = of_all (all_out (moments channel.listed moves) old.taken new.taken old.board new.board (all_text e) (all_steps e)) }
-      by_both (Err stop) standing e whole stands = record { all = tt; some = of_all (of_first e) }
+      by_both (Err fault) standing e whole stands = record { all = tt; some = of_all (of_first e) }

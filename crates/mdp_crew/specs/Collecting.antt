@@ -11,7 +11,7 @@ use Rattle.mdp_reports.specs.declared.answer.Answer.{Answer}
 use Rattle.mdp_reports.specs.declared.answer.Answer.TheVariants.{Finished}
 use Rattle.mdp_crew.specs.declared.collector.Collecting.{Collecting}
 use Rattle.mdp_crew.specs.declared.crew.Post.{Post}
-use Rattle.mdp_crew.specs.declared.stop.Stop.{Stop}
+use Rattle.mdp_crew.specs.declared.fault.RunFault.{RunFault}
 use Rattle.mdp_crew.specs.Publishing.{published_on}
 use Rattle.mdp_crew.specs.Rounds.{IsToLast, Wide, all_took, laid}
 
@@ -105,12 +105,12 @@ pub record HasSome {A : Type 0} (old new : Showing A) : Type 0 where
   pub out : IsCut old new rounds
 
 -- the collector has come to its end
-abbrev pub EndsCollecting : {A : Type 0} → Showing A → Showing A → Result (Unit {0}) Stop → Type 0
+abbrev pub EndsCollecting : {A : Type 0} → Showing A → Showing A → Result (Unit {0}) RunFault → Type 0
 EndsCollecting old new (Ok done) = HasAll old new
-EndsCollecting old new (Err stop) = HasSome old new
+EndsCollecting old new (Err fault) = HasSome old new
 
 -- it goes on, or has come to its end
-abbrev pub TurnsTo : {A : Type 0} → Showing A → Showing A → Option (Result (Unit {0}) Stop) → Type 0
+abbrev pub TurnsTo : {A : Type 0} → Showing A → Showing A → Option (Result (Unit {0}) RunFault) → Type 0
 TurnsTo old new None = TakesOne old new
 TurnsTo old new (Some outcome) = EndsCollecting old new outcome
 

@@ -2,8 +2,7 @@ pub mod Plan
 pub mod Shares
 pub mod Fed
 pub mod Sent
-pub mod Counted
-pub mod Stops
+pub mod Faults
 pub mod Orders
 pub mod Batches
 pub mod Work

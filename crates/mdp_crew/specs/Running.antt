@@ -8,8 +8,8 @@ use Rattle.mdp_lanes.specs.declared.step.Step.{Step}
 use Rattle.mdp_reports.specs.Behind.{IsBehind}
 use Rattle.mdp_reports.specs.BoardSteps.{board_steps}
 use Rattle.mdp_arbiter.specs.declared.arbiter.Standing.{Standing}
-use Rattle.mdp_crew.specs.declared.stop.Stop.{Stop}
-use Rattle.mdp_crew.specs.declared.stop.Stop.TheVariants.{Memory}
+use Rattle.mdp_crew.specs.declared.fault.RunFault.{RunFault}
+use Rattle.mdp_crew.specs.declared.fault.RunFault.TheVariants.{Memory}
 use Rattle.mdp_crew.specs.Outlets.{Outlet}
 use Rattle.mdp_crew.specs.Publishing.{published_on}
 
@@ -31,17 +31,17 @@ pub record WentOut (shown : List Moment) (end : List ℕ) (old new : Outlet) : T
   pub board_is : new.board ≡ published_on old.board steps
   pub behind : IsBehind shown end sent steps
 
--- what a run comes to: where the channel stands, or why it stopped early; what the collector met
--- goes before what the arbiter met
-abbrev pub outcome_of : {E : Type 0} → Result (Unit {0}) Stop → Result Standing E
-    → Result Standing Stop
-outcome_of (Err stop) standing = Err stop
-outcome_of (Ok done) (Ok standing) = Ok standing
-outcome_of (Ok done) (Err memory) = Err Memory
+-- what a run comes to, of which so many bytes went out: where the channel stands, or why it ended
+-- early; what the collector met goes before what the arbiter met
+abbrev pub outcome_of : {E : Type 0} → ℕ → Result (Unit {0}) RunFault → Result Standing E
+    → Result Standing RunFault
+outcome_of written (Err fault) standing = Err fault
+outcome_of written (Ok done) (Ok standing) = Ok standing
+outcome_of written (Ok done) (Err memory) = Err (Memory written)
 
 -- what went out, whatever the run came to
 pub record HasShown (channel : ListedChannel) (events : List Event) (old new : Outlet)
-    (outcome : Result Standing Stop) : Type 0 where
+    (outcome : Result Standing RunFault) : Type 0 where
   pub all : IfOk outcome (λ (standing : Standing). HasShownAll channel events old new standing)
-  pub some : IfErr outcome (λ (stop : Stop). WentOut
+  pub some : IfErr outcome (λ (fault : RunFault). WentOut
       (moments channel.listed (moves_of channel events)) [] old new)

@@ -3,43 +3,20 @@
 
 ghost use Rattle.std.specs.Prelude.{◌≡◌, ◌<◌, ◌≤◌, ◌-◌, ◌^◌, ◌++◌, ℕ, false, List, OnOk, IfErr, IfNone, Result, Some, length, map, take, vec_len, vec_capacity};
 ghost use Rattle.std.specs.List.{list_any};
-ghost use Rattle.mdp_crew.specs.Counted.{HasCounted};
+ghost use Rattle.mdp_crew.specs.Faults.{FailsBy, written_before};
 ghost use Rattle.mdp_crew.specs.Rounds.{all_took, is_told, lasts, one_each};
-ghost use Rattle.mdp_crew.specs.Stops.{FailsByStop};
 ghost use Rattle.mdp_reports.specs.FromAnswers.{told_in_answer};
 
 use crate::crew::Post;
+use crate::fault::{RunFault, hand_on, out_of_memory};
 use crate::publishing::publish;
 use crate::rounds::{all_are_finished, all_are_told, drain_all, take_round};
-use crate::stop::Stop;
 use mdp_lanes::Publisher;
-use mdp_print::{CountedWrite, write_all_counted};
+use mdp_print::CountedWrite;
 use mdp_reports::{Answer, BoardSteps, Collector};
 use mdp_templates::Memory;
 use std::alloc::Allocator;
 use std::sync::Wait;
-
-// Writes a text, and counts its bytes that went out.
-fn write_text<W: CountedWrite>(text: &[u8], written: &mut u64, writer: &mut W) -> Result<(), Stop>
-    requires { W.failed writer.old < 2 ^ 64 - 1 }
-    ensures text { OnOk result (W.taken writer.new ≡ W.taken writer.old ++ text.now) }
-    ensures begins { IfErr result (λ _. (n : ℕ)
-        × (W.taken writer.new ≡ W.taken writer.old ++ take n text.now)) }
-    ensures counts { (start : List ℕ) → HasCounted start (W.taken writer.old) written.old
-        → HasCounted start (W.taken writer.new) written.new }
-    ensures failed { FailsByStop result (W.failed writer.old) (W.failed writer.new) }
-{
-    match write_all_counted(writer, text) {
-        Ok(()) => {
-            *written = written.saturating_add(text.len() as u64);
-            Ok(())
-        }
-        Err((count, _)) => {
-            *written = written.saturating_add(count as u64);
-            Err(Stop::Output)
-        }
-    }
-}
 
 /// The collector at work: what it takes of the workers, and what it makes of that. It has room for a round.
 #[derive(Drop)]
@@ -117,10 +94,10 @@ impl<'s, A: Allocator + Copy> Collecting<'s, A> {
         &mut self,
         rt: &R,
         alloc: A,
-        written: &mut u64,
+        since: u64,
         board: &mut Option<Publisher<A>>,
         writer: &mut W,
-    ) -> Result<(), Stop>
+    ) -> Result<(), RunFault>
         requires { W.failed writer.old < 2 ^ 64 - 1 }
         ensures shows { OnOk result (ShowsRound (showing self.old (W.taken writer.old) board.old)
             (showing self.new (W.taken writer.new) board.new) (map told_in_answer self.old.round.items)) }
@@ -128,19 +105,17 @@ impl<'s, A: Allocator + Copy> Collecting<'s, A> {
             (showing self.old (W.taken writer.old) board.old)
             (showing self.new (W.taken writer.new) board.new) (map told_in_answer self.old.round.items)) }
         ensures stays { (self.new.posts ≡ self.old.posts) × (self.new.round ≡ self.old.round) }
-        ensures counts { (start : List ℕ) → HasCounted start (W.taken writer.old) written.old
-            → HasCounted start (W.taken writer.new) written.new }
-        ensures failed { FailsByStop result (W.failed writer.old) (W.failed writer.new) }
+        ensures told { IfErr result (λ fault.
+            written_before fault ≡ length (W.taken writer.new) - since) }
+        ensures failed { FailsBy result (W.failed writer.old) (W.failed writer.new) }
     {
         let Ok(()) = self.make_text(alloc) else {
-            return Err(Stop::Memory);
+            return Err(out_of_memory(writer, since));
         };
-        match write_text(&self.text, written, writer) {
-            Ok(()) => match publish(rt, board, &self.steps) {
-                Ok(()) => Ok(()),
-                Err(Memory) => Err(Stop::Memory),
-            },
-            Err(stop) => Err(stop),
+        hand_on(writer, &self.text, since)?;
+        match publish(rt, board, &self.steps) {
+            Ok(()) => Ok(()),
+            Err(Memory) => Err(out_of_memory(writer, since)),
         }
     }
 
@@ -149,18 +124,18 @@ impl<'s, A: Allocator + Copy> Collecting<'s, A> {
         &mut self,
         rt: &R,
         alloc: A,
-        written: &mut u64,
+        since: u64,
         board: &mut Option<Publisher<A>>,
         writer: &mut W,
-    ) -> Option<Result<(), Stop>>
+    ) -> Option<Result<(), RunFault>>
         requires { W.failed writer.old < 2 ^ 64 - 1 }
         ensures turned { TurnsTo (showing self.old (W.taken writer.old) board.old)
             (showing self.new (W.taken writer.new) board.new) result }
-        ensures counts { (start : List ℕ) → HasCounted start (W.taken writer.old) written.old
-            → HasCounted start (W.taken writer.new) written.new }
+        ensures told { (fault : RunFault) → result ≡ Some (Err fault)
+            → written_before fault ≡ length (W.taken writer.new) - since }
         ensures still { IfNone result (W.failed writer.new ≡ W.failed writer.old) }
-        ensures failed { (outcome : Result (Unit {0}) Stop) → result ≡ Some outcome
-            → FailsByStop outcome (W.failed writer.old) (W.failed writer.new) }
+        ensures failed { (outcome : Result (Unit {0}) RunFault) → result ≡ Some outcome
+            → FailsBy outcome (W.failed writer.old) (W.failed writer.new) }
     {
         self.take(rt);
         if all_are_finished(&self.round) {
@@ -168,13 +143,13 @@ impl<'s, A: Allocator + Copy> Collecting<'s, A> {
         }
         if !all_are_told(&self.round) {
             self.drain(rt);
-            return Some(Err(Stop::Memory));
+            return Some(Err(out_of_memory(writer, since)));
         }
-        match self.show(rt, alloc, written, board, writer) {
+        match self.show(rt, alloc, since, board, writer) {
             Ok(()) => None,
-            Err(stop) => {
+            Err(fault) => {
                 self.drain(rt);
-                Some(Err(stop))
+                Some(Err(fault))
             }
         }
     }
@@ -182,7 +157,7 @@ impl<'s, A: Allocator + Copy> Collecting<'s, A> {
     /// Takes an answer of each worker, round by round, until all workers have finished: it writes the text of each
     /// round, and then publishes its steps on the board, if there is one. From the first want of memory on, a worker's
     /// or its own, or from a failed write on, it writes and publishes nothing more, and takes what each worker still
-    /// answers, to the last.
+    /// answers, to the last. `since` is how many bytes the writer had taken before the run.
     ///
     /// # Errors
     ///
@@ -192,22 +167,22 @@ impl<'s, A: Allocator + Copy> Collecting<'s, A> {
         &mut self,
         rt: &R,
         alloc: A,
-        written: &mut u64,
+        since: u64,
         board: &mut Option<Publisher<A>>,
         writer: &mut W,
-    ) -> Result<(), Stop>
+    ) -> Result<(), RunFault>
         requires { W.failed writer.old < 2 ^ 64 - 1 }
         ensures ends { EndsCollecting (showing self.old (W.taken writer.old) board.old)
             (showing self.new (W.taken writer.new) board.new) result }
-        ensures counts { (start : List ℕ) → HasCounted start (W.taken writer.old) written.old
-            → HasCounted start (W.taken writer.new) written.new }
-        ensures failed { FailsByStop result (W.failed writer.old) (W.failed writer.new) }
+        ensures told { IfErr result (λ fault.
+            written_before fault ≡ length (W.taken writer.new) - since) }
+        ensures failed { FailsBy result (W.failed writer.old) (W.failed writer.new) }
     {
         for _ in rt.forever() {
-            if let Some(outcome) = self.turn(rt, alloc, written, board, writer) {
+            if let Some(outcome) = self.turn(rt, alloc, since, board, writer) {
                 return outcome;
             }
         }
-        Err(Stop::Memory)
+        Err(out_of_memory(writer, since))
     }
 }

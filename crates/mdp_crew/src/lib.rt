@@ -8,6 +8,7 @@ mod batch;
 mod begun;
 mod collector;
 mod crew;
+mod fault;
 mod feeding;
 mod gate;
 mod last_orders;
@@ -20,16 +21,15 @@ mod share;
 mod site;
 mod starts;
 mod steps;
-mod stop;
 #[cfg(test)]
 mod tests;
 mod worker;
 
 pub use batch::Batch;
 pub use begun::{Begun, begin, join};
+pub use fault::{RunFault, hand_on};
 pub use gate::{Gate, Open};
 pub use plan::RunPlan;
 pub use running::{CrewOutcome, run_crew};
 pub use site::{Means, Site};
 pub use starts::{Always, Starts};
-pub use stop::Stop;

@@ -1,31 +1,30 @@
 //! The crew of a run: the arbiter and the workers in threads of a scope, and the collector on the
 //! caller's thread.
 
-ghost use Rattle.std.specs.Prelude.{◌≡◌, ◌≤◌, ◌<◌, ◌^◌, ◌-◌, [], IfOk, MatchResult};
+ghost use Rattle.std.specs.Prelude.{◌≡◌, ◌≤◌, ◌<◌, ◌^◌, ◌-◌, [], length, IfErr, IfOk, MatchResult};
 ghost use Rattle.mdp_lanes.specs.Items.{ends_taken};
 ghost use Rattle.mdp_crew.specs.Arbitrating.{HasBegun, HasSent, IsNextNumber};
 ghost use Rattle.mdp_crew.specs.Batches.{HasTakenMore, events_taken};
-ghost use Rattle.mdp_crew.specs.Counted.{HasCounted};
+ghost use Rattle.mdp_crew.specs.Faults.{FailsBy, written_before};
 ghost use Rattle.mdp_crew.specs.Outlets.{out};
 ghost use Rattle.mdp_crew.specs.Running.{HasShown, outcome_of};
 ghost use Rattle.mdp_crew.specs.Plan.{IsLawful, channel_in};
 ghost use Rattle.mdp_crew.specs.Ready.{IsReady};
-ghost use Rattle.mdp_crew.specs.Stops.{FailsByStop};
 
 use crate::arbiter::{ArbiterOutcome, Ring, arbitrate, drain};
 use crate::batch::Batch;
 use crate::begun::{Begun, begin, join};
 use crate::collector::Collecting;
 use crate::crew::{hire_all, let_all_go};
+use crate::fault::{RunFault, out_of_memory};
 use crate::gate::Gate;
 use crate::order::Order;
 use crate::plan::RunPlan;
 use crate::site::Site;
 use crate::starts::Starts;
-use crate::stop::Stop;
 use mdp_arbiter::{Arbiter, Standing};
 use mdp_lanes::{IntakeReceiver, LaneSender, Publisher};
-use mdp_print::CountedWrite;
+use mdp_print::{CountedWrite, written_since};
 use mdp_reports::Collector;
 use mdp_templates::Memory;
 use mdp_window::RingWindow;
@@ -58,12 +57,11 @@ impl<'s, A: Allocator + Copy> Promise<ArbiterOutcome<A>> for SendsOrders<'s, A> 
 /// started.
 type Arbitrating<'s, A> = Begun<ArbiterOutcome<A>, SendsOrders<'s, A>>;
 
-/// What the crew leaves: the receiver, where the channel stands, and how many bytes went out.
+/// What the crew leaves: the receiver, and where the channel stands or why the run ended early.
 #[derive(Drop)]
 pub struct CrewOutcome<A: Allocator + Copy> {
     pub receiver: IntakeReceiver<Batch<A>, A>,
-    pub standing: Result<Standing, Stop>,
-    pub written: u64,
+    pub standing: Result<Standing, RunFault>,
 }
 
 /// What the threads of a crew begin with.
@@ -147,15 +145,16 @@ where
 
 // Tells what the run comes to: what the collector met goes before what the arbiter met.
 fn outcome(
-    collected: Result<(), Stop>,
+    collected: Result<(), RunFault>,
     standing: Result<Standing, Memory>,
-) -> Result<Standing, Stop>
-    ensures { result ≡ outcome_of collected standing }
+    written: u64,
+) -> Result<Standing, RunFault>
+    ensures { result ≡ outcome_of written collected standing }
 {
     match (collected, standing) {
-        (Err(stop), _) => Err(stop),
+        (Err(fault), _) => Err(fault),
         (Ok(()), Ok(standing)) => Ok(standing),
-        (Ok(()), Err(Memory)) => Err(Stop::Memory),
+        (Ok(()), Err(Memory)) => Err(RunFault::Memory { written }),
     }
 }
 
@@ -183,9 +182,10 @@ where
     ensures ends { ends_taken (λ b. b.is_last) result.receiver.taken ≡ 3 }
     ensures shows { HasShown (channel_in plan.entry) (events_taken result.receiver.taken)
         (out (W.taken writer.old) board.old) (out (W.taken writer.new) board.new) result.standing }
-    ensures counts { HasCounted (W.taken writer.old) (W.taken writer.new) result.written }
+    ensures told { IfErr result.standing (λ fault. written_before fault
+        ≡ length (W.taken writer.new) - length (W.taken writer.old)) }
     ensures range { IfOk result.standing (λ standing. IsNextNumber standing.next) }
-    ensures failed { FailsByStop result.standing (W.failed writer.old) (W.failed writer.new) }
+    ensures failed { FailsBy result.standing (W.failed writer.old) (W.failed writer.new) }
 {
     let Ready {
         arbiter,
@@ -195,8 +195,8 @@ where
     let rt = site.means.rt;
     let arbitrating = begin_arbiter(site, plan, arbiter, receiver, senders);
     let _ = site.go.set(rt, true);
-    let mut written = 0;
-    let collected = collecting.collect(rt, site.means.alloc, &mut written, board, writer);
+    let since = writer.written();
+    let collected = collecting.collect(rt, site.means.alloc, since, board, writer);
     let ArbiterOutcome {
         receiver,
         senders,
@@ -205,8 +205,7 @@ where
     let_all_go(rt, senders, collecting.posts);
     CrewOutcome {
         receiver,
-        standing: outcome(collected, standing),
-        written,
+        standing: outcome(collected, standing, written_since(writer, since)),
     }
 }
 
@@ -243,9 +242,10 @@ where
     ensures ends { ends_taken (λ b. b.is_last) result.receiver.taken ≡ 3 }
     ensures shows { HasShown (channel_in plan.entry) (events_taken result.receiver.taken)
         (out (W.taken writer.old) board.old) (out (W.taken writer.new) board.new) result.standing }
-    ensures counts { HasCounted (W.taken writer.old) (W.taken writer.new) result.written }
+    ensures told { IfErr result.standing (λ fault. written_before fault
+        ≡ length (W.taken writer.new) - length (W.taken writer.old)) }
     ensures range { IfOk result.standing (λ standing. IsNextNumber standing.next) }
-    ensures failed { FailsByStop result.standing (W.failed writer.old) (W.failed writer.new) }
+    ensures failed { FailsBy result.standing (W.failed writer.old) (W.failed writer.new) }
 {
     match prepare(site, plan) {
         Ok(ready) => run_ready(site, plan, ready, receiver, board, writer),
@@ -254,8 +254,7 @@ where
             drain(site.means.rt, &mut receiver);
             CrewOutcome {
                 receiver,
-                standing: Err(Stop::Memory),
-                written: 0,
+                standing: Err(RunFault::Memory { written: 0 }),
             }
         }
     }

@@ -8,9 +8,9 @@ mod on_board;
 mod turns;
 mod writer;
 
+use crate::fault::RunFault;
 use crate::gate::{Gate, Open};
 use crate::starts::{Always, Starts};
-use crate::stop::Stop;
 use crate::tests::channel::{Came, NEXT, TEXT, listed};
 use crate::tests::in_threads::run_in_threads;
 use crate::tests::in_turn::run_in_turn;
@@ -27,9 +27,8 @@ use std::thread;
 use std::thread::Threads;
 
 /// What went out is the text, and all packets up to the next have passed.
-fn printed_all<R: Abort>(rt: &R, bytes: &[u8], written: u64, standing: Option<Standing>) {
+fn printed_all<R: Abort>(rt: &R, bytes: &[u8], standing: Option<Standing>) {
     assert_eq!(rt; bytes, TEXT);
-    assert_eq!(rt; written, TEXT.len() as u64);
     match standing {
         Some(standing) => {
             assert_eq!(rt; standing.next, NEXT);
@@ -48,7 +47,7 @@ fn in_turn_prints<R: Threads + Wait + Abort + Sync>(
 ) -> Result<(), Fail> {
     let came = run_in_turn(rt, alloc, listed, workers)?;
     assert!(rt; came.collected.is_ok());
-    printed_all(rt, &came.bytes, came.written, came.standing.ok());
+    printed_all(rt, &came.bytes, came.standing.ok());
     Ok(())
 }
 
@@ -80,7 +79,7 @@ fn threads_print<R: Threads + Wait + Abort + Sync>(
         0,
     )?;
     assert_eq!(rt; came.go, Some(true));
-    printed_all(rt, &came.bytes, came.written, came.standing.ok());
+    printed_all(rt, &came.bytes, came.standing.ok());
     Ok(())
 }
 
@@ -195,11 +194,11 @@ fn each_write_fails(rt: HostRuntime) -> Result<(), Fail> {
             Came::Channel,
             fail_at,
         )?;
-        assert_eq!(rt; came.written, came.bytes.len() as u64);
+        let written = came.bytes.len() as u64;
         assert!(rt; TEXT.starts_with(&came.bytes));
         match came.standing {
             Ok(_) => break,
-            Err(stop) => assert_eq!(rt; stop, Stop::Output),
+            Err(fault) => assert_eq!(rt; fault, RunFault::Output { written }),
         }
         failed = fail_at;
     }
@@ -223,7 +222,7 @@ fn a_failed_write_holds_nobody_back(rt: HostRuntime) -> Result<(), Fail> {
     )?;
     match came.standing {
         Ok(_) => panic!(rt; "no write failed"),
-        Err(stop) => assert_eq!(rt; stop, Stop::Output),
+        Err(fault) => assert_eq!(rt; fault, RunFault::Output { written: 0 }),
     }
     assert_eq!(rt; came.bytes.len(), 0);
     Ok(())

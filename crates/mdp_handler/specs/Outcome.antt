@@ -4,7 +4,7 @@ use Rattle.std.specs.Prelude.{◌≡◌, ℕ, ◌+◌, List, [], ◌++◌, ◌�
 use Rattle.clap.specs.Words.{Text}
 use Rattle.mdp_capture.specs.Capture.{CaptureContent, capture_of}
 use Rattle.mdp_capture.specs.declared.fault.CaptureRefusal.{CaptureRefusal}
-use Rattle.mdp_crew.specs.Counted.{HasCounted}
+use Rattle.mdp_print.specs.Written.{HasCounted}
 use Rattle.mdp_handler.specs.CommandLine.{AreSettings, AsksToRun, AsksToShow, HasFault}
 use Rattle.mdp_handler.specs.declared.settings.Settings.{Settings}
 use Rattle.mdp_handler.specs.Faults.{input_line, memory_line, output_line, refused_line, skipped_lines}

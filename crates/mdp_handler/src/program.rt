@@ -6,9 +6,8 @@ ghost use Rattle.mdp_handler.specs.CommandLine.{AreLawful, AsksToRun, shown_kind
 ghost use Rattle.mdp_handler.specs.Faults.{Tells, skipped_lines};
 ghost use Rattle.mdp_handler.specs.Outcome.{Fails, HasDone, HasFailed, HasFailedRun, HasFailedWrite, HasNoMemory, HasRefused, HasRefusedCapture, HasRun, HasStopped, effects};
 ghost use Rattle.mdp_handler.specs.Printed.{HasBegun, HasPrinted};
-ghost use Rattle.mdp_crew.specs.Counted.{HasCounted};
-ghost use Rattle.mdp_pipeline.specs.Counted.{written_before};
-ghost use Rattle.mdp_pipeline.specs.Faults.{FailsBy};
+ghost use Rattle.mdp_print.specs.Written.{HasCounted};
+ghost use Rattle.mdp_crew.specs.Faults.{FailsBy, written_before};
 ghost use Rattle.mdp_templates.specs.Instrument.{AreFit};
 
 use crate::faults::{tell, tell_input, tell_memory, tell_output, tell_refused, tell_skipped};

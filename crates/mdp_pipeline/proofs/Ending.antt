@@ -10,7 +10,7 @@ use Rattle.mdp_arbiter.proofs.Runs.{law_of_fronts}
 use Rattle.mdp_desks.specs.Moments.{Moment, moments, moments_after, shown_lines, text_of_moments}
 use Rattle.mdp_engine.specs.Engine.{View, Stands}
 use Rattle.mdp_arbiter.specs.declared.arbiter.Standing.{Standing}
-use Rattle.mdp_crew.specs.declared.stop.Stop.{Stop}
+use Rattle.mdp_crew.specs.declared.fault.RunFault.{RunFault}
 use Rattle.mdp_crew.specs.Outlets.{out}
 use Rattle.mdp_crew.specs.Running.{HasShown, HasShownAll, WentOut}
 use Rattle.mdp_desks.proofs.Moments.{moments-append, shown_lines-append}
@@ -20,7 +20,7 @@ use Rattle.mdp_reports.specs.BoardSteps.{step_of_moment}
 use Rattle.mdp_reports.proofs.Behind.{behind_in_end}
 use Rattle.mdp_crew.proofs.Leaving.{all_out, out_more}
 use Rattle.mdp_pipeline.specs.declared.progress.Run.{Run}
-use Rattle.mdp_pipeline.specs.declared.summary.RunFault.{RunFault}
+use Rattle.mdp_crew.specs.declared.fault.RunFault.{RunFault}
 use Rattle.mdp_pipeline.specs.declared.summary.Summary.{Summary}
 use Rattle.mdp_pipeline.specs.Merge.{Arrival}
 use Rattle.mdp_pipeline.specs.Output.{end_lines, end_text, shown_output, standing_in}
@@ -185,13 +185,13 @@ out_in_end channel events start taken after was now standing refusals n went sho
     }
 
 -- whatever the crew came to, a beginning went out of what it was to show
-went_out : (channel : ListedChannel) (events : List Event) (start taken : List ℕ) (was now : Option Published) (outcome : Result Standing Stop) → HasShown channel events (out start was) (out taken now) outcome
+went_out : (channel : ListedChannel) (events : List Event) (start taken : List ℕ) (was now : Option Published) (outcome : Result Standing RunFault) → HasShown channel events (out start was) (out taken now) outcome
     → WentOut (moments channel.listed (moves_of channel events)) [] (out start was) (out taken now)
 went_out channel events start taken was now (Ok standing) shown = all_out (moments channel.listed (moves_of channel events)) start taken was now shown.all.shown shown.all.published
-went_out channel events start taken was now (Err stop) shown = shown.some
+went_out channel events start taken was now (Err fault) shown = shown.some
 
 -- and of what more events show too, whatever stands behind that
-pub out_early : (channel : ListedChannel) (events more : List Event) (end start taken : List ℕ) (was now : Option Published) (outcome : Result Standing Stop) → HasShown channel events (out start was) (out taken now) outcome
+pub out_early : (channel : ListedChannel) (events more : List Event) (end start taken : List ℕ) (was now : Option Published) (outcome : Result Standing RunFault) → HasShown channel events (out start was) (out taken now) outcome
     → WentOut (moments channel.listed (moves_of channel (events ++ more))) end (out start was) (out taken now)
 out_early channel events more end start taken was now outcome shown =
     let machine = channel_of channel in

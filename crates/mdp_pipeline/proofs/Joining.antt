@@ -21,15 +21,15 @@ use Rattle.mdp_lanes.specs.Items.{is_same, items_of}
 use Rattle.mdp_lanes.specs.Queues.{IntakeReceiverView, IntakeSenderView, IsFreshSenderOf}
 use Rattle.mdp_arbiter.specs.declared.arbiter.Standing.{Standing}
 use Rattle.mdp_crew.specs.declared.batch.Batch.{Batch}
-use Rattle.mdp_crew.specs.declared.stop.Stop.{Stop}
+use Rattle.mdp_crew.specs.declared.fault.RunFault.{RunFault}
 use Rattle.mdp_crew.specs.Batches.{HasTakenMore, all_events, batch_events, events_taken}
 use Rattle.mdp_crew.specs.Outlets.{out}
 use Rattle.mdp_crew.specs.Publishing.{published_on}
 use Rattle.mdp_crew.specs.Running.{HasShown, HasShownAll, WentOut}
 use Rattle.mdp_crew.proofs.Boards.{published_nothing}
-use Rattle.mdp_crew.specs.Stops.{FailsByStop}
+use Rattle.mdp_crew.specs.Faults.{FailsBy}
 use Rattle.mdp_pipeline.specs.declared.reader.ReaderOutcome.{ReaderOutcome}
-use Rattle.mdp_pipeline.specs.declared.summary.RunFault.{RunFault}
+use Rattle.mdp_crew.specs.declared.fault.RunFault.{RunFault}
 use Rattle.mdp_pipeline.specs.declared.summary.Summary.{Summary}
 use Rattle.mdp_pipeline.specs.Taken.{HasReadFor, tagged_as, tagged_taken}
 use Rattle.mdp_pipeline.specs.Merge.{FeedRecords, arrivals}
@@ -356,20 +356,20 @@ module _ {A : Type 0} where
       ∙ rs
 
   pub ends_well : (receiver : IntakeReceiverView (Batch A)) (records : FeedRecords) (left_a left_b left_s : ReaderOutcome A) (joined : Joined receiver records left_a left_b left_s)
-      (taken after : List ℕ) (outcome : Result Standing Stop) (standing : Standing) (refusals : RefusalTexts) (result : Result Summary RunFault)
+      (taken after : List ℕ) (outcome : Result Standing RunFault) (standing : Standing) (refusals : RefusalTexts) (result : Result Summary RunFault)
       → outcome ≡ Ok standing → rest_in joined ≡ [] → joined_texts refusals ≡ refusals_text (readings_in joined)
       → IfOk result (λ (summary : Summary). standing_in summary ≡ standing) → OnOk result (after ≡ taken ++ end_text (joined_texts refusals) standing)
       → IfOk result (λ (summary : Summary). (channel : ListedChannel) (start : List ℕ) (was now : Option Published) → HasShown channel (events_taken receiver.taken) (out start was) (out taken now) outcome
       → SaysAll channel records (out start was) (out after now) (standing_in summary))
   ends_well receiver records left_a left_b left_s joined taken after outcome standing refusals (Ok summary) is none told tells went = λ channel start was now shown.
       let events = events_taken receiver.taken in
-      let all = subst (λ (o : Result Standing Stop). IfOk o (λ (st : Standing). HasShownAll channel events (out start was) (out taken now) st)) is shown.all in
+      let all = subst (λ (o : Result Standing RunFault). IfOk o (λ (st : Standing). HasShownAll channel events (out start was) (out taken now) st)) is shown.all in
       prints_merge receiver records left_a left_b left_s joined channel (joined_texts refusals) start after (standing_in summary) was now none told
       (told_as channel events (joined_texts refusals) start after standing (standing_in summary) tells (ends_behind channel events start taken after was now standing refusals went all)) all.published
   ends_well receiver records left_a left_b left_s joined taken after outcome standing refusals (Err fault) is none told tells went = tt
 
   pub ends_early : (receiver : IntakeReceiverView (Batch A)) (records : FeedRecords) (left_a left_b left_s : ReaderOutcome A) (joined : Joined receiver records left_a left_b left_s)
-      (taken after : List ℕ) (outcome : Result Standing Stop) (standing : Standing) (refusals : RefusalTexts) (result : Result Summary RunFault)
+      (taken after : List ℕ) (outcome : Result Standing RunFault) (standing : Standing) (refusals : RefusalTexts) (result : Result Summary RunFault)
       → outcome ≡ Ok standing → rest_in joined ≡ [] → joined_texts refusals ≡ refusals_text (readings_in joined)
       → IfErr result (λ (fault : RunFault). (n : ℕ) × (after ≡ taken ++ take n (end_text (joined_texts refusals) standing)))
       → IfErr result (λ (fault : RunFault). (channel : ListedChannel) (start : List ℕ) (was now : Option Published) → HasShown channel (events_taken receiver.taken) (out start was) (out taken now) outcome
@@ -377,7 +377,7 @@ module _ {A : Type 0} where
   ends_early receiver records left_a left_b left_s joined taken after outcome standing refusals (Ok summary) is none told begins = tt
   ends_early receiver records left_a left_b left_s joined taken after outcome standing refusals (Err fault) is none told begins = λ channel start was now shown.
       let events = events_taken receiver.taken in
-      let all = subst (λ (o : Result Standing Stop). IfOk o (λ (st : Standing). HasShownAll channel events (out start was) (out taken now) st)) is shown.all in
+      let all = subst (λ (o : Result Standing RunFault). IfOk o (λ (st : Standing). HasShownAll channel events (out start was) (out taken now) st)) is shown.all in
       begins_merge receiver records left_a left_b left_s joined channel start after was now
       (subst (λ (r : List ℕ). WentOut (moments channel.listed (moves_of channel (events ++ rest_in joined))) (end_lines channel r (events ++ rest_in joined)) (out start was) (out after now)) told
       (subst (λ (es : List Event). WentOut (moments channel.listed (moves_of channel es)) (end_lines channel (joined_texts refusals) es) (out start was) (out after now)) (sym (append-nil events) ∙ ap (λ (t : List Event). events ++ t) (sym none))
@@ -385,13 +385,13 @@ module _ {A : Type 0} where
 
   -- the crew stopped early, or a reader met want of memory
   pub ends_short : (receiver : IntakeReceiverView (Batch A)) (records : FeedRecords) (left_a left_b left_s : ReaderOutcome A) → Joined receiver records left_a left_b left_s
-      → (taken : List ℕ) (outcome : Result Standing Stop) (channel : ListedChannel) (start : List ℕ) (was now : Option Published) → HasShown channel (events_taken receiver.taken) (out start was) (out taken now) outcome
+      → (taken : List ℕ) (outcome : Result Standing RunFault) (channel : ListedChannel) (start : List ℕ) (was now : Option Published) → HasShown channel (events_taken receiver.taken) (out start was) (out taken now) outcome
       → SaysSome channel records (out start was) (out taken now)
   ends_short receiver records left_a left_b left_s joined taken outcome channel start was now shown =
       begins_merge receiver records left_a left_b left_s joined channel start taken was now
       (out_early channel (events_taken receiver.taken) (rest_in joined) (end_lines channel (refusals_text (readings_in joined)) (events_taken receiver.taken ++ rest_in joined)) start taken was now outcome shown)
 
 -- a run that has not stopped early met no failed write
-pub none_failed : (outcome : Result Standing Stop) (before after most : ℕ) → before < most → FailsByStop outcome before after → IfOk outcome (λ (standing : Standing). after < most)
+pub none_failed : (outcome : Result Standing RunFault) (before after most : ℕ) → before < most → FailsBy outcome before after → IfOk outcome (λ (standing : Standing). after < most)
 none_failed (Ok standing) before after most below fails = subst (λ (n : ℕ). n < most) (sym fails) below
-none_failed (Err stop) before after most below fails = tt
+none_failed (Err fault) before after most below fails = tt

@@ -13,7 +13,7 @@ use Rattle.mdp_arbiter.specs.Accepted.{Event}
 use Rattle.mdp_engine.proofs.Owing.{law_of_honest_moments}
 use Rattle.mdp_desks.specs.Moments.{text_of_moments}
 use Rattle.mdp_pipeline.specs.declared.summary.Summary.{Summary}
-use Rattle.mdp_pipeline.specs.declared.summary.RunFault.{RunFault}
+use Rattle.mdp_crew.specs.declared.fault.RunFault.{RunFault}
 use Rattle.mdp_pipeline.specs.Merge.{Arrival, FeedRecords, arrivals, by_line, in_order}
 use Rattle.mdp_pipeline.specs.Reading.{Reading, AreReadings, AreReadingsOf, IsReading, by_feed, events_of, is_on, readings_on, refusals_text}
 use Rattle.mdp_receiver.specs.Said.{brought_by}

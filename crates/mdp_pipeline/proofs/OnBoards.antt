@@ -9,7 +9,7 @@ use Rattle.mdp_reports.specs.BoardSteps.{board_steps, step_of_moment}
 use Rattle.mdp_engine.proofs.Owing.{law_of_honest_moments}
 use Rattle.mdp_crew.specs.Outlets.{out}
 use Rattle.mdp_crew.specs.Publishing.{published_on}
-use Rattle.mdp_pipeline.specs.declared.summary.RunFault.{RunFault}
+use Rattle.mdp_crew.specs.declared.fault.RunFault.{RunFault}
 use Rattle.mdp_pipeline.specs.declared.summary.Summary.{Summary}
 use Rattle.mdp_pipeline.specs.Output.{BeginsMerge, BeginsToPublishMerge, Ends, PrintsMerge, Publishes, PublishesMerge, SaysAll, SaysSome}
 use Rattle.mdp_arbiter.specs.Machine.{moves_of}

@@ -1,8 +1,7 @@
 -- What a run has written, record by record.
-use Rattle.std.proofs.Common.{◌≡◌, ℕ, Bool, true, false, cond, List, [], ◌∷◌, ◌++◌, length, refl, sym, ap, subst, ◌∙◌, append_assoc, arith}
-use Rattle.std.specs.Prelude.{Result, Ok, Err, IfOk, IfErr, ◌^◌, ◌-◌}
+use Rattle.std.proofs.Common.{◌≡◌, ℕ, Bool, true, false, cond, List, [], ◌∷◌, ◌++◌, length, length-append, refl, sym, ap, subst, ◌∙◌, append_assoc, arith}
+use Rattle.std.specs.Prelude.{Result, Ok, Err, IfOk, IfErr, ◌-◌}
 use Rattle.std.specs.List.{AllByRecursion}
-use Rattle.std.proofs.Math.Nat.{zero-min}
 use Rattle.std.proofs.lemmas.List.{append-nil, map-append}
 use Rattle.std.proofs.lemmas.List.Elements.{filter-append}
 use Rattle.std.proofs.lemmas.List.Concat.{flat_map-append}
@@ -14,16 +13,17 @@ use Rattle.mdp_arbiter.specs.Accepted.{Event}
 use Rattle.mdp_engine.specs.Engine.{Stands}
 use Rattle.mdp_pipeline.specs.declared.progress.Run.{Run}
 use Rattle.mdp_pipeline.specs.declared.summary.Summary.{Summary}
-use Rattle.mdp_pipeline.specs.declared.summary.RunFault.{RunFault}
-use Rattle.mdp_crew.specs.Counted.{HasCounted, saturating_count}
-use Rattle.mdp_pipeline.specs.Counted.{written_before}
+use Rattle.mdp_crew.specs.declared.fault.RunFault.{RunFault}
+use Rattle.mdp_print.specs.Written.{HasCounted}
+use Rattle.mdp_crew.specs.Faults.{written_before}
+use Rattle.mdp_crew.specs.Outlets.{Outlet}
 use Rattle.mdp_pipeline.specs.Merge.{Arrival, FeedRecords, in_order}
 use Rattle.mdp_pipeline.specs.Reading.{Reading, IsReading, AreReadings, events_of, is_on, readings_on, refusal_lines, refusal_text}
 use Rattle.mdp_receiver.specs.Said.{Said, brings, refused, brought_by, kind_of, refusal_in}
 use Rattle.mdp_pipeline.specs.RefusalTexts.{RefusalTexts, with_told}
 use Rattle.mdp_pipeline.specs.Running.{BeginsAll, EndsAs, EndsEarly, HasRun, HasWritten, PrintsAll, TakesAs, Writes, joined_texts, refusals_of}
 use Rattle.mdp_pipeline.proofs.Ending.{begins_all, prints_all, writes_shown}
-use Rattle.mdp_pipeline.specs.Output.{standing_in}
+use Rattle.mdp_pipeline.specs.Output.{BeginsByLine, PrintsByLine, SaysAll, SaysSome, standing_in}
 
 -- ---- a reading more
 
@@ -148,22 +148,38 @@ taken_all channel records start taken run ahead none so_far =
 
 -- ---- how much went out
 
-pub counted_none : (taken : List ℕ) → HasCounted taken taken 0
-counted_none taken =
-    let none : length taken - length taken ≡ 0 = omega arith in
-    record { grown = omega arith; count = sym (ap saturating_count none ∙ zero-min (2 ^ 64 - 1)) }
+counted_after : (start sent taken : List ℕ) (since written : ℕ) → since ≡ length start → taken ≡ start ++ sent → written ≡ length taken - since → HasCounted start taken written
+counted_after start sent taken since written begun went is = omega (arith, begun, ap length went, length-append start sent, is)
 
-pub run_counted : (start taken after : List ℕ) (written : ℕ) (result : Result Summary RunFault)
-    → IfOk result (λ (summary : Summary). (start : List ℕ) → HasCounted start taken written → HasCounted start after summary.written)
-    → HasCounted start taken written → IfOk result (λ (summary : Summary). HasCounted start after summary.written)
-run_counted start taken after written (Ok summary) counts so_far = counts start so_far
-run_counted start taken after written (Err fault) counts so_far = tt
+-- a run has ended, over threads or on one
+pub ended_counted : (channel : ListedChannel) (records : FeedRecords) (old new : Outlet) (since : ℕ) (result : Result Summary RunFault) → since ≡ length old.taken
+    → IfOk result (λ (summary : Summary). SaysAll channel records old new (standing_in summary))
+    → IfOk result (λ (summary : Summary). summary.written ≡ length new.taken - since) → IfOk result (λ (summary : Summary). HasCounted old.taken new.taken summary.written)
+ended_counted channel records old new since (Ok summary) begun says is = counted_after old.taken says.0 new.taken since summary.written begun says.2 is
+ended_counted channel records old new since (Err fault) begun says is = tt
 
-pub fault_counted : (start taken after : List ℕ) (written : ℕ) (result : Result Summary RunFault)
-    → IfErr result (λ (fault : RunFault). (start : List ℕ) → HasCounted start taken written → HasCounted start after (written_before fault))
-    → HasCounted start taken written → IfErr result (λ (fault : RunFault). HasCounted start after (written_before fault))
-fault_counted start taken after written (Ok summary) told so_far = tt
-fault_counted start taken after written (Err fault) told so_far = told start so_far
+pub stopped_counted : (channel : ListedChannel) (records : FeedRecords) (old new : Outlet) (since : ℕ) (result : Result Summary RunFault) → since ≡ length old.taken
+    → IfErr result (λ (fault : RunFault). SaysSome channel records old new)
+    → IfErr result (λ (fault : RunFault). written_before fault ≡ length new.taken - since) → IfErr result (λ (fault : RunFault). HasCounted old.taken new.taken (written_before fault))
+stopped_counted channel records old new since (Ok summary) begun says is = tt
+stopped_counted channel records old new since (Err fault) begun says is =
+    counted_after old.taken says.2.1.sent new.taken since (written_before fault) begun says.2.1.taken_is is
+
+pub printed_counted : (channel : ListedChannel) (records : FeedRecords) (start taken : List ℕ) (since : ℕ) (result : Result Summary RunFault) → since ≡ length start
+    → IfOk result (λ (summary : Summary). (text : List ℕ) × (taken ≡ start ++ text) × PrintsByLine channel records text (standing_in summary))
+    → IfOk result (λ (summary : Summary). summary.written ≡ length taken - since) → IfOk result (λ (summary : Summary). HasCounted start taken summary.written)
+printed_counted channel records start taken since (Ok summary) begun prints is = counted_after start prints.0 taken since summary.written begun prints.1 is
+printed_counted channel records start taken since (Err fault) begun prints is = tt
+
+pub begun_counted : (channel : ListedChannel) (records : FeedRecords) (start taken : List ℕ) (since : ℕ) (fault : RunFault) → since ≡ length start
+    → BeginsByLine channel records start taken → written_before fault ≡ length taken - since → HasCounted start taken (written_before fault)
+begun_counted channel records start taken since fault begun begins is = counted_after start begins.2.sent taken since (written_before fault) begun begins.2.taken_is is
+
+pub failed_counted : (channel : ListedChannel) (records : FeedRecords) (start taken : List ℕ) (since : ℕ) (result : Result Summary RunFault) → since ≡ length start
+    → IfErr result (λ (fault : RunFault). BeginsByLine channel records start taken)
+    → IfErr result (λ (fault : RunFault). written_before fault ≡ length taken - since) → IfErr result (λ (fault : RunFault). HasCounted start taken (written_before fault))
+failed_counted channel records start taken since (Ok summary) begun begins is = tt
+failed_counted channel records start taken since (Err fault) begun begins is = begun_counted channel records start taken since fault begun begins is
 
 -- a run over all records has ended
 pub run_printed : {A : Type 0} (channel : ListedChannel) (arrivals : List Arrival) (start taken after : List ℕ) (run : Run A) (result : Result Summary RunFault)

@@ -1,10 +1,8 @@
 pub mod Merge
 pub mod Reading
 pub mod Merging
-pub mod Counted
 pub mod Output
 pub mod RefusalTexts
 pub mod Running
-pub mod Faults
 pub mod Readers
 pub mod Taken

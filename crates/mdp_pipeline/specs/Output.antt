@@ -14,12 +14,12 @@ use Rattle.mdp_lanes.specs.declared.step.Step.{Step}
 use Rattle.mdp_reports.specs.Behind.{IsBehind}
 use Rattle.mdp_reports.specs.BoardSteps.{board_steps, owed_board_steps}
 use Rattle.mdp_crew.specs.Arbitrating.{IsNextNumber}
-use Rattle.mdp_crew.specs.Counted.{HasCounted}
+use Rattle.mdp_print.specs.Written.{HasCounted}
+use Rattle.mdp_crew.specs.Faults.{written_before}
 use Rattle.mdp_crew.specs.Outlets.{Outlet}
 use Rattle.mdp_crew.specs.Publishing.{published_on}
-use Rattle.mdp_pipeline.specs.declared.summary.RunFault.{RunFault}
+use Rattle.mdp_crew.specs.declared.fault.RunFault.{RunFault}
 use Rattle.mdp_pipeline.specs.declared.summary.Summary.{Summary}
-use Rattle.mdp_pipeline.specs.Counted.{written_before}
 use Rattle.mdp_pipeline.specs.Merge.{FeedRecords}
 use Rattle.mdp_pipeline.specs.Reading.{Readings, AreReadingsOf, refusals_text}
 use Rattle.mdp_pipeline.specs.Merging.{Tagged, IsMerge, IsByLine, events_in}

@@ -1,11 +1,10 @@
 //! A run on one thread, in the order of the capture's lines.
 
-ghost use Rattle.std.specs.Prelude.{◌≡◌, ◌<◌, ◌^◌, ◌-◌, ◌++◌, [], ℕ, List, take, IfOk, IfErr, OnOk};
+ghost use Rattle.std.specs.Prelude.{◌≡◌, ◌<◌, ◌^◌, ◌-◌, ◌++◌, [], ℕ, List, length, take, IfOk, IfErr, OnOk};
 ghost use Rattle.mdp_crew.specs.Arbitrating.{IsNextNumber};
-ghost use Rattle.mdp_crew.specs.Counted.{HasCounted};
+ghost use Rattle.mdp_print.specs.Written.{HasCounted};
 ghost use Rattle.mdp_crew.specs.Plan.{IsLawful, channel_in};
-ghost use Rattle.mdp_pipeline.specs.Counted.{written_before};
-ghost use Rattle.mdp_pipeline.specs.Faults.{FailsBy};
+ghost use Rattle.mdp_crew.specs.Faults.{FailsBy, written_before};
 ghost use Rattle.mdp_pipeline.specs.Merge.{records_in};
 ghost use Rattle.mdp_pipeline.specs.Output.{BeginsByLine, PrintsByLine, end_text, standing_in};
 ghost use Rattle.mdp_pipeline.specs.Running.{EndsAs, EndsEarly, HandsOn, HasWritten, joined_texts};
@@ -15,63 +14,34 @@ ghost use Rattle.mdp_arbiter.specs.Channel.{ListedChannel};
 use crate::feeds::Feeds;
 use crate::progress::Run;
 use crate::refusals::Refusals;
-use crate::summary::{RunFault, Summary};
+use crate::summary::Summary;
 use mdp_arbiter::Standing;
-use mdp_crew::RunPlan;
-use mdp_print::{CountedWrite, write_all_counted};
+use mdp_crew::{RunFault, RunPlan, hand_on, out_of_memory};
+use mdp_print::{CountedWrite, written_since};
 use std::alloc::Allocator;
 
 /// How many bytes of text are gathered before they are written.
 const PIECE: usize = 1 << 16;
 
-// Writes a text, and counts its bytes.
-fn hand_on<W: CountedWrite>(writer: &mut W, text: &[u8], written: &mut u64) -> Result<(), RunFault>
-    requires { W.failed writer.old < 2 ^ 64 - 1 }
-    ensures taken { OnOk result (W.taken writer.new ≡ W.taken writer.old ++ text.now) }
-    ensures begins { IfErr result (λ _. (n : ℕ)
-        × (W.taken writer.new ≡ W.taken writer.old ++ take n text.now)) }
-    ensures failed { FailsBy result (W.failed writer.old) (W.failed writer.new) }
-    ensures counts { OnOk result ((start : List ℕ)
-        → HasCounted start (W.taken writer.old) written.old
-        → HasCounted start (W.taken writer.new) written.new) }
-    ensures told { IfErr result (λ fault. (start : List ℕ)
-        → HasCounted start (W.taken writer.old) written.old
-        → HasCounted start (W.taken writer.new) (written_before fault)) }
-{
-    match write_all_counted(writer, text) {
-        Ok(()) => {
-            *written = written.saturating_add(text.len() as u64);
-            Ok(())
-        }
-        Err((count, _)) => Err(RunFault::Output {
-            written: written.saturating_add(count as u64),
-        }),
-    }
-}
-
 // Writes the lines that the handler holds where they are a piece, and lets them go.
 fn hand_on_pieces<W: CountedWrite, A: Allocator + Copy>(
     writer: &mut W,
     run: &mut Run<A>,
-    written: &mut u64,
+    since: u64,
 ) -> Result<(), RunFault>
     requires { W.failed writer.old < 2 ^ 64 - 1 }
     ensures hands_on { OnOk result (HandsOn (W.taken writer.old)
         (W.taken writer.new) run.old run.new) }
     ensures begins { IfErr result (λ _. (n : ℕ)
         × (W.taken writer.new ≡ W.taken writer.old ++ take n run.old.handler.held)) }
-    ensures counts { OnOk result ((start : List ℕ)
-        → HasCounted start (W.taken writer.old) written.old
-        → HasCounted start (W.taken writer.new) written.new) }
-    ensures told { IfErr result (λ fault. (start : List ℕ)
-        → HasCounted start (W.taken writer.old) written.old
-        → HasCounted start (W.taken writer.new) (written_before fault)) }
+    ensures told { IfErr result (λ fault.
+        written_before fault ≡ length (W.taken writer.new) - since) }
     ensures failed { FailsBy result (W.failed writer.old) (W.failed writer.new) }
 {
     if run.handler.lines().len() < PIECE {
         return Ok(());
     }
-    hand_on(writer, run.handler.lines(), written)?;
+    hand_on(writer, run.handler.lines(), since)?;
     run.handler.clear_lines();
     Ok(())
 }
@@ -106,24 +76,24 @@ pub fn run_in_order<W: CountedWrite, A: Allocator + Copy>(
     ensures range { IfOk result (λ summary. IsNextNumber summary.next) }
     ensures failed { FailsBy result (W.failed writer.old) (W.failed writer.new) }
 {
-    let mut written = 0;
+    let since = writer.written();
     let Ok(mut run) = Run::new(alloc, plan) else {
-        return Err(RunFault::Memory { written });
+        return Err(out_of_memory(writer, since));
     };
     while let Some((feed, record)) = feeds.next_by_line() {
         let Ok(()) = run.take(alloc, feed, record) else {
-            return Err(RunFault::Memory { written });
+            return Err(out_of_memory(writer, since));
         };
-        hand_on_pieces(writer, &mut run, &mut written)?;
+        hand_on_pieces(writer, &mut run, since)?;
     }
-    finish(writer, run, written)
+    finish(writer, run, since)
 }
 
 // Writes the lines that the handler still holds, the refusals and the last line.
 fn finish<W: CountedWrite, A: Allocator + Copy>(
     writer: &mut W,
     run: Run<A>,
-    mut written: u64,
+    since: u64,
 ) -> Result<Summary, RunFault>
     requires { W.failed writer.old < 2 ^ 64 - 1 }
     ensures text { IfOk result (λ summary. (channel : ListedChannel) (events : List Event)
@@ -135,12 +105,10 @@ fn finish<W: CountedWrite, A: Allocator + Copy>(
         (start : List ℕ) →
         HasWritten channel events start (W.taken writer.old) run.handler →
         EndsEarly channel events (joined_texts run.refusals) start (W.taken writer.new)) }
-    ensures counts { IfOk result (λ summary. (start : List ℕ)
-        → HasCounted start (W.taken writer.old) written
-        → HasCounted start (W.taken writer.new) summary.written) }
-    ensures told { IfErr result (λ fault. (start : List ℕ)
-        → HasCounted start (W.taken writer.old) written
-        → HasCounted start (W.taken writer.new) (written_before fault)) }
+    ensures written { IfOk result (λ summary.
+        summary.written ≡ length (W.taken writer.new) - since) }
+    ensures told { IfErr result (λ fault.
+        written_before fault ≡ length (W.taken writer.new) - since) }
     ensures range { IfOk result (λ summary. IsNextNumber summary.next) }
     ensures failed { FailsBy result (W.failed writer.old) (W.failed writer.new) }
 {
@@ -149,16 +117,17 @@ fn finish<W: CountedWrite, A: Allocator + Copy>(
         next: handler.next(),
         lost: handler.lost(),
     };
-    hand_on(writer, handler.lines(), &mut written)?;
-    write_end(writer, refusals, standing, written)
+    hand_on(writer, handler.lines(), since)?;
+    write_end(writer, refusals, standing, since)
 }
 
-/// Writes the lines of the refused datagrams and the last line, after all others.
+/// Writes the lines of the refused datagrams and the last line, after all others of a run that began after the writer had taken
+/// `since` bytes.
 pub fn write_end<W: CountedWrite, A: Allocator + Copy>(
     writer: &mut W,
     refusals: Refusals<A>,
     standing: Standing,
-    mut written: u64,
+    since: u64,
 ) -> Result<Summary, RunFault>
     requires { W.failed writer.old < 2 ^ 64 - 1 }
     ensures stands { IfOk result (λ summary. standing_in summary ≡ standing) }
@@ -166,22 +135,20 @@ pub fn write_end<W: CountedWrite, A: Allocator + Copy>(
         ++ end_text (joined_texts refusals) standing) }
     ensures begins { IfErr result (λ _. (n : ℕ) × (W.taken writer.new
         ≡ W.taken writer.old ++ take n (end_text (joined_texts refusals) standing))) }
-    ensures counts { IfOk result (λ summary. (start : List ℕ)
-        → HasCounted start (W.taken writer.old) written
-        → HasCounted start (W.taken writer.new) summary.written) }
-    ensures told { IfErr result (λ fault. (start : List ℕ)
-        → HasCounted start (W.taken writer.old) written
-        → HasCounted start (W.taken writer.new) (written_before fault)) }
+    ensures written { IfOk result (λ summary.
+        summary.written ≡ length (W.taken writer.new) - since) }
+    ensures told { IfErr result (λ fault.
+        written_before fault ≡ length (W.taken writer.new) - since) }
     ensures failed { FailsBy result (W.failed writer.old) (W.failed writer.new) }
 {
     let Standing { next, lost } = standing;
     let Ok(end) = refusals.into_end(next, lost) else {
-        return Err(RunFault::Memory { written });
+        return Err(out_of_memory(writer, since));
     };
-    hand_on(writer, &end, &mut written)?;
+    hand_on(writer, &end, since)?;
     Ok(Summary {
         next,
         lost,
-        written,
+        written: written_since(writer, since),
     })
 }

@@ -16,6 +16,6 @@ mod threads;
 
 pub use feeds::Feeds;
 pub use in_order::run_in_order;
-pub use mdp_crew::RunPlan;
-pub use summary::{RunFault, Summary};
+pub use mdp_crew::{RunFault, RunPlan};
+pub use summary::Summary;
 pub use threads::{run, run_published};

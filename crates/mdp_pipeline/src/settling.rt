@@ -1,18 +1,15 @@
 //! The end of a run over threads, where what the readers sent and what was taken of them come
 //! together.
 
-ghost use Rattle.std.specs.Prelude.{◌≡◌, ◌<◌, ◌^◌, ◌-◌, ℕ, List, Option, IfErr, IfOk};
+ghost use Rattle.std.specs.Prelude.{◌≡◌, ◌<◌, ◌^◌, ◌-◌, ℕ, List, Option, length, IfErr, IfOk};
 ghost use Rattle.mdp_lanes.specs.Boards.{Published};
 ghost use Rattle.mdp_lanes.specs.Items.{ends_taken};
 ghost use Rattle.mdp_arbiter.specs.Channel.{ListedChannel};
 ghost use Rattle.mdp_crew.specs.Arbitrating.{IsNextNumber};
 ghost use Rattle.mdp_crew.specs.Batches.{events_taken};
-ghost use Rattle.mdp_crew.specs.Counted.{HasCounted};
+ghost use Rattle.mdp_crew.specs.Faults.{FailsBy, written_before};
 ghost use Rattle.mdp_crew.specs.Outlets.{out};
 ghost use Rattle.mdp_crew.specs.Running.{HasShown};
-ghost use Rattle.mdp_crew.specs.Stops.{FailsByStop};
-ghost use Rattle.mdp_pipeline.specs.Counted.{written_before};
-ghost use Rattle.mdp_pipeline.specs.Faults.{FailsBy};
 ghost use Rattle.mdp_pipeline.specs.Merge.{records_in};
 ghost use Rattle.mdp_pipeline.specs.Output.{SaysAll, SaysSome, standing_in};
 ghost use Rattle.mdp_pipeline.specs.Taken.{HasReadFor};
@@ -21,8 +18,8 @@ use crate::feeds::Feeds;
 use crate::in_order::write_end;
 use crate::reader::ReaderOutcome;
 use crate::refusals::Refusals;
-use crate::summary::{RunFault, Summary};
-use mdp_crew::{CrewOutcome, Stop};
+use crate::summary::Summary;
+use mdp_crew::{CrewOutcome, RunFault, out_of_memory};
 use mdp_lanes::Intake;
 use mdp_print::CountedWrite;
 use mdp_templates::Feed;
@@ -37,14 +34,17 @@ pub struct Readers<A: Allocator + Copy> {
 }
 
 /// Settles the readers' queue, and writes the end of the text, unless the crew stopped early or
-/// memory ran out in a reader.
+/// memory ran out in a reader. `since` is how many bytes the writer had taken before the run.
 pub fn settle_and_finish<W: CountedWrite, A: Allocator + Copy>(
     writer: &mut W,
     crew: CrewOutcome<A>,
     readers: Readers<A>,
     feeds: Feeds<'_, A>,
+    since: u64,
 ) -> Result<Summary, RunFault>
     requires sound { IfOk crew.standing (λ _. W.failed writer.old < 2 ^ 64 - 1) }
+    requires told { IfErr crew.standing (λ fault.
+        written_before fault ≡ length (W.taken writer.old) - since) }
     requires range { IfOk crew.standing (λ standing. IsNextNumber standing.next) }
     requires ends { ends_taken (λ b. b.is_last) crew.receiver.taken ≡ 3 }
     requires a { HasReadFor crew.receiver Feed.A feeds.a.now readers.a }
@@ -62,41 +62,31 @@ pub fn settle_and_finish<W: CountedWrite, A: Allocator + Copy>(
         (out start before) (out (W.taken writer.old) after) crew.standing
         → SaysSome channel (records_in feeds.entry)
         (out start before) (out (W.taken writer.new) after)) }
-    ensures counts { IfOk result (λ summary. (start : List ℕ)
-        → HasCounted start (W.taken writer.old) crew.written
-        → HasCounted start (W.taken writer.new) summary.written) }
-    ensures told { IfErr result (λ fault. (start : List ℕ)
-        → HasCounted start (W.taken writer.old) crew.written
-        → HasCounted start (W.taken writer.new) (written_before fault)) }
+    ensures written { IfOk result (λ summary.
+        summary.written ≡ length (W.taken writer.new) - since) }
+    ensures told { IfErr result (λ fault.
+        written_before fault ≡ length (W.taken writer.new) - since) }
     ensures range { IfOk result (λ summary. IsNextNumber summary.next) }
-    ensures failed { (before : ℕ) → FailsByStop crew.standing before (W.failed writer.old)
+    ensures failed { (before : ℕ) → FailsBy crew.standing before (W.failed writer.old)
         → FailsBy result before (W.failed writer.new) }
 {
-    let CrewOutcome {
-        receiver,
-        standing,
-        written,
-    } = crew;
+    let CrewOutcome { receiver, standing } = crew;
     let Readers {
         a: left_a,
         b: left_b,
         s: left_s,
     } = readers;
     Intake::settle(receiver, left_a.sender, left_b.sender, left_s.sender);
-    let standing = match standing {
-        Ok(standing) => standing,
-        Err(Stop::Memory) => return Err(RunFault::Memory { written }),
-        Err(Stop::Output) => return Err(RunFault::Output { written }),
-    };
+    let standing = standing?;
     let Ok(refused_a) = left_a.refusals else {
-        return Err(RunFault::Memory { written });
+        return Err(out_of_memory(writer, since));
     };
     let Ok(refused_b) = left_b.refusals else {
-        return Err(RunFault::Memory { written });
+        return Err(out_of_memory(writer, since));
     };
     let Ok(refused_s) = left_s.refusals else {
-        return Err(RunFault::Memory { written });
+        return Err(out_of_memory(writer, since));
     };
     let refusals = Refusals::of(refused_a, refused_b, refused_s);
-    write_end(writer, refusals, standing, written)
+    write_end(writer, refusals, standing, since)
 }

@@ -1,7 +1,5 @@
 //! What became of a run.
 
-use thiserror::Error;
-
 /// What a run came to. The number of bytes stays at 2^64 - 1 once it is there.
 #[derive(Clone, Copy, Debug, PartialEq, Eq)]
 pub struct Summary {
@@ -12,16 +10,4 @@ pub struct Summary {
     pub lost: bool,
     /// How many bytes were written.
     pub written: u64,
-}
-
-/// Why a run ended early, with the number of bytes that went out before. They are a beginning of what the whole
-/// run prints.
-#[derive(Clone, Copy, Debug, PartialEq, Eq, Error)]
-pub enum RunFault {
-    /// Memory ran out.
-    #[error("41 Memory")]
-    Memory { written: u64 },
-    /// A write failed.
-    #[error("42 Output after {written} bytes")]
-    Output { written: u64 },
 }

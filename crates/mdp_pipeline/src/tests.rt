@@ -11,11 +11,11 @@ mod ways;
 ghost use Rattle.std.specs.Prelude.{◌≤◌};
 
 use crate::feeds::Feeds;
-use crate::summary::{RunFault, Summary};
+use crate::summary::Summary;
 use crate::threads::run_where;
 use mdp_arbiter::Start;
 use mdp_capture::{CountingReader, read_capture};
-use mdp_crew::{Always, Gate, Means, Open, RunPlan, Starts};
+use mdp_crew::{Always, Gate, Means, Open, RunFault, RunPlan, Starts};
 use refusing::Refusing;
 use std::alloc::{Allocator, Global};
 use std::process::Abort;

@@ -3,11 +3,10 @@
 ghost use Rattle.std.specs.Prelude.{◌≡◌, ◌≤◌, ◌<◌, ◌^◌, ◌-◌, ◌++◌, ℕ, List, IfErr, IfOk, MatchResult, false};
 ghost use Rattle.mdp_lanes.specs.declared.step.Step.{Step};
 ghost use Rattle.mdp_crew.specs.Arbitrating.{IsNextNumber};
-ghost use Rattle.mdp_crew.specs.Counted.{HasCounted};
+ghost use Rattle.mdp_print.specs.Written.{HasCounted};
+ghost use Rattle.mdp_crew.specs.Faults.{FailsBy, written_before};
 ghost use Rattle.mdp_crew.specs.Outlets.{out};
 ghost use Rattle.mdp_crew.specs.Plan.{IsLawful, channel_in};
-ghost use Rattle.mdp_pipeline.specs.Counted.{written_before};
-ghost use Rattle.mdp_pipeline.specs.Faults.{FailsBy};
 ghost use Rattle.mdp_pipeline.specs.Merge.{records_in};
 ghost use Rattle.mdp_pipeline.specs.Output.{BeginsMerge, BeginsToPublishMerge, Ends, PrintsMerge, PublishesMerge, standing_in};
 ghost use Rattle.mdp_pipeline.specs.Readers.{HasRead, has_ended};
@@ -16,9 +15,11 @@ use crate::feeds::Feeds;
 use crate::pace::Pace;
 use crate::reader::{ReaderOutcome, number_of, read_feed};
 use crate::settling::{Readers, settle_and_finish};
-use crate::summary::{RunFault, Summary};
+use crate::summary::Summary;
 use mdp_capture::Record;
-use mdp_crew::{Always, Batch, Begun, Gate, Means, RunPlan, Site, Starts, begin, join, run_crew};
+use mdp_crew::{
+    Always, Batch, Begun, Gate, Means, RunFault, RunPlan, Site, Starts, begin, join, run_crew,
+};
 use mdp_lanes::{Intake, IntakeSender, Publisher};
 use mdp_print::CountedWrite;
 use mdp_templates::Feed;
@@ -113,13 +114,14 @@ where
     let reads_a = begin_reader(site, pace, Feed::A, feeds.a, to_a);
     let reads_b = begin_reader(site, pace, Feed::B, feeds.b, to_b);
     let reads_s = begin_reader(site, pace, Feed::S, feeds.s, to_s);
+    let since = writer.written();
     let crew = run_crew(site, plan, receiver, board, writer);
     let readers = Readers {
         a: join(site.means.rt, reads_a),
         b: join(site.means.rt, reads_b),
         s: join(site.means.rt, reads_s),
     };
-    settle_and_finish(writer, crew, readers, feeds)
+    settle_and_finish(writer, crew, readers, feeds, since)
 }
 
 /// Runs as [`run_published`] does where there is a board, and else as [`run`]; a thread that may

@@ -24,4 +24,4 @@ pub use head::Head;
 pub use mdp_books::ShortText;
 pub use status_lines::{put_fault, put_jump, put_last, put_refusal};
 pub use verdict_lines::put_audit;
-pub use writing::{CountedWrite, write_all_counted};
+pub use writing::{CountedWrite, write_all_counted, written_since};

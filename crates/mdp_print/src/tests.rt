@@ -260,6 +260,10 @@ impl CountedWrite for Slow {
     fn failures(&self) -> u64 {
         self.failures
     }
+
+    fn written(&self) -> u64 {
+        self.bytes.len() as u64
+    }
 }
 
 #[test]

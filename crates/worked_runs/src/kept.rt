@@ -87,4 +87,8 @@ impl CountedWrite for Kept {
     fn failures(&self) -> u64 {
         self.failures
     }
+
+    fn written(&self) -> u64 {
+        self.bytes.len() as u64
+    }
 }

@@ -2,10 +2,10 @@
 
 ghost use Rattle.std.specs.Prelude.{◌≡◌};
 
+use crate::fault::RunFault;
 use crate::gate::Gate;
 use crate::running::run_crew;
 use crate::starts::Starts;
-use crate::stop::Stop;
 use crate::tests::channel::{Came, handed_over};
 use crate::tests::writer::slow_writer;
 use crate::{CrewOutcome, Means, RunPlan, Site};
@@ -17,12 +17,11 @@ use std::thread;
 use std::thread::{Scope, Threads};
 use worked_runs::Kept;
 
-/// What a crew in threads comes to: what it says, the bytes that it wrote with their number, and what it told the readers.
+/// What a crew in threads comes to: what it says, the bytes that it wrote, and what it told the readers.
 #[derive(Drop)]
 pub struct InThreads {
-    pub standing: Result<Standing, Stop>,
+    pub standing: Result<Standing, RunFault>,
     pub bytes: Vec<u8>,
-    pub written: u64,
     pub go: Option<bool>,
 }
 
@@ -53,7 +52,6 @@ where
     let CrewOutcome {
         receiver: _receiver,
         standing,
-        written,
     } = run_crew(
         &site,
         RunPlan {
@@ -72,7 +70,6 @@ where
     Ok(InThreads {
         standing,
         bytes: kept.bytes,
-        written,
         go: go.get().copied(),
     })
 }

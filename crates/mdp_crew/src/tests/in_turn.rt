@@ -6,10 +6,10 @@ ghost use Rattle.mdp_templates.specs.Instrument.{AreFit};
 use crate::arbiter::arbitrate;
 use crate::collector::Collecting;
 use crate::crew::{AnswersOrders, Post};
+use crate::fault::RunFault;
 use crate::gate::Open;
 use crate::order::Order;
 use crate::share::Share;
-use crate::stop::Stop;
 use crate::tests::channel::{Came, handed_over};
 use crate::tests::writer::slow_writer;
 use crate::worker::{WorkerEnds, work};
@@ -101,12 +101,11 @@ fn posts_of<'s, E, R: Threads + Wait + Sync>(
     Ok(posts)
 }
 
-/// What a crew in one thread comes to: what the collector says, the bytes that it wrote with their number, and what the arbiter says.
+/// What a crew in one thread comes to: what the collector says, the bytes that it wrote, and what the arbiter says.
 #[derive(Drop)]
 pub struct InTurn {
-    pub collected: Result<(), Stop>,
+    pub collected: Result<(), RunFault>,
     pub bytes: Vec<u8>,
-    pub written: u64,
     pub standing: Result<Standing, Memory>,
 }
 
@@ -123,17 +122,15 @@ fn collect_all<'s, R: Threads + Wait>(
     let collector = Collector::new(alloc, listed)?;
     let round = Vec::with_capacity(alloc, posts.len())?;
     let mut collecting = Collecting::new(alloc, collector, round, posts);
-    let mut written = 0;
     let mut board = None;
     let mut kept = slow_writer(alloc, 0);
-    let collected = collecting.collect(rt, alloc, &mut written, &mut board, &mut kept);
+    let collected = collecting.collect(rt, alloc, 0, &mut board, &mut kept);
     if let Some(publisher) = board {
         publisher.end(rt);
     }
     Ok(InTurn {
         collected,
         bytes: kept.bytes,
-        written,
         standing,
     })
 }

@@ -112,7 +112,6 @@ where
     let CrewOutcome {
         receiver: _receiver,
         standing,
-        written: _written,
     } = run_crew(
         &site,
         RunPlan {

@@ -5,11 +5,11 @@ ghost use Rattle.std.specs.Prelude.{◌≡◌, ◌≤◌, IfSome};
 ghost use Rattle.mdp_lanes.specs.Boards.{IsFreshReader};
 
 use crate::feeds::Feeds;
-use crate::summary::{RunFault, Summary};
+use crate::summary::Summary;
 use crate::threads::{run, run_published};
 use mdp_arbiter::Start;
 use mdp_capture::{CountingReader, read_capture};
-use mdp_crew::{Open, RunPlan};
+use mdp_crew::{Open, RunFault, RunPlan};
 use mdp_lanes::{Board, Publisher, Reader, Row};
 use mdp_print::CountedWrite;
 use mdp_quotes::Total;
@@ -64,6 +64,10 @@ impl CountedWrite for Kept {
 
     fn failures(&self) -> u64 {
         self.failures
+    }
+
+    fn written(&self) -> u64 {
+        self.bytes.len() as u64
     }
 }
 

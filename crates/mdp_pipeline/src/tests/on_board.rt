@@ -4,12 +4,12 @@ ghost use Rattle.std.specs.Prelude.{◌≡◌, ◌≤◌, IfSome};
 ghost use Rattle.mdp_lanes.specs.Boards.{IsFreshReader};
 
 use crate::feeds::Feeds;
-use crate::summary::{RunFault, Summary};
+use crate::summary::Summary;
 use crate::tests::Kept;
 use crate::threads::run_published;
 use mdp_arbiter::Start;
 use mdp_capture::{CountingReader, read_capture};
-use mdp_crew::{Open, RunPlan};
+use mdp_crew::{Open, RunFault, RunPlan};
 use mdp_lanes::{Board, Publisher, Reader, Row};
 use mdp_quotes::Total;
 use refusing::Refusing;

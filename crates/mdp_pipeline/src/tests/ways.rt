@@ -5,11 +5,11 @@ ghost use Rattle.mdp_templates.specs.Instrument.{AreFit};
 
 use crate::feeds::Feeds;
 use crate::in_order::run_in_order;
-use crate::summary::{RunFault, Summary};
+use crate::summary::Summary;
 use crate::threads::{run, run_published};
 use mdp_arbiter::Start;
 use mdp_capture::{Capture, CountingReader, read_capture};
-use mdp_crew::{Open, RunPlan};
+use mdp_crew::{Open, RunFault, RunPlan};
 use mdp_lanes::Board;
 use std::alloc::Allocator;
 use std::sync::Wait;

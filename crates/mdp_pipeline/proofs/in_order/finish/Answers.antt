@@ -3,7 +3,7 @@ use Rattle.std.proofs.lemmas.Result.{err_from_is_err_and}
 use Rattle.mdp_arbiter.specs.declared.arbiter.Standing.{Standing}
 use Rattle.mdp_crew.specs.Arbitrating.{IsNextNumber}
 use Rattle.mdp_pipeline.proofs.Ending.{early_here, early_of, ends_of, tells_both}
-use Rattle.mdp_pipeline.proofs.Joining.{map_err, map_ok}
+use Rattle.mdp_pipeline.proofs.Joining.{map_ok}
 use Rattle.mdp_pipeline.specs.Running.{joined_texts}
 use Rattle.mdp_pipeline.proofs.in_order.finish.Goals as goal
 
@@ -26,13 +26,6 @@ returns-in_err-hand_on-clause-begins g c =
     let front = c.in_err-hand_on.ensures.begins in
     early_here channel events (joined_texts c.args.run.refusals) start (g.W.CountedWrite.taken c.args.writer.now) (g.W.CountedWrite.taken c.hand_on.new.writer) c.args.run.handler front.0
     (front.1 ∙ ap (λ (t : List ℕ). g.W.CountedWrite.taken c.args.writer.now ++ take front.0 t) c.lines.ensures) so_far)
-
--- what both writes took
-pub returns-clause-counts : goal.returns-clause-counts
-returns-clause-counts g c = map_ok c.write_end.result _ _ (λ summary counts start so_far. counts start (c.in_ok-hand_on.ensures.counts start so_far)) c.write_end.ensures.counts
-
-pub returns-clause-told : goal.returns-clause-told
-returns-clause-told g c = map_err c.write_end.result _ _ (λ fault counts start so_far. counts start (c.in_ok-hand_on.ensures.counts start so_far)) c.write_end.ensures.told
 
 pub returns-in_err-hand_on-clause-told : goal.returns-in_err-hand_on-clause-told
 returns-in_err-hand_on-clause-told g c =

@@ -1,8 +1,9 @@
-use Rattle.std.proofs.Common.{◌∙◌, refl}
+use Rattle.std.proofs.Common.{◌∙◌, ap, refl}
 use Rattle.std.proofs.lemmas.Result.{err_from_is_err_and}
+use Rattle.mdp_crew.specs.Faults.{written_before}
 use Rattle.mdp_crew.specs.Plan.{channel_in}
 use Rattle.mdp_pipeline.specs.Merge.{in_order, records_in}
-use Rattle.mdp_pipeline.proofs.Written.{taken_none, taken_more, taken_all, run_begins, run_printed, run_counted, fault_counted, counted_none}
+use Rattle.mdp_pipeline.proofs.Written.{taken_none, taken_more, taken_all, run_begins, run_printed, begun_counted, failed_counted, printed_counted}
 use Rattle.mdp_pipeline.proofs.Beginnings.{begins_none, taken_begins, piece_begins}
 use Rattle.mdp_pipeline.proofs.Ending.{writes_on}
 use Rattle.mdp_pipeline.proofs.Merges.{begins_by_line, ended_by_line, failed_by_line}
@@ -14,7 +15,6 @@ loop-feed-init g c =
     let start = g.W.CountedWrite.taken c.args.writer.now in
     record {
       taken = taken_none (channel_in c.args.plan) (records_in c.args.feeds) start run c.in-Ok.ensures.run;
-      counts = counted_none start;
       failed = refl;
     }
 
@@ -27,14 +27,8 @@ loop-feed-preserved g c =
       taken = taken_more (channel_in c.args.plan) (records_in c.args.feeds) start (g.W.CountedWrite.taken c.loop-feed.writer) (g.W.CountedWrite.taken c.hand_on_pieces.new.writer)
           c.loop-feed.run c.take.new.self c.hand_on_pieces.new.run (records_in here) (records_in there) c.in-Some.feed c.in-Some.record.now
           c.in-Some.ensures c.in-Ok-take.ensures (λ arrivals. writes_on (channel_in c.args.plan) arrivals start (g.W.CountedWrite.taken c.loop-feed.writer) (g.W.CountedWrite.taken c.hand_on_pieces.new.writer) c.take.new.self c.hand_on_pieces.new.run c.in_ok-hand_on_pieces.ensures.hands_on) c.loop-feed.invariant.taken;
-      counts = c.in_ok-hand_on_pieces.ensures.counts start c.loop-feed.invariant.counts;
       failed = c.in_ok-hand_on_pieces.ensures.failed ∙ c.loop-feed.invariant.failed;
     }
-
-pub returns-in_err-hand_on_pieces-clause-told : goal.returns-in_err-hand_on_pieces-clause-told
-returns-in_err-hand_on_pieces-clause-told g c =
-    let fault = err_from_is_err_and c.from_residual.result c.from_residual.ensures.1 in
-    rw (fault.1, fault.2) (c.in_err-hand_on_pieces.ensures.told _ c.loop-feed.invariant.counts)
 
 pub returns-in_err-hand_on_pieces-clause-failed : goal.returns-in_err-hand_on_pieces-clause-failed
 returns-in_err-hand_on_pieces-clause-failed g c =
@@ -53,11 +47,8 @@ returns-clause-text g c =
 
 pub returns-clause-written : goal.returns-clause-written
 returns-clause-written g c =
-    run_counted (g.W.CountedWrite.taken c.args.writer.now) (g.W.CountedWrite.taken c.loop-feed.writer) (g.W.CountedWrite.taken c.finish.new.writer) c.loop-feed.written c.finish.result c.finish.ensures.counts c.loop-feed.invariant.counts
-
-pub returns-clause-told : goal.returns-clause-told
-returns-clause-told g c =
-    fault_counted (g.W.CountedWrite.taken c.args.writer.now) (g.W.CountedWrite.taken c.loop-feed.writer) (g.W.CountedWrite.taken c.finish.new.writer) c.loop-feed.written c.finish.result c.finish.ensures.told c.loop-feed.invariant.counts
+    printed_counted (channel_in c.args.plan) (records_in c.args.feeds) (g.W.CountedWrite.taken c.args.writer.now) (g.W.CountedWrite.taken c.finish.new.writer) c.written.result c.finish.result
+    c.written.ensures (returns-clause-text g c) c.finish.ensures.written
 
 -- no run was made
 pub returns-in_default-clause-begins : goal.returns-in_default-clause-begins
@@ -96,3 +87,26 @@ returns-clause-begins g c =
     let writes = taken_all (channel_in c.args.plan) (records_in c.args.feeds) start taken run (records_in here) c.in_default-next_by_line.ensures c.loop-feed.invariant.taken in
     failed_by_line (channel_in c.args.plan) (records_in c.args.feeds) start (g.W.CountedWrite.taken c.finish.new.writer) c.finish.result
     (run_begins (channel_in c.args.plan) (in_order (records_in c.args.feeds)) start taken (g.W.CountedWrite.taken c.finish.new.writer) run c.finish.result c.finish.ensures.begins writes)
+
+-- ---- how many bytes went out before a fault
+
+pub returns-in_default-clause-told : goal.returns-in_default-clause-told
+returns-in_default-clause-told g c =
+    let start = g.W.CountedWrite.taken c.args.writer.now in
+    begun_counted (channel_in c.args.plan) (records_in c.args.feeds) start start c.written.result c.out_of_memory.result c.written.ensures (returns-in_default-clause-begins g c) (ap written_before c.out_of_memory.ensures)
+
+pub returns-in_default-take-clause-told : goal.returns-in_default-take-clause-told
+returns-in_default-take-clause-told g c =
+    begun_counted (channel_in c.args.plan) (records_in c.args.feeds) (g.W.CountedWrite.taken c.args.writer.now) (g.W.CountedWrite.taken c.loop-feed.writer) c.written.result c.out_of_memory.result
+    c.written.ensures (returns-in_default-take-clause-begins g c) (ap written_before c.out_of_memory.ensures)
+
+pub returns-in_err-hand_on_pieces-clause-told : goal.returns-in_err-hand_on_pieces-clause-told
+returns-in_err-hand_on_pieces-clause-told g c =
+    let fault = err_from_is_err_and c.from_residual.result c.from_residual.ensures.1 in
+    failed_counted (channel_in c.args.plan) (records_in c.args.feeds) (g.W.CountedWrite.taken c.args.writer.now) (g.W.CountedWrite.taken c.hand_on_pieces.new.writer) c.written.result c.from_residual.result
+    c.written.ensures (returns-in_err-hand_on_pieces-clause-begins g c) (rw (fault.1, fault.2) c.in_err-hand_on_pieces.ensures.told)
+
+pub returns-clause-told : goal.returns-clause-told
+returns-clause-told g c =
+    failed_counted (channel_in c.args.plan) (records_in c.args.feeds) (g.W.CountedWrite.taken c.args.writer.now) (g.W.CountedWrite.taken c.finish.new.writer) c.written.result c.finish.result
+    c.written.ensures (returns-clause-begins g c) c.finish.ensures.told

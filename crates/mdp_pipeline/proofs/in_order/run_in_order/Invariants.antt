@@ -1,5 +1,4 @@
 use Rattle.std.proofs.Common.{◌≡◌, length}
-use Rattle.mdp_crew.specs.Counted.{HasCounted}
 use Rattle.mdp_crew.specs.Plan.{channel_in}
 use Rattle.mdp_pipeline.specs.Merge.{in_order, records_in}
 use Rattle.mdp_pipeline.proofs.Written.{HasTaken}
@@ -9,7 +8,6 @@ use Rattle.mdp_pipeline.proofs.in_order.run_in_order.Given as goal
 abbrev pub invariant-loop-feed : goal.invariant-loop-feed
 invariant-loop-feed g l = record {
   taken : HasTaken (channel_in l.plan) (records_in l.fn.feeds) (g.W.CountedWrite.taken l.fn.writer) (g.W.CountedWrite.taken l.writer) l.run (records_in l.feeds);
-  counts : HasCounted (g.W.CountedWrite.taken l.fn.writer) (g.W.CountedWrite.taken l.writer) l.written;
   failed : g.W.CountedWrite.failed l.writer ≡ g.W.CountedWrite.failed l.fn.writer;
 }
 

@@ -8,15 +8,8 @@ use Rattle.mdp_pipeline.specs.Running.{joined_texts}
 use Rattle.mdp_pipeline.proofs.Joining.{Joined, ends_early, ends_short, ends_well, map_ok, none_left, readings_in, told_all}
 use Rattle.mdp_pipeline.proofs.settling.settle_and_finish.Goals as goal
 
-pub returns-in-Err-Memory-clause-begins : goal.returns-in-Err-Memory-clause-begins
-returns-in-Err-Memory-clause-begins g c =
-    let left = c.args.readers in
-    let joined : Joined c.args.crew.receiver (records_in c.args.feeds) left.a left.b left.s =
-    record { read_a = c.requires.a; read_b = c.requires.b; read_s = c.requires.s; all_a = c.settle.ensures.a; all_b = c.settle.ensures.b; all_s = c.settle.ensures.s } in
-    ends_short c.args.crew.receiver (records_in c.args.feeds) left.a left.b left.s joined (g.W.CountedWrite.taken c.args.writer.now) c.args.crew.standing
-
-pub returns-in-Err-Output-clause-begins : goal.returns-in-Err-Output-clause-begins
-returns-in-Err-Output-clause-begins g c =
+pub returns-in_err-clause-begins : goal.returns-in_err-clause-begins
+returns-in_err-clause-begins g c =
     let left = c.args.readers in
     let joined : Joined c.args.crew.receiver (records_in c.args.feeds) left.a left.b left.s =
     record { read_a = c.requires.a; read_b = c.requires.b; read_s = c.requires.s; all_a = c.settle.ensures.a; all_b = c.settle.ensures.b; all_s = c.settle.ensures.s } in

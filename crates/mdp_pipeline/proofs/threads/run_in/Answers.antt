@@ -1,8 +1,13 @@
+use Rattle.std.proofs.Common.{arith}
 use Rattle.mdp_templates.specs.declared.feed.Feed.TheVariants as Feed
+use Rattle.mdp_crew.specs.declared.fault.RunFault.{RunFault}
+use Rattle.mdp_crew.specs.Outlets.{out}
 use Rattle.mdp_crew.specs.Plan.{channel_in}
+use Rattle.mdp_pipeline.specs.declared.summary.Summary.{Summary}
 use Rattle.mdp_pipeline.specs.Merge.{records_in}
+use Rattle.mdp_pipeline.specs.Output.{SaysAll, SaysSome, standing_in}
 use Rattle.mdp_pipeline.proofs.Joining.{begins_nothing, map_err, map_ok, none_failed, read_for, read_there}
-use Rattle.mdp_pipeline.proofs.Written.{counted_none}
+use Rattle.mdp_pipeline.proofs.Written.{ended_counted, stopped_counted}
 use Rattle.mdp_pipeline.proofs.threads.run_in.Goals as goal
 
 pub settle_and_finish-requires-clause-sound : goal.settle_and_finish-requires-clause-sound
@@ -32,7 +37,7 @@ returns-in_default-clause-ends g c =
       text = tt;
       begins = begins_nothing (channel_in c.args.plan) (records_in c.args.feeds) start c.args.board.now;
       written = tt;
-      told = counted_none start;
+      told = omega arith;
       range = tt;
     }
 
@@ -42,11 +47,16 @@ returns-clause-ends g c =
     let start = g.W.CountedWrite.taken c.args.writer.now in
     let shows = c.run_crew-crew.ensures.shows in
     let result = c.settle_and_finish.result in
+    let records = records_in c.args.feeds in
+    let old = out start c.args.board.now in
+    let new = out (g.W.CountedWrite.taken c.settle_and_finish.new.writer) c.run_crew-crew.new.board in
+    let text = map_ok result _ (λ (summary : Summary). SaysAll channel records old new (standing_in summary)) (λ summary ends. ends channel start c.args.board.now c.run_crew-crew.new.board shows) c.settle_and_finish.ensures.text in
+    let begins = map_err result _ (λ (fault : RunFault). SaysSome channel records old new) (λ fault ends. ends channel start c.args.board.now c.run_crew-crew.new.board shows) c.settle_and_finish.ensures.begins in
     record {
-      text = map_ok result _ _ (λ summary ends. ends channel start c.args.board.now c.run_crew-crew.new.board shows) c.settle_and_finish.ensures.text;
-      begins = map_err result _ _ (λ fault ends. ends channel start c.args.board.now c.run_crew-crew.new.board shows) c.settle_and_finish.ensures.begins;
-      written = map_ok result _ _ (λ summary counts. counts start c.run_crew-crew.ensures.counts) c.settle_and_finish.ensures.counts;
-      told = map_err result _ _ (λ fault counts. counts start c.run_crew-crew.ensures.counts) c.settle_and_finish.ensures.told;
+      text = text;
+      begins = begins;
+      written = ended_counted channel records old new c.written-since.result result c.written-since.ensures text c.settle_and_finish.ensures.written;
+      told = stopped_counted channel records old new c.written-since.result result c.written-since.ensures begins c.settle_and_finish.ensures.told;
       range = c.settle_and_finish.ensures.range;
     }
 

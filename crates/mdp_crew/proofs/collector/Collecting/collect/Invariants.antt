@@ -1,5 +1,4 @@
-use Rattle.std.proofs.Common.{◌≡◌, ℕ, List}
-use Rattle.mdp_crew.specs.Counted.{HasCounted}
+use Rattle.std.proofs.Common.{◌≡◌}
 use Rattle.mdp_crew.specs.Collecting.{IsCollecting, showing}
 use Rattle.mdp_crew.proofs.collector.Collecting.collect.Given as goal
 
@@ -7,5 +6,4 @@ abbrev pub invariant-loop : goal.invariant-loop
 invariant-loop g l = record {
   under_way : IsCollecting (showing l.fn.self (g.W.CountedWrite.taken l.fn.writer) l.fn.board) (showing l.self (g.W.CountedWrite.taken l.writer) l.board);
   sound : g.W.CountedWrite.failed l.writer ≡ g.W.CountedWrite.failed l.fn.writer;
-  counts : (start : List ℕ) → HasCounted start (g.W.CountedWrite.taken l.fn.writer) l.fn.written → HasCounted start (g.W.CountedWrite.taken l.writer) l.written;
 }

@@ -1,7 +1,12 @@
--- What a fault of a run says of the writer.
+-- What the fault of a run says of the writer.
 use Rattle.std.specs.Prelude.{◌≡◌, ℕ, ◌+◌, Result, Ok, Err}
-use Rattle.mdp_pipeline.specs.declared.summary.RunFault.{RunFault}
-use Rattle.mdp_pipeline.specs.declared.summary.RunFault.TheVariants.{Memory, Output}
+use Rattle.mdp_crew.specs.declared.fault.RunFault.{RunFault}
+use Rattle.mdp_crew.specs.declared.fault.RunFault.TheVariants.{Memory, Output}
+
+-- how many bytes went out before a run ended early
+abbrev pub written_before : RunFault → ℕ
+written_before (Memory written) = written
+written_before (Output written) = written
 
 -- one write failed where the fault is the writer's, and none otherwise
 abbrev pub failed_writes : RunFault → ℕ
