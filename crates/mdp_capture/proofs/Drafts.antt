@@ -2,24 +2,17 @@
 use Rattle.std.proofs.Common.{◌≡◌, ℕ, List, [], ◌∷◌, ◌++◌, Result, Ok, Err, sym, ap, ◌∙◌, subst, append_assoc, append-nil}
 use Rattle.std.specs.Str.Lines.{lines}
 use Rattle.mdp_capture.specs.Capture.{CaptureContent, IfRefused, IsTextFaultOf, RefusedLine, add_line, add_lines, and_then, capture_of, needs_instrument, next_line, no_capture}
-use Rattle.mdp_capture.specs.Cutting.{BeginsWithLines, HasTaken, IsStopped}
-use Rattle.mdp_capture.specs.Draft.{AreFitSoFar, HoldsLines, IsRefusedAt, LeavesOut, capture_so_far}
+use Rattle.mdp_capture.specs.Cutting.{BeginsWithLines, CutsInto, IsStopped}
+use Rattle.mdp_capture.specs.Draft.{AreFitSoFar, HoldsLines, IsRefusedAt, LeavesOut, TakesTexts, capture_so_far}
 use Rattle.mdp_capture.specs.Line.{LineContent, line_of}
-use Rattle.mdp_capture.specs.Reading.{RefusesPiece}
-use Rattle.mdp_capture.specs.declared.cutter.LineCutter.{LineCutter}
+use Rattle.mdp_capture.specs.Reading.{HasRead, RefusesPiece, TakesPiece}
+use Rattle.mdp_capture.specs.declared.reading.Reading.{Reading}
 use Rattle.mdp_capture.specs.declared.draft.Draft.{Draft}
 use Rattle.mdp_capture.specs.declared.fault.CaptureFault.{CaptureFault}
-use Rattle.mdp_capture.proofs.LinesCut.{LeavesLine, if_refused}
+use Rattle.mdp_capture.proofs.LinesCut.{cuts_on, if_refused}
 
 abbrev made : List (List ℕ) → Result CaptureContent RefusedLine
 made ls = add_lines 1 ls no_capture
-
--- a text in which the run is refused at a line
-pub stopped_in : (Holds : List (List ℕ) → Type 0) (text more : List ℕ) (refused : RefusedLine) → IsStopped (BeginsWithLines text) Holds IsRefusedAt refused → capture_of (text ++ more) ≡ Err refused
-stopped_in Holds text more refused stop = ap needs_instrument (ap made (stop.are.1 more) ∙ stop.is_refused (lines (stop.are.0 ++ more)))
-
-pub stopped_at_end : (Holds : List (List ℕ) → Type 0) (text : List ℕ) (refused : RefusedLine) → IsStopped (λ all. all ≡ lines text) Holds IsRefusedAt refused → capture_of text ≡ Err refused
-stopped_at_end Holds text refused stop = ap needs_instrument (ap made (sym stop.are ∙ sym (append-nil (stop.front ++ stop.line ∷ []))) ∙ stop.is_refused [])
 
 module _ {A : Type 0} where
   -- before the first line
@@ -29,33 +22,39 @@ module _ {A : Type 0} where
     fit = fit;
   }
 
-  one_line : (draft : Draft A) (text : List ℕ) (before rest : List (List ℕ)) → HoldsLines draft before → made ((before ++ text ∷ []) ++ rest) ≡ and_then (add_line draft.line (line_of text) (capture_so_far draft)) (add_lines (next_line draft.line) rest)
-  one_line draft text before rest held = ap made (append_assoc before (text ∷ []) rest) ∙ held.comes (text ∷ rest)
+  -- ---- lines that a draft takes in
 
-  -- one line more
-  pub holds_line : (old new : Draft A) (text : List ℕ) (before : List (List ℕ)) → add_line old.line (line_of text) (capture_so_far old) ≡ Ok (capture_so_far new) → new.line ≡ next_line old.line → (AreFitSoFar old.instruments.items → AreFitSoFar new.instruments.items) → HoldsLines old before → HoldsLines new (before ++ text ∷ [])
-  holds_line old new text before added line fit held = record {
+  pub takes_line : (old new : Draft A) (text : List ℕ) → add_line old.line (line_of text) (capture_so_far old) ≡ Ok (capture_so_far new) → new.line ≡ next_line old.line → (AreFitSoFar old.instruments.items → AreFitSoFar new.instruments.items) → TakesTexts old (text ∷ []) new
+  takes_line old new text added line fit = record {
     comes = λ rest.
-        one_line old text before rest held
-        ∙ ap (λ (r : Result CaptureContent RefusedLine). and_then r (add_lines (next_line old.line) rest)) added
+        ap (λ (r : Result CaptureContent RefusedLine). and_then r (add_lines (next_line old.line) rest)) added
         ∙ ap (λ (n : ℕ). add_lines n rest (capture_so_far new)) (sym line);
-    fit = fit held.fit;
+    fit = fit;
   }
 
-  same_held : (old new : Draft A) (before : List (List ℕ)) → capture_so_far new ≡ capture_so_far old → new.line ≡ old.line → HoldsLines old before → HoldsLines new before
-  same_held old new before same line held = record {
-    comes = λ rest. held.comes rest ∙ ap (λ (n : ℕ). add_lines n rest (capture_so_far old)) (sym line) ∙ ap (add_lines new.line rest) (sym same);
-    fit = subst (λ (c : CaptureContent). AreFitSoFar c.instruments) (sym same) held.fit;
+  takes_nothing : (old new : Draft A) → capture_so_far new ≡ capture_so_far old → new.line ≡ old.line → TakesTexts old [] new
+  takes_nothing old new same line = record {
+    comes = λ rest. ap (λ (n : ℕ). add_lines n rest (capture_so_far old)) (sym line) ∙ ap (add_lines new.line rest) (sym same);
+    fit = λ fit. subst (λ (c : CaptureContent). AreFitSoFar c.instruments) (sym same) fit;
   }
 
   -- a line that refuses the run
-  pub left_out : (old new : Draft A) (text : List ℕ) (fault : CaptureFault) → LeavesOut old (line_of text) new fault → IfRefused fault (LeavesLine (HoldsLines old) (HoldsLines new) IsRefusedAt text)
+  pub left_out : (old new : Draft A) (text : List ℕ) (fault : CaptureFault) → LeavesOut old (line_of text) new fault → IfRefused fault (λ refused. TakesTexts old [] new × IsRefusedAt new text refused)
   left_out old new text fault =
-      if_refused (λ refused. (add_line old.line (line_of text) (capture_so_far old) ≡ Err refused) × (capture_so_far new ≡ capture_so_far old) × (new.line ≡ old.line)) (LeavesLine (HoldsLines old) (HoldsLines new) IsRefusedAt text) fault
-      (λ refused out before held. (
-        same_held old new before out.1 out.2 held,
-        λ rest. one_line old text before rest held ∙ ap (λ (r : Result CaptureContent RefusedLine). and_then r (add_lines (next_line old.line) rest)) out.0,
+      if_refused (λ refused. (add_line old.line (line_of text) (capture_so_far old) ≡ Err refused) × (capture_so_far new ≡ capture_so_far old) × (new.line ≡ old.line)) (λ refused. TakesTexts old [] new × IsRefusedAt new text refused) fault
+      (λ refused out. (
+        takes_nothing old new out.1 out.2,
+        λ rest.
+        ap (λ (n : ℕ). add_lines n (text ∷ rest) (capture_so_far new)) out.2
+        ∙ ap (add_lines old.line (text ∷ rest)) out.1
+        ∙ ap (λ (r : Result CaptureContent RefusedLine). and_then r (add_lines (next_line old.line) rest)) out.0,
       ))
+
+  held_more : (old new : Draft A) (before front : List (List ℕ)) → HoldsLines old before → TakesTexts old front new → HoldsLines new (before ++ front)
+  held_more old new before front held takes = record {
+    comes = λ rest. ap made (append_assoc before front rest) ∙ held.comes (front ++ rest) ∙ takes.comes rest;
+    fit = takes.fit held.fit;
+  }
 
   pub out_is_fault : (old new : Draft A) (content : LineContent) (fault : CaptureFault) → LeavesOut old content new fault → IsTextFaultOf (add_line old.line content (capture_so_far old)) fault
   out_is_fault old new content fault =
@@ -65,14 +64,51 @@ module _ {A : Type 0} where
   pub whole_text : (draft : Draft A) (text : List ℕ) → HoldsLines draft (lines text) → capture_of text ≡ needs_instrument (Ok (capture_so_far draft))
   whole_text draft text held = ap needs_instrument (ap made (sym (append-nil (lines text))) ∙ held.comes [])
 
+  -- ---- a text that is read piece by piece
+
+  pub read_none : (reading : Reading A) → reading.cutter ≡ [] → reading.draft.line ≡ 1 → capture_so_far reading.draft ≡ no_capture → AreFitSoFar reading.draft.instruments.items → HasRead reading []
+  read_none reading pending line none fit = record {
+    front = [];
+    says = holds_none reading.draft line none fit;
+    cuts = λ more. ap (λ (t : List ℕ). lines (t ++ more)) (sym pending);
+  }
+
+  pub piece_taken : (old new : Reading A) (piece : List ℕ) → CutsInto (λ front. TakesTexts old.draft front new.draft) (old.cutter ++ piece) new.cutter → TakesPiece old piece new
+  piece_taken old new piece cut text read = record {
+    front = read.front ++ cut.front;
+    says = held_more old.draft new.draft read.front cut.front read.says cut.says;
+    cuts = λ more.
+        cuts_on text old.cutter piece read.front read.cuts more
+        ∙ ap (λ (ls : List (List ℕ)). read.front ++ ls) (cut.cuts more)
+        ∙ sym (append_assoc read.front cut.front (lines (new.cutter ++ more)));
+  }
+
+  -- a line at which the run is refused, after those that were taken in
+  refused_there : (old new : Draft A) (before front : List (List ℕ)) (line : List ℕ) (refused : RefusedLine) (rest : List (List ℕ)) → HoldsLines old before → TakesTexts old front new → IsRefusedAt new line refused → made (before ++ ((front ++ line ∷ []) ++ rest)) ≡ Err refused
+  refused_there old new before front line refused rest held takes is =
+      ap (λ (ls : List (List ℕ)). made (before ++ ls)) (append_assoc front (line ∷ []) rest)
+      ∙ held.comes (front ++ (line ∷ rest)) ∙ takes.comes (line ∷ rest) ∙ is rest
+
   -- a piece in which the run is refused
-  pub piece_refused : (old new : LineCutter (Draft A) A) (piece : List ℕ) (fault : CaptureFault) → IfRefused fault (λ refused. (text : List ℕ) → HasTaken HoldsLines old text → IsStopped (BeginsWithLines (text ++ piece)) (HoldsLines new.taker) IsRefusedAt refused) → RefusesPiece old piece fault
-  piece_refused old new piece fault says text more taken =
-      if_refused (λ refused. (text : List ℕ) → HasTaken HoldsLines old text → IsStopped (BeginsWithLines (text ++ piece)) (HoldsLines new.taker) IsRefusedAt refused) (λ refused. capture_of ((text ++ piece) ++ more) ≡ Err refused) fault
-      (λ refused stop. stopped_in (HoldsLines new.taker) (text ++ piece) more refused (stop text taken)) says
+  pub piece_refused : (old : Reading A) (new : Draft A) (piece : List ℕ) (fault : CaptureFault) → IfRefused fault (IsStopped (BeginsWithLines (old.cutter ++ piece)) (λ front. TakesTexts old.draft front new) (IsRefusedAt new)) → RefusesPiece old piece fault
+  piece_refused old new piece fault says text more read =
+      if_refused (IsStopped (BeginsWithLines (old.cutter ++ piece)) (λ front. TakesTexts old.draft front new) (IsRefusedAt new)) (λ refused. capture_of ((text ++ piece) ++ more) ≡ Err refused) fault
+      (λ refused stop. ap needs_instrument
+      (ap made (cuts_on text old.cutter piece read.front read.cuts more ∙ ap (λ (ls : List (List ℕ)). read.front ++ ls) (stop.are.1 more))
+      ∙ refused_there old.draft new read.front stop.front stop.line refused (lines (stop.are.0 ++ more)) read.says stop.taken stop.is_refused)) says
+
+  -- the whole text
+  ends_there : (reading : Reading A) (text : List ℕ) (read : HasRead reading text) → lines text ≡ read.front ++ lines reading.cutter
+  ends_there reading text read = ap lines (sym (append-nil text)) ∙ read.cuts [] ∙ ap (λ (t : List ℕ). read.front ++ lines t) (append-nil reading.cutter)
+
+  pub read_all : (reading : Reading A) (new : Draft A) (text : List ℕ) → TakesTexts reading.draft (lines reading.cutter) new → HasRead reading text → HoldsLines new (lines text)
+  read_all reading new text takes read =
+      subst (HoldsLines new) (sym (ends_there reading text read)) (held_more reading.draft new read.front (lines reading.cutter) read.says takes)
 
   -- a last line at which the run is refused
-  pub end_refused : (old : LineCutter (Draft A) A) (Holds : List (List ℕ) → Type 0) (fault : CaptureFault) → IfRefused fault (λ refused. (text : List ℕ) → HasTaken HoldsLines old text → IsStopped (λ all. all ≡ lines text) Holds IsRefusedAt refused) → (text : List ℕ) → HasTaken HoldsLines old text → IsTextFaultOf (capture_of text) fault
-  end_refused old Holds fault says text taken =
-      if_refused (λ refused. (text : List ℕ) → HasTaken HoldsLines old text → IsStopped (λ all. all ≡ lines text) Holds IsRefusedAt refused) (λ refused. capture_of text ≡ Err refused) fault
-      (λ refused stop. stopped_at_end Holds text refused (stop text taken)) says
+  pub end_refused : (reading : Reading A) (new : Draft A) (fault : CaptureFault) → IfRefused fault (IsStopped (λ all. all ≡ lines reading.cutter) (λ front. TakesTexts reading.draft front new) (IsRefusedAt new)) → (text : List ℕ) → HasRead reading text → IsTextFaultOf (capture_of text) fault
+  end_refused reading new fault says text read =
+      if_refused (IsStopped (λ all. all ≡ lines reading.cutter) (λ front. TakesTexts reading.draft front new) (IsRefusedAt new)) (λ refused. capture_of text ≡ Err refused) fault
+      (λ refused stop. ap needs_instrument
+      (ap made (ends_there reading text read ∙ ap (λ (ls : List (List ℕ)). read.front ++ ls) (sym stop.are ∙ sym (append-nil (stop.front ++ stop.line ∷ []))))
+      ∙ refused_there reading.draft new read.front stop.front stop.line refused [] read.says stop.taken stop.is_refused)) says

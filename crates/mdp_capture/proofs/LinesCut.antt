@@ -1,10 +1,9 @@
 -- A text that is cut line by line, and piece by piece.
-use Rattle.std.proofs.Common.{◌≡◌, ℕ, ◌+◌, ◌<◌, List, [], ◌∷◌, ◌++◌, Some, length, take, drop, sym, ap, ◌∙◌, subst, append_assoc, append-nil}
+use Rattle.std.proofs.Common.{◌≡◌, ℕ, ◌+◌, ◌<◌, List, [], ◌∷◌, ◌++◌, Some, length, take, drop, refl, sym, ap, ◌∙◌, subst, arith, append_assoc, append-nil}
 use Rattle.std.specs.Str.Lines.{lines, strip_carriage_return}
 use Rattle.memchr.specs.Find.{IsFirstByte, is_byte}
 use Rattle.mdp_capture.specs.Capture.{IfRefused, RefusedLine}
-use Rattle.mdp_capture.specs.Cutting.{BeginsWithLines, Cuts, HasTaken, HoldsUpTo, IsStopped}
-use Rattle.mdp_capture.specs.declared.cutter.LineCutter.{LineCutter}
+use Rattle.mdp_capture.specs.Cutting.{BeginsWithLines, Cuts, CutsInto, IsStopped, LeavesOutLine}
 use Rattle.mdp_capture.specs.declared.fault.CaptureFault.{CaptureFault}
 use Rattle.mdp_capture.specs.declared.fault.CaptureFault.TheVariants as faults
 use Rattle.mdp_capture.proofs.Splits.{IsFreeOf, free_before}
@@ -37,99 +36,85 @@ cuts_more text pending rest front k free first cuts more =
     ∙ ap (λ (ls : List (List ℕ)). front ++ ls) (line_there pending rest more k free first)
     ∙ sym (append_assoc front (line ∷ []) (lines (drop (k + 1) rest ++ more)))
 
--- ---- what is held of it
+-- nothing is free of what it does not hold
+nothing_free : IsFreeOf 10 []
+nothing_free i d below = absurd (omega (arith, below))
 
-pub holds_on : (Holds : List (List ℕ) → Type 0) (text rest piece : List ℕ) → HoldsUpTo Holds text rest → HoldsUpTo Holds (text ++ piece) (rest ++ piece)
-holds_on Holds text rest piece held = record { front = held.front; held = held.held; cuts = cuts_on text rest piece held.front held.cuts }
+-- ---- what is taken in of it, by something that takes in these lines after others
 
-pub holds_more : (Old New : List (List ℕ) → Type 0) (text pending rest : List ℕ) (k : ℕ) → IsFreeOf 10 pending → IsFirstByte (is_byte 10) rest (Some k) → HoldsUpTo Old text (pending ++ rest)
-    → ((before : List (List ℕ)) → Old before → New (before ++ strip_carriage_return (pending ++ take k rest) ∷ [])) → HoldsUpTo New text (drop (k + 1) rest)
-holds_more Old New text pending rest k free first held step = record {
-  front = held.front ++ strip_carriage_return (pending ++ take k rest) ∷ [];
-  held = step held.front held.held;
-  cuts = cuts_more text pending rest held.front k free first held.cuts;
-}
+module _ {L : Type 0} (Takes : L → List (List ℕ) → L → Type 0) (none : (x : L) → Takes x [] x) (more : (x y z : L) (front rest : List (List ℕ)) → Takes x front y → Takes y rest z → Takes x (front ++ rest) z) where
+  -- no line yet
+  pub none_cut : (x : L) (text : List ℕ) → CutsInto (λ front. Takes x front x) text text
+  none_cut x text = record { front = []; says = none x; cuts = λ further. refl }
 
--- a line that was left out stops the text there
-left_there : (Old New : List (List ℕ) → Type 0) (refuses : List (List ℕ) → RefusedLine → Type 0) (refused : RefusedLine) (text pending rest : List ℕ) (k : ℕ) → IsFreeOf 10 pending → IsFirstByte (is_byte 10) rest (Some k) → HoldsUpTo Old text (pending ++ rest)
-    → ((before : List (List ℕ)) → Old before → New before × refuses (before ++ strip_carriage_return (pending ++ take k rest) ∷ []) refused) → IsStopped (BeginsWithLines text) New refuses refused
-left_there Old New refuses refused text pending rest k free first held step =
-    let here = step held.front held.held in
-    record {
-      front = held.front;
-      line = strip_carriage_return (pending ++ take k rest);
-      are = (drop (k + 1) rest, cuts_more text pending rest held.front k free first held.cuts);
-      held = here.0;
-      is_refused = here.1;
-    }
+  -- one line more
+  pub one_cut : (x y z : L) (text rest : List ℕ) (k : ℕ) → IsFirstByte (is_byte 10) rest (Some k) → CutsInto (λ front. Takes x front y) text rest → Takes y (strip_carriage_return (take k rest) ∷ []) z → CutsInto (λ front. Takes x front z) text (drop (k + 1) rest)
+  one_cut x y z text rest k first cut step = record {
+    front = cut.front ++ strip_carriage_return (take k rest) ∷ [];
+    says = more x y z cut.front (strip_carriage_return (take k rest) ∷ []) cut.says step;
+    cuts = cuts_more text [] rest cut.front k nothing_free first cut.cuts;
+  }
 
--- which line was left out, where the text that is taken in is told by P
-abbrev pub LeavesLine : (Old New : List (List ℕ) → Type 0) → (List (List ℕ) → RefusedLine → Type 0) → List ℕ → RefusedLine → Type 0
-LeavesLine Old New refuses line refused = (before : List (List ℕ)) → Old before → New before × refuses (before ++ line ∷ []) refused
-
-pub stops_there : (P : List ℕ → Type 0) (f : List ℕ → List ℕ) (Old New : List (List ℕ) → Type 0) (refuses : List (List ℕ) → RefusedLine → Type 0) (fault : CaptureFault) (pending rest : List ℕ) (k : ℕ) → IsFirstByte (is_byte 10) rest (Some k)
-    → ((text : List ℕ) → P text → IsFreeOf 10 pending × HoldsUpTo Old (f text) (pending ++ rest))
-    → IfRefused fault (LeavesLine Old New refuses (strip_carriage_return (pending ++ take k rest)))
-    → IfRefused fault (λ refused. (text : List ℕ) → P text → IsStopped (BeginsWithLines (f text)) New refuses refused)
-stops_there P f Old New refuses fault pending rest k first held =
-    if_refused (LeavesLine Old New refuses (strip_carriage_return (pending ++ take k rest))) (λ refused. (text : List ℕ) → P text → IsStopped (BeginsWithLines (f text)) New refuses refused) fault
-    (λ refused step text is. let at = held text is in left_there Old New refuses refused (f text) pending rest k at.0 first at.1 step)
-
--- a text that is taken in further stops where its rest does
-pub stops_later : (P Q : List ℕ → Type 0) (f : List ℕ → List ℕ) (New : List (List ℕ) → Type 0) (refuses : List (List ℕ) → RefusedLine → Type 0) (fault : CaptureFault)
-    → ((text : List ℕ) → Q text → P (f text))
-    → IfRefused fault (λ refused. (text : List ℕ) → P text → IsStopped (BeginsWithLines text) New refuses refused)
-    → IfRefused fault (λ refused. (text : List ℕ) → Q text → IsStopped (BeginsWithLines (f text)) New refuses refused)
-stops_later P Q f New refuses fault further =
-    if_refused (λ refused. (text : List ℕ) → P text → IsStopped (BeginsWithLines text) New refuses refused) (λ refused. (text : List ℕ) → Q text → IsStopped (BeginsWithLines (f text)) New refuses refused) fault
-    (λ refused stop text is. stop (f text) (further text is))
-
--- ---- a cutter and its pieces
-
-module _ {L A : Type 0} (Holds : L → List (List ℕ) → Type 0) where
-  -- with nothing pending, a piece begins with a line
-  pub begins : (cutter : LineCutter L A) (text piece : List ℕ) → cutter.pending.items ≡ [] → HasTaken Holds cutter text → HoldsUpTo (Holds cutter.taker) (text ++ piece) piece
-  begins cutter text piece none taken =
-      let on = holds_on (Holds cutter.taker) text cutter.pending.items piece taken.whole in
-      subst (λ (t : List ℕ). HoldsUpTo (Holds cutter.taker) (text ++ piece) (t ++ piece)) none on
-
-  -- no line feed: all is pending
-  pub stays : (old new : LineCutter L A) (text piece : List ℕ) → HasTaken Holds old text → old.taker ≡ new.taker → new.pending.items ≡ old.pending.items ++ piece → IsFreeOf 10 piece → HasTaken Holds new (text ++ piece)
-  stays old new text piece taken same is free =
-      let on = holds_on (Holds old.taker) text old.pending.items piece taken.whole in
-      let whole : HoldsUpTo (Holds new.taker) (text ++ piece) (old.pending.items ++ piece) = subst (λ (t : L). HoldsUpTo (Holds t) (text ++ piece) (old.pending.items ++ piece)) same on in
+  -- a line that was pending, and what follows it
+  pub ended_cut : (x y z : L) (pending piece left : List ℕ) (k : ℕ) → IsFreeOf 10 pending → IsFirstByte (is_byte 10) piece (Some k) → Takes x (strip_carriage_return (pending ++ take k piece) ∷ []) y → CutsInto (λ front. Takes y front z) (drop (k + 1) piece) left → CutsInto (λ front. Takes x front z) (pending ++ piece) left
+  ended_cut x y z pending piece left k free first step cut =
+      let line = strip_carriage_return (pending ++ take k piece) in
       record {
-        whole = subst (HoldsUpTo (Holds new.taker) (text ++ piece)) (sym is) whole;
-        unfinished = subst (IsFreeOf 10) (sym is) (free_append 10 old.pending.items piece taken.unfinished free);
+        front = line ∷ cut.front;
+        says = more x y z (line ∷ []) cut.front step cut.says;
+        cuts = λ further. line_there pending piece further k free first ∙ ap (λ (ls : List (List ℕ)). line ∷ ls) (cut.cuts further);
       }
 
-  -- the last line
-  pub last_cut : (cutter : LineCutter L A) (text : List ℕ) (taken : HasTaken Holds cutter text) → 0 < length cutter.pending.items → lines text ≡ taken.whole.front ++ cutter.pending.items ∷ []
-  last_cut cutter text taken some =
-      let pending = cutter.pending.items in
-      ap lines (sym (append-nil text)) ∙ taken.whole.cuts [] ∙ ap (λ (t : List ℕ). taken.whole.front ++ lines t) (append-nil pending)
-      ∙ ap (λ (ls : List (List ℕ)). taken.whole.front ++ ls) (lines_last pending taken.unfinished some)
-
-  -- the last line is left out
-  pub stops_last : (New : List (List ℕ) → Type 0) (refuses : List (List ℕ) → RefusedLine → Type 0) (cutter : LineCutter L A) (fault : CaptureFault) → 0 < length cutter.pending.items
-      → IfRefused fault (LeavesLine (Holds cutter.taker) New refuses cutter.pending.items)
-      → IfRefused fault (λ refused. (text : List ℕ) → HasTaken Holds cutter text → IsStopped (λ all. all ≡ lines text) New refuses refused)
-  stops_last New refuses cutter fault some =
-      if_refused (LeavesLine (Holds cutter.taker) New refuses cutter.pending.items) (λ refused. (text : List ℕ) → HasTaken Holds cutter text → IsStopped (λ all. all ≡ lines text) New refuses refused) fault
-      (λ refused step text taken.
-      let here = step taken.whole.front taken.whole.held in
-      record {
-        front = taken.whole.front;
-        line = cutter.pending.items;
-        are = sym (last_cut cutter text taken some);
-        held = here.0;
-        is_refused = here.1;
+  -- a line that was left out stops the text there
+  pub stops_there : (Refuses : List ℕ → RefusedLine → Type 0) (x y z : L) (text rest : List ℕ) (k : ℕ) (fault : CaptureFault) → IsFirstByte (is_byte 10) rest (Some k) → CutsInto (λ front. Takes x front y) text rest
+      → IfRefused fault (λ refused. Takes y [] z × Refuses (strip_carriage_return (take k rest)) refused) → IfRefused fault (IsStopped (BeginsWithLines text) (λ front. Takes x front z) Refuses)
+  stops_there Refuses x y z text rest k fault first cut =
+      if_refused (λ refused. Takes y [] z × Refuses (strip_carriage_return (take k rest)) refused) (IsStopped (BeginsWithLines text) (λ front. Takes x front z) Refuses) fault
+      (λ refused out. record {
+        front = cut.front;
+        line = strip_carriage_return (take k rest);
+        are = (drop (k + 1) rest, cuts_more text [] rest cut.front k nothing_free first cut.cuts);
+        taken = subst (λ (ls : List (List ℕ)). Takes x ls z) (append-nil cut.front) (more x y z cut.front [] cut.says out.0);
+        is_refused = out.1;
       })
 
-  -- no last line
-  pub none_cut : (cutter : LineCutter L A) (text : List ℕ) → cutter.pending.items ≡ [] → HasTaken Holds cutter text → Holds cutter.taker (lines text)
-  none_cut cutter text none taken =
-      let front = taken.whole.front in
-      let nothing : lines (cutter.pending.items ++ []) ≡ [] = ap (λ (t : List ℕ). lines (t ++ [])) none in
-      let is : lines text ≡ front = ap lines (sym (append-nil text)) ∙ taken.whole.cuts [] ∙ ap (λ (ls : List (List ℕ)). front ++ ls) nothing ∙ append-nil front in
-      subst (Holds cutter.taker) (sym is) taken.whole.held
+  -- so does one that was pending
+  pub stops_at_pending : (Refuses : List ℕ → RefusedLine → Type 0) (x z : L) (pending piece : List ℕ) (k : ℕ) (fault : CaptureFault) → IsFreeOf 10 pending → IsFirstByte (is_byte 10) piece (Some k)
+      → IfRefused fault (LeavesOutLine (λ front. Takes x front z) Refuses (strip_carriage_return (pending ++ take k piece))) → IfRefused fault (IsStopped (BeginsWithLines (pending ++ piece)) (λ front. Takes x front z) Refuses)
+  stops_at_pending Refuses x z pending piece k fault free first =
+      let line = strip_carriage_return (pending ++ take k piece) in
+      if_refused (LeavesOutLine (λ front. Takes x front z) Refuses line) (IsStopped (BeginsWithLines (pending ++ piece)) (λ front. Takes x front z) Refuses) fault
+      (λ refused out. record {
+        front = [];
+        line = line;
+        are = (drop (k + 1) piece, λ further. line_there pending piece further k free first);
+        taken = out.0;
+        is_refused = out.1;
+      })
+
+  -- and one that follows it
+  pub stops_later : (Refuses : List ℕ → RefusedLine → Type 0) (x y z : L) (pending piece : List ℕ) (k : ℕ) (fault : CaptureFault) → IsFreeOf 10 pending → IsFirstByte (is_byte 10) piece (Some k) → Takes x (strip_carriage_return (pending ++ take k piece) ∷ []) y
+      → IfRefused fault (IsStopped (BeginsWithLines (drop (k + 1) piece)) (λ front. Takes y front z) Refuses) → IfRefused fault (IsStopped (BeginsWithLines (pending ++ piece)) (λ front. Takes x front z) Refuses)
+  stops_later Refuses x y z pending piece k fault free first step =
+      let line = strip_carriage_return (pending ++ take k piece) in
+      if_refused (IsStopped (BeginsWithLines (drop (k + 1) piece)) (λ front. Takes y front z) Refuses) (IsStopped (BeginsWithLines (pending ++ piece)) (λ front. Takes x front z) Refuses) fault
+      (λ refused stop. record {
+        front = line ∷ stop.front;
+        line = stop.line;
+        are = (stop.are.0, λ further. line_there pending piece further k free first ∙ ap (λ (ls : List (List ℕ)). line ∷ ls) (stop.are.1 further));
+        taken = more x y z (line ∷ []) stop.front step stop.taken;
+        is_refused = stop.is_refused;
+      })
+
+  -- the last line is left out
+  pub stops_last : (Refuses : List ℕ → RefusedLine → Type 0) (x z : L) (pending : List ℕ) (fault : CaptureFault) → IsFreeOf 10 pending → 0 < length pending
+      → IfRefused fault (λ refused. Takes x [] z × Refuses pending refused) → IfRefused fault (IsStopped (λ all. all ≡ lines pending) (λ front. Takes x front z) Refuses)
+  stops_last Refuses x z pending fault free some =
+      if_refused (λ refused. Takes x [] z × Refuses pending refused) (IsStopped (λ all. all ≡ lines pending) (λ front. Takes x front z) Refuses) fault
+      (λ refused out. record {
+        front = [];
+        line = pending;
+        are = sym (lines_last pending free some);
+        taken = out.0;
+        is_refused = out.1;
+      })

@@ -11,11 +11,11 @@ use Rattle.mdp_capture.specs.Line.{LineContent, line_of}
 use Rattle.mdp_capture.specs.Parsed.{ListsDepth, content_of}
 use Rattle.mdp_capture.specs.Repeats.{bytes_in}
 use Rattle.mdp_capture.specs.Capture.{CaptureContent, RefusedLine, add_line, add_lines, and_then, needs_instrument, next_line, no_capture, IsTextFaultOf}
-use Rattle.mdp_capture.specs.Cutting.{Cuts, HasTaken, IsOneLine}
+use Rattle.mdp_capture.specs.Cutting.{Cuts}
 use Rattle.mdp_capture.specs.Draft.{AreFitSoFar, HoldsLines, capture_so_far}
 use Rattle.mdp_capture.specs.Part.{add_contents, capture_after, contents_of, Says, ListDepths, HasBytesIn, bytes_of_line, newest_in, IsReadOf, AreReadOf, joined}
-use Rattle.mdp_capture.specs.Reading.{RefusesPiece}
-use Rattle.mdp_capture.specs.declared.cutter.LineCutter.{LineCutter}
+use Rattle.mdp_capture.specs.Reading.{HasRead, RefusesPiece}
+use Rattle.mdp_capture.specs.declared.reading.Reading.{Reading}
 use Rattle.mdp_capture.specs.declared.part.Part.{Part}
 use Rattle.mdp_capture.specs.declared.draft.Draft.{Draft}
 use Rattle.mdp_capture.specs.declared.fault.CaptureFault.{CaptureFault}
@@ -113,33 +113,28 @@ module _ {A : Type 0} where
   }
 
   -- where nothing is pending, the text of a part goes on with what was read before
-  part_cuts : (cutter : LineCutter (Draft A) A) (before text rest : List ℕ) (read : List (Line A)) (taken : HasTaken HoldsLines cutter before) (says : Says text read rest) → cutter.pending.items ≡ [] → Cuts (before ++ text) (taken.whole.front ++ says.front) rest
-  part_cuts cutter before text rest read taken says none more =
-      let front = taken.whole.front in
+  part_cuts : (reading : Reading A) (before text rest : List ℕ) (read : List (Line A)) (taken : HasRead reading before) (says : Says text read rest) → reading.cutter ≡ [] → Cuts (before ++ text) (taken.front ++ says.front) rest
+  part_cuts reading before text rest read taken says none more =
+      let front = taken.front in
       ap lines (append_assoc before text more)
-      ∙ taken.whole.cuts (text ++ more)
+      ∙ taken.cuts (text ++ more)
       ∙ ap (λ (t : List ℕ). front ++ lines (t ++ (text ++ more))) none
       ∙ ap (λ (ls : List (List ℕ)). front ++ ls) (says.cuts more)
       ∙ sym (append_assoc front says.front (lines (rest ++ more)))
 
-  pub part_taken : (old new : LineCutter (Draft A) A) (before text rest : List ℕ) (read : List (Line A)) → HasTaken HoldsLines old before → old.pending.items ≡ [] → Says text read rest → IsOneLine rest → ((behind : List LineContent) → capture_after old.taker (contents_of read ++ behind) ≡ capture_after new.taker behind) → (AreFitSoFar old.taker.instruments.items → AreFitSoFar new.taker.instruments.items) → new.pending.items ≡ old.pending.items ++ rest → HasTaken HoldsLines new (before ++ text)
-  part_taken old new before text rest read taken none says one added fit is =
-      let pending : rest ≡ new.pending.items = sym (is ∙ ap (λ (t : List ℕ). t ++ rest) none) in
-      record {
-        whole = record {
-          front = taken.whole.front ++ says.front;
-          held = lines_added old.taker new.taker says.front taken.whole.front read says.contents added fit taken.whole.held;
-          cuts = subst (Cuts (before ++ text) (taken.whole.front ++ says.front)) pending (part_cuts old before text rest read taken says none);
-        };
-        unfinished = subst IsOneLine pending one;
-      }
+  pub part_taken : (old new : Reading A) (before text rest : List ℕ) (read : List (Line A)) → HasRead old before → old.cutter ≡ [] → Says text read rest → ((behind : List LineContent) → capture_after old.draft (contents_of read ++ behind) ≡ capture_after new.draft behind) → (AreFitSoFar old.draft.instruments.items → AreFitSoFar new.draft.instruments.items) → new.cutter ≡ rest → HasRead new (before ++ text)
+  part_taken old new before text rest read taken none says added fit is = record {
+    front = taken.front ++ says.front;
+    says = lines_added old.draft new.draft says.front taken.front read says.contents added fit taken.says;
+    cuts = subst (Cuts (before ++ text) (taken.front ++ says.front)) (sym is) (part_cuts old before text rest read taken says none);
+  }
 
-  pub part_refused : (old : LineCutter (Draft A) A) (text rest : List ℕ) (read : List (Line A)) (fault : CaptureFault) → old.pending.items ≡ [] → Says text read rest → ((behind : List LineContent) → IsTextFaultOf (capture_after old.taker (contents_of read ++ behind)) fault) → RefusesPiece old text fault
+  pub part_refused : (old : Reading A) (text rest : List ℕ) (read : List (Line A)) (fault : CaptureFault) → old.cutter ≡ [] → Says text read rest → ((behind : List LineContent) → IsTextFaultOf (capture_after old.draft (contents_of read ++ behind)) fault) → RefusesPiece old text fault
   part_refused old text rest read fault none says refused before more taken =
       let ls = lines (rest ++ more) in
       same_fault _ _ fault
       (ap (λ (all : List (List ℕ)). needs_instrument (add_lines 1 all no_capture)) (part_cuts old before text rest read taken says none more)
-      ∙ ap needs_instrument (lines_come old.taker says.front taken.whole.front ls read says.contents taken.whole.held))
+      ∙ ap needs_instrument (lines_come old.draft says.front taken.front ls read says.contents taken.says))
       (fault_whole _ fault (refused (map line_of ls)))
 
   -- ---- parts that were read by themselves

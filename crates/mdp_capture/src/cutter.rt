@@ -1,25 +1,26 @@
 //! A text that comes piece by piece, cut into lines, whatever is made of them.
 
-ghost use Rattle.std.specs.Prelude.{◌≡◌, ◌<◌, ◌++◌, ◌∷◌, [], ℕ, List, length, OnOk, IfErr};
+ghost use Rattle.std.specs.Prelude.{◌≡◌, ◌<◌, ◌++◌, ◌∷◌, [], ℕ, List, true, length, OnOk, IfErr};
 ghost use Rattle.std.specs.Str.Lines.{lines, strip_carriage_return};
 ghost use Rattle.mdp_capture.specs.Capture.{IfRefused, RefusedLine};
-ghost use Rattle.mdp_capture.specs.Cutting.{BeginsWithLines, HasTaken, HoldsUpTo, IsStopped};
+ghost use Rattle.mdp_capture.specs.Cutting.{BeginsWithLines, CutsInto, IsOneLine, IsStopped, LeavesOutLine};
 
 use crate::fault::CaptureFault;
 use crate::line::without_carriage_return;
 use memchr::memchr;
-use std::alloc::Allocator;
+use std::alloc::{AllocError, Allocator};
+use std::marker::Model;
 
 /// What is made of the lines of a text, which it takes in one after another.
 pub trait TakesLines<A: Allocator>: Drop {
-    /// It has taken in these lines, in their order.
-    ghost holds: { Self → List (List ℕ) → Type 0 };
+    /// One has taken in these lines, in their order, and is the other now.
+    ghost takes: { Self → List (List ℕ) → Self → Type 0 };
 
     /// What it knows of the line that it took in last.
     ghost took_last: { Self → List ℕ → Type 0 };
 
-    /// The run is refused at the last of these lines.
-    ghost refuses: { List (List ℕ) → RefusedLine → Type 0 };
+    /// The run is refused at this line, were it the next.
+    ghost refuses: { Self → List ℕ → RefusedLine → Type 0 };
 
     /// Takes in a line, without its line feed and the carriage return before it. `last` is the line
     /// before, and empty where that is not at hand.
@@ -30,28 +31,41 @@ pub trait TakesLines<A: Allocator>: Drop {
     /// memory ran out: then nothing is known of what it holds.
     fn take_line(&mut self, alloc: A, text: &[u8], last: &[u8]) -> Result<(), CaptureFault>
         requires { 0 < length last.now → took_last self.old last.now }
-        ensures taken { OnOk result ((before : List (List ℕ)) → holds self.old before
-            → holds self.new (before ++ text.now ∷ [])) }
+        ensures taken { OnOk result (takes self.old (text.now ∷ []) self.new) }
         ensures last { OnOk result (took_last self.new text.now) }
         ensures refused { IfErr result (λ fault. IfRefused fault (λ refused.
-            (before : List (List ℕ)) → holds self.old before
-            → holds self.new before × refuses (before ++ text.now ∷ []) refused)) };
+            takes self.old [] self.new × refuses self.new text.now refused)) };
+
+    ghost takes_none: { (x : Self) → takes x [] x };
+
+    ghost takes_more: { (x y z : Self) (front more : List (List ℕ))
+        → takes x front y → takes y more z → takes x (front ++ more) z };
 }
 
-/// What is made of lines, and the bytes of a line that has no line feed yet.
+/// Cuts a text that comes piece by piece into lines. It keeps the bytes of a line that has no line
+/// feed yet, and is seen as these.
 #[derive(Drop)]
-pub struct LineCutter<L: Drop, A: Allocator> {
-    pub(crate) taker: L,
-    pub(crate) pending: Vec<u8, A>,
+pub struct LineCutter<A: Allocator> {
+    pending: Vec<u8, A>,
 }
 
-impl<L: TakesLines<A>, A: Allocator + Copy> LineCutter<L, A> {
-    /// Makes a cutter that hands the lines to this taker, and has taken in nothing yet.
-    pub fn new(alloc: A, taker: L) -> LineCutter<L, A>
-        ensures { L.holds taker [] → HasTaken L.holds result [] }
+impl<A: Allocator> Model for LineCutter<A> {
+    ghost use Rattle.std.specs.Prelude.{ℕ, List};
+    ghost use Rattle.mdp_capture.specs.Cutting.{IsOneLine};
+
+    ghost Value = { List ℕ };
+
+    ghost view = { λ c. c.pending.items };
+
+    ghost invariant = { λ c. IsOneLine c.pending.items };
+}
+
+impl<A: Allocator + Copy> LineCutter<A> {
+    /// Makes a cutter of a text of which nothing has come yet.
+    pub fn new(alloc: A) -> LineCutter<A>
+        ensures { result ≡ [] }
     {
         LineCutter {
-            taker,
             pending: Vec::new(alloc),
         }
     }
@@ -60,96 +74,111 @@ impl<L: TakesLines<A>, A: Allocator + Copy> LineCutter<L, A> {
     ///
     /// # Errors
     ///
-    /// `Refused` at the first line at which the run is refused: the lines before it are held.
-    /// `Memory` where memory ran out: then nothing is known of what is held.
-    pub fn take_piece(&mut self, alloc: A, piece: &[u8]) -> Result<(), CaptureFault>
-        ensures taken { OnOk result ((text : List ℕ) → HasTaken L.holds self.old text
-            → HasTaken L.holds self.new (text ++ piece.now)) }
-        ensures refused { IfErr result (λ fault. IfRefused fault (λ refused.
-            (text : List ℕ) → HasTaken L.holds self.old text
-            → IsStopped (BeginsWithLines (text ++ piece.now))
-            (L.holds self.new.taker) L.refuses refused)) }
+    /// `Refused` at the first line at which the run is refused: the lines before it were handed on.
+    /// `Memory` where memory ran out: then nothing is known of what was.
+    pub fn take_piece<L: TakesLines<A>>(
+        &mut self,
+        alloc: A,
+        piece: &[u8],
+        taker: &mut L,
+    ) -> Result<(), CaptureFault>
+        ensures taken { OnOk result (CutsInto (λ front. L.takes taker.old front taker.new)
+            (self.old ++ piece.now) self.new) }
+        ensures refused { IfErr result (λ fault. IfRefused fault (IsStopped
+            (BeginsWithLines (self.old ++ piece.now))
+            (λ front. L.takes taker.old front taker.new) (L.refuses taker.new))) }
     {
-        let begins_line = self.pending.is_empty();
-        if begins_line {
-            self.take_lines(alloc, piece)?;
-            return Ok(());
+        if self.pending.is_empty() {
+            return self.take_lines(alloc, piece, taker);
         }
         let Some(end) = memchr(b'\n', piece) else {
             self.pending.extend_from_slice(piece)?;
             return Ok(());
         };
-        self.end_line(alloc, &piece[..end])?;
-        self.take_lines(alloc, &piece[end + 1..])?;
-        Ok(())
+        self.end_line(alloc, &piece[..end], taker)?;
+        self.take_lines(alloc, &piece[end + 1..], taker)
     }
 
     // Takes in a piece that begins with a line. Each line is handed on where it lies; only what no
     // line feed ends is kept.
-    fn take_lines(&mut self, alloc: A, piece: &[u8]) -> Result<(), CaptureFault>
-        requires { self.old.pending.items ≡ [] }
-        ensures taken { OnOk result ((text : List ℕ)
-            → HoldsUpTo (L.holds self.old.taker) text piece.now → HasTaken L.holds self.new text) }
-        ensures refused { IfErr result (λ fault. IfRefused fault (λ refused.
-            (text : List ℕ) → HoldsUpTo (L.holds self.old.taker) text piece.now
-            → IsStopped (BeginsWithLines text) (L.holds self.new.taker) L.refuses refused)) }
+    fn take_lines<L: TakesLines<A>>(
+        &mut self,
+        alloc: A,
+        piece: &[u8],
+        taker: &mut L,
+    ) -> Result<(), CaptureFault>
+        requires { self.old ≡ [] }
+        ensures taken { OnOk result (CutsInto (λ front. L.takes taker.old front taker.new)
+            piece.now self.new) }
+        ensures refused { IfErr result (λ fault. IfRefused fault (IsStopped
+            (BeginsWithLines piece.now)
+            (λ front. L.takes taker.old front taker.new) (L.refuses taker.new))) }
     {
         let mut rest = piece;
         let mut last = &piece[..0];
         while let Some(end) = memchr(b'\n', rest) {
             let text = without_carriage_return(&rest[..end]);
             rest = &rest[end + 1..];
-            self.taker.take_line(alloc, text, last)?;
+            taker.take_line(alloc, text, last)?;
             last = text;
         }
-        self.pending.extend_from_slice(rest)?;
+        self.hold(rest)?;
         Ok(())
     }
 
     // Takes in the line that is pending, of which these bytes are the end, without its line feed.
-    fn end_line(&mut self, alloc: A, end: &[u8]) -> Result<(), CaptureFault>
-        ensures taken { OnOk result ((before : List (List ℕ)) → L.holds self.old.taker before
-            → L.holds self.new.taker
-            (before ++ strip_carriage_return (self.old.pending.items ++ end.now) ∷ [])) }
-        ensures none { OnOk result (self.new.pending.items ≡ []) }
-        ensures refused { IfErr result (λ fault. IfRefused fault (λ refused.
-            (before : List (List ℕ)) → L.holds self.old.taker before
-            → L.holds self.new.taker before × L.refuses
-            (before ++ strip_carriage_return (self.old.pending.items ++ end.now) ∷ []) refused)) }
+    fn end_line<L: TakesLines<A>>(
+        &mut self,
+        alloc: A,
+        end: &[u8],
+        taker: &mut L,
+    ) -> Result<(), CaptureFault>
+        requires { IsOneLine end.now }
+        ensures taken { OnOk result (L.takes taker.old
+            (strip_carriage_return (self.old ++ end.now) ∷ []) taker.new) }
+        ensures none { OnOk result (self.new ≡ []) }
+        ensures refused { IfErr result (λ fault. IfRefused fault
+            (LeavesOutLine (λ front. L.takes taker.old front taker.new) (L.refuses taker.new)
+            (strip_carriage_return (self.old ++ end.now)))) }
     {
         self.pending.extend_from_slice(end)?;
         let text = without_carriage_return(self.pending.as_slice());
-        self.taker.take_line(alloc, text, &text[..0])?;
+        taker.take_line(alloc, text, &text[..0])?;
         self.pending.clear();
         Ok(())
     }
 
-    /// Takes in the last line, where the text ended without a line feed. Then all lines of the text
-    /// are held.
+    /// Keeps the beginning of a line, where nothing is pending.
+    pub(crate) fn hold(&mut self, text: &[u8]) -> Result<(), AllocError>
+        requires none { self.old ≡ [] }
+        requires unfinished { IsOneLine text.now }
+        ensures { OnOk result (self.new ≡ text.now) }
+    {
+        self.pending.extend_from_slice(text)
+    }
+
+    /// Tells whether nothing is pending.
+    pub(crate) fn is_between_lines(&self) -> bool
+        ensures { result ≡ true → self.now ≡ [] }
+    {
+        self.pending.is_empty()
+    }
+
+    /// Takes in the last line, where the text ended without a line feed.
     ///
     /// # Errors
     ///
     /// Those of `take_piece`.
-    pub fn end(&mut self, alloc: A) -> Result<(), CaptureFault>
-        ensures taken { OnOk result ((text : List ℕ) → HasTaken L.holds self.old text
-            → L.holds self.new.taker (lines text)) }
-        ensures refused { IfErr result (λ fault. IfRefused fault (λ refused.
-            (text : List ℕ) → HasTaken L.holds self.old text
-            → IsStopped (λ all. all ≡ lines text) (L.holds self.new.taker) L.refuses refused)) }
+    pub fn end<L: TakesLines<A>>(&self, alloc: A, taker: &mut L) -> Result<(), CaptureFault>
+        ensures taken { OnOk result (L.takes taker.old (lines self.now) taker.new) }
+        ensures refused { IfErr result (λ fault. IfRefused fault
+            (IsStopped (λ all. all ≡ lines self.now)
+            (λ front. L.takes taker.old front taker.new) (L.refuses taker.new))) }
     {
         if self.pending.is_empty() {
             return Ok(());
         }
         let last = self.pending.as_slice();
-        self.taker.take_line(alloc, last, &last[..0])?;
-        Ok(())
-    }
-
-    /// Gives what was made of the lines.
-    pub fn into_taker(self) -> L
-        ensures { result ≡ self.taker }
-    {
-        let LineCutter { taker, pending: _ } = self;
-        taker
+        taker.take_line(alloc, last, &last[..0])
     }
 }

@@ -3,18 +3,15 @@
 ghost use Rattle.std.specs.Prelude.{◌≡◌, ◌≢◌, ◌+◌, ◌-◌, ◌<◌, ◌≤◌, ◌^◌, length, slice_index_or, OnOk, IfOk, IfErr, IfSome};
 ghost use Rattle.std.specs.Io.KnownBytes.{IsAtEnd};
 ghost use Rattle.mdp_capture.specs.Capture.{IsFaultOf, capture_of};
-ghost use Rattle.mdp_capture.specs.Cutting.{IsOneLine};
-ghost use Rattle.mdp_capture.specs.Part.{AreReadOf, IsReadOf, ListDepths, Says, joined};
+ghost use Rattle.mdp_capture.specs.Part.{AreReadOf, IsReadOf, joined};
 ghost use Rattle.mdp_capture.specs.Reading.{RefusesPiece, TakesPiece};
 ghost use Rattle.mdp_templates.specs.Instrument.{AreFit};
 
 use crate::capture::Capture;
-use crate::cutter::LineCutter;
-use crate::draft::Draft;
 use crate::fault::CaptureFault;
 use crate::part::{Part, read_part};
 use crate::reader::CountedRead;
-use crate::reading::{finish, room_for};
+use crate::reading::{Reading, room_for};
 use memchr::memchr;
 use std::alloc::{AllocError, Allocator};
 use std::thread;
@@ -51,12 +48,12 @@ where
         → R.failed reader.new ≡ R.failed reader.old + 1 }
     ensures sound { result ≢ Err CaptureFault.Input → R.failed reader.new ≡ R.failed reader.old }
 {
-    let mut cutter = LineCutter::new(alloc, Draft::new(alloc));
+    let mut reading = Reading::new(alloc);
     let mut piece = room_for(alloc, LARGE_PIECE)?;
     loop {
         match reader.read(piece.as_mut_slice()) {
-            Ok(0) => return finish(alloc, cutter),
-            Ok(n) => take_large_piece(rt, alloc, &mut cutter, &piece[..n], PART)?,
+            Ok(0) => return reading.finish(alloc),
+            Ok(n) => take_large_piece(rt, alloc, &mut reading, &piece[..n], PART)?,
             Err(_) => return Err(CaptureFault::Input),
         }
     }
@@ -67,59 +64,58 @@ where
 pub(crate) fn take_large_piece<T, A>(
     rt: &T,
     alloc: A,
-    cutter: &mut LineCutter<Draft<A>, A>,
+    reading: &mut Reading<A>,
     piece: &[u8],
     size: usize,
 ) -> Result<(), CaptureFault>
 where
     T: Threads + Sync,
     A: Allocator + Copy + Send + Sync,
-    ensures taken { OnOk result (TakesPiece cutter.old piece.now cutter.new) }
-    ensures refused { IfErr result (RefusesPiece cutter.old piece.now) }
+    ensures taken { OnOk result (TakesPiece reading.old piece.now reading.new) }
+    ensures refused { IfErr result (RefusesPiece reading.old piece.now) }
 {
     if piece.len() <= size {
-        cutter.take_piece(alloc, piece)?;
-        return Ok(());
+        return reading.take_piece(alloc, piece);
     }
     let end = end_of_part(piece, 0);
-    cutter.take_piece(alloc, &piece[..end])?;
-    take_by_parts(rt, alloc, cutter, &piece[end..], size)
+    reading.take_piece(alloc, &piece[..end])?;
+    take_by_parts(rt, alloc, reading, &piece[end..], size)
 }
 
 // Takes in the next piece of the text in parts of this size, which threads read.
 fn take_by_parts<T, A>(
     rt: &T,
     alloc: A,
-    cutter: &mut LineCutter<Draft<A>, A>,
+    reading: &mut Reading<A>,
     piece: &[u8],
     size: usize,
 ) -> Result<(), CaptureFault>
 where
     T: Threads + Sync,
     A: Allocator + Copy + Send + Sync,
-    ensures taken { OnOk result (TakesPiece cutter.old piece.now cutter.new) }
-    ensures refused { IfErr result (RefusesPiece cutter.old piece.now) }
+    ensures taken { OnOk result (TakesPiece reading.old piece.now reading.new) }
+    ensures refused { IfErr result (RefusesPiece reading.old piece.now) }
 {
     let texts = cut(alloc, piece, size)?;
     let parts = read_parts(rt, alloc, texts.as_slice())?;
-    take_parts(alloc, cutter, texts.as_slice(), parts)
+    take_parts(alloc, reading, texts.as_slice(), parts)
 }
 
 // Takes in these texts, one behind the other, each of which was read by itself.
 fn take_parts<A: Allocator + Copy>(
     alloc: A,
-    cutter: &mut LineCutter<Draft<A>, A>,
+    reading: &mut Reading<A>,
     texts: &[&[u8]],
     parts: Vec<Result<Part<'_, A>, AllocError>, A>,
 ) -> Result<(), CaptureFault>
     requires { AreReadOf texts.now parts.items }
-    ensures taken { OnOk result (TakesPiece cutter.old (joined texts.now) cutter.new) }
-    ensures refused { IfErr result (RefusesPiece cutter.old (joined texts.now)) }
+    ensures taken { OnOk result (TakesPiece reading.old (joined texts.now) reading.new) }
+    ensures refused { IfErr result (RefusesPiece reading.old (joined texts.now)) }
 {
     let mut number = 0;
     for part in parts {
         let part = part?;
-        take_part(alloc, cutter, texts[number], part)?;
+        take_part(alloc, reading, texts[number], part)?;
         number += 1;
     }
     Ok(())
@@ -128,25 +124,18 @@ fn take_parts<A: Allocator + Copy>(
 // Takes in a text that was read by itself. What was read counts where a line begins with it.
 fn take_part<A: Allocator + Copy>(
     alloc: A,
-    cutter: &mut LineCutter<Draft<A>, A>,
+    reading: &mut Reading<A>,
     text: &[u8],
     part: Part<'_, A>,
 ) -> Result<(), CaptureFault>
-    requires says { Says text.now part.lines.items part.rest.now }
-    requires depths { ListDepths part.lines.items }
-    requires unfinished { IsOneLine part.rest.now }
-    ensures taken { OnOk result (TakesPiece cutter.old text.now cutter.new) }
-    ensures refused { IfErr result (RefusesPiece cutter.old text.now) }
+    requires { IsReadOf text.now part }
+    ensures taken { OnOk result (TakesPiece reading.old text.now reading.new) }
+    ensures refused { IfErr result (RefusesPiece reading.old text.now) }
 {
-    let has_begun = !cutter.pending.is_empty();
-    if has_begun {
-        cutter.take_piece(alloc, text)?;
-        return Ok(());
+    if reading.is_between_lines() {
+        return reading.take_part(text, part);
     }
-    let Part { lines, rest } = part;
-    cutter.taker.add_lines(lines)?;
-    cutter.pending.extend_from_slice(rest)?;
-    Ok(())
+    reading.take_piece(alloc, text)
 }
 
 // Tells where the first part of a text ends: at the end of the line that has the byte at this size.

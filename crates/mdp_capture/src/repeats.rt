@@ -1,10 +1,11 @@
 //! Lines that repeat the datagram of the line before, as feed B mostly does feed A's: they share its bytes, which are
 //! not decoded anew.
 
-ghost use Rattle.std.specs.Prelude.{◌≡◌, ◌<◌, true, length, OnOk, IfOk, IfErr, IfSome};
-ghost use Rattle.mdp_capture.specs.Capture.{add_line, next_line};
+ghost use Rattle.std.specs.Prelude.{◌≡◌, ◌<◌, ◌++◌, ℕ, List, true, length, OnOk, IfOk, IfErr, IfSome};
+ghost use Rattle.std.proofs.Common.{◌∙◌, ap, append_assoc, refl};
+ghost use Rattle.mdp_capture.specs.Capture.{add_line, add_lines, next_line};
 ghost use Rattle.mdp_capture.specs.Repeats.{HasBytesOf, Spells};
-ghost use Rattle.mdp_capture.specs.Draft.{capture_so_far, AreFitSoFar, HoldsLines, IsRefusedAt, LeavesOut};
+ghost use Rattle.mdp_capture.specs.Draft.{capture_so_far, AreFitSoFar, IsRefusedAt, LeavesOut, TakesTexts};
 ghost use Rattle.mdp_capture.specs.Line.{fields, line_of, packet_of};
 ghost use Rattle.mdp_templates.specs.declared.feed.Feed.{Feed};
 
@@ -16,16 +17,24 @@ use bytes::Bytes;
 use std::alloc::{AllocError, Allocator};
 
 impl<A: Allocator + Copy> TakesLines<A> for Draft<A> {
-    ghost holds = { λ draft before. HoldsLines draft before };
+    ghost takes = { λ old front new. TakesTexts old front new };
 
     ghost took_last = { λ draft text. HasBytesOf (line_of text) draft };
 
-    ghost refuses = { λ before refused. IsRefusedAt before refused };
+    ghost refuses = { λ draft text refused. IsRefusedAt draft text refused };
 
     fn take_line(&mut self, alloc: A, text: &[u8], last: &[u8]) -> Result<(), CaptureFault> {
-        self.add_text(alloc, text, last)?;
-        Ok(())
+        self.add_text(alloc, text, last)
     }
+
+    ghost takes_none = { λ x. record { comes = λ rest. refl; fit = λ fit. fit } };
+
+    ghost takes_more = { λ x y z front more first next. record {
+      comes = λ rest.
+          ap (λ (ls : List (List ℕ)). add_lines x.line ls (capture_so_far x)) (append_assoc front more rest)
+          ∙ first.comes (more ++ rest) ∙ next.comes rest;
+      fit = λ fit. next.fit (first.fit fit);
+    } };
 }
 
 impl<A: Allocator + Copy> Draft<A> {

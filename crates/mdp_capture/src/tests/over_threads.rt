@@ -2,10 +2,8 @@
 
 ghost use Rattle.std.specs.Prelude.{◌<◌};
 
-use crate::cutter::LineCutter;
-use crate::draft::Draft;
 use crate::over_threads::take_large_piece;
-use crate::reading::finish;
+use crate::reading::Reading;
 use crate::tests::{REPEATS, TEXT, is_same, read};
 use crate::{Capture, CaptureFault, CaptureRefusal, CountingReader, read_capture_over_threads};
 use refusing::Refusing;
@@ -27,11 +25,11 @@ where
     A: Allocator + Copy + Send + Sync,
     requires { 0 < piece }
 {
-    let mut cutter = LineCutter::new(alloc, Draft::new(alloc));
+    let mut reading = Reading::new(alloc);
     for bytes in text.as_bytes().chunks(piece) {
-        take_large_piece(rt, alloc, &mut cutter, bytes, part)?;
+        take_large_piece(rt, alloc, &mut reading, bytes, part)?;
     }
-    finish(alloc, cutter)
+    reading.finish(alloc)
 }
 
 fn are_same(rt: &impl Abort, one: &Capture<Global>, other: &Capture<Global>) {

@@ -2,29 +2,21 @@ use Rattle.std.proofs.Common.{◌++◌, ℕ, List, take, drop, sym, ap, ◌∙�
 use Rattle.std.proofs.lemmas.List.{take_rest}
 use Rattle.std.proofs.lemmas.Result.{err_from_is_err_and, IfErr-weaker, on_ok_weaker}
 use Rattle.mdp_capture.specs.Capture.{capture_of}
-use Rattle.mdp_capture.specs.Cutting.{HasTaken}
-use Rattle.mdp_capture.specs.Draft.{HoldsLines}
-use Rattle.mdp_capture.specs.Reading.{RefusesPiece}
-use Rattle.mdp_capture.proofs.Drafts.{piece_refused}
+use Rattle.mdp_capture.specs.Reading.{HasRead, RefusesPiece}
 use Rattle.mdp_capture.proofs.Parts.{cut_whole, two_parts}
 use Rattle.mdp_capture.proofs.Pieces.{same_fault}
 use Rattle.mdp_capture.proofs.over_threads.take_large_piece.Goals as goal
 
-pub returns-in_err-take_piece-clause-refused : goal.returns-in_err-take_piece-clause-refused
-returns-in_err-take_piece-clause-refused g c =
-    let p = err_from_is_err_and c.from_residual.result c.from_residual.ensures.1 in
-    rw (p.1, p.2) (piece_refused c.args.cutter.now c.take_piece.new.self c.args.piece.now _ c.in_err-take_piece.ensures.refused)
-
 pub returns-in_err-take_piece-2-clause-refused : goal.returns-in_err-take_piece-2-clause-refused
 returns-in_err-take_piece-2-clause-refused g c =
-    let p = err_from_is_err_and c.from_residual-in_err-take_piece-2.result c.from_residual-in_err-take_piece-2.ensures.1 in
-    let old = c.args.cutter.now in
+    let p = err_from_is_err_and c.from_residual.result c.from_residual.ensures.1 in
+    let old = c.args.reading.now in
     let piece = c.args.piece.now in
     let end = c.end_of_part-end.result in
     let rest = drop end piece in
     rw (p.1, p.2) (λ text more taken.
     same_fault _ _ _ (ap capture_of (two_parts text (take end piece) rest more (text ++ piece) (cut_whole end text piece)))
-    (piece_refused old c.take_piece-2.new.self (take end piece) _ c.in_err-take_piece-2.ensures.refused text (rest ++ more) taken))
+    (c.in_err-take_piece-2.ensures.refused text (rest ++ more) taken))
 
 pub returns-clause-taken : goal.returns-clause-taken
 returns-clause-taken g c =
@@ -32,13 +24,13 @@ returns-clause-taken g c =
     let end = c.end_of_part-end.result in
     let further = rw (take_rest piece end) at c.take_by_parts.ensures.taken in
     on_ok_weaker c.take_by_parts.result
-    (λ on text taken. subst (HasTaken HoldsLines c.take_by_parts.new.cutter) (append_assoc text (take end piece) (drop end piece) ∙ cut_whole end text piece)
+    (λ on text taken. subst (HasRead c.take_by_parts.new.reading) (append_assoc text (take end piece) (drop end piece) ∙ cut_whole end text piece)
     (on (text ++ take end piece) (c.in_ok-take_piece-2.ensures.taken text taken)))
     further
 
 pub returns-clause-refused : goal.returns-clause-refused
 returns-clause-refused g c =
-    let old = c.args.cutter.now in
+    let old = c.args.reading.now in
     let mid = c.take_piece-2.new.self in
     let piece = c.args.piece.now in
     let end = c.end_of_part-end.result in

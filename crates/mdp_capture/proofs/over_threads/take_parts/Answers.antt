@@ -2,9 +2,8 @@ use Rattle.std.proofs.Common.{◌≡◌, ◌++◌, ◌+◌, ◌∷◌, [], ℕ, 
 use Rattle.std.specs.Vec.Iter.{into_iter_items}
 use Rattle.std.proofs.lemmas.Result.{err_from_is_err_and}
 use Rattle.mdp_capture.specs.Capture.{capture_of}
-use Rattle.mdp_capture.specs.Cutting.{HasTaken}
-use Rattle.mdp_capture.specs.Draft.{HoldsLines}
 use Rattle.mdp_capture.specs.Part.{AreReadOf, IsReadOf, joined}
+use Rattle.mdp_capture.specs.Reading.{HasRead}
 use Rattle.mdp_capture.proofs.Parts.{next_at, none_left, read_there, two_parts}
 use Rattle.mdp_capture.proofs.Pieces.{same_fault}
 use Rattle.mdp_capture.proofs.over_threads.take_parts.Goals as goal
@@ -19,35 +18,15 @@ loop-part-init g c =
       left = gives.1 ∙ count ∙ ap length (sym gives.0);
     }
 
-pub take_part-requires-clause-says : goal.take_part-requires-clause-says
-take_part-requires-clause-says g c =
+pub take_part-requires : goal.take_part-requires
+take_part-requires g c =
     let at = c.loop-part in
     let texts = c.args.texts.now in
     let none : Bor (List ℕ) = record { ref_ptr = (0, 0); now = [] } in
     let further = into_iter_items c.next.new.self in
     let here : AreReadOf (drop at.number texts) (c.in-Some.part ∷ further) = rw c.in-Some.ensures.steps.0 at at.invariant.read in
     let next = next_at texts at.number none c.in-Some.part further here in
-    (read_there c.in-Some.part c.in_ok-part.part (IsReadOf (slice_index_or texts at.number none).now) c.in_ok-part.was next.read).says
-
-pub take_part-requires-clause-depths : goal.take_part-requires-clause-depths
-take_part-requires-clause-depths g c =
-    let at = c.loop-part in
-    let texts = c.args.texts.now in
-    let none : Bor (List ℕ) = record { ref_ptr = (0, 0); now = [] } in
-    let further = into_iter_items c.next.new.self in
-    let here : AreReadOf (drop at.number texts) (c.in-Some.part ∷ further) = rw c.in-Some.ensures.steps.0 at at.invariant.read in
-    let next = next_at texts at.number none c.in-Some.part further here in
-    (read_there c.in-Some.part c.in_ok-part.part (IsReadOf (slice_index_or texts at.number none).now) c.in_ok-part.was next.read).depths
-
-pub take_part-requires-clause-unfinished : goal.take_part-requires-clause-unfinished
-take_part-requires-clause-unfinished g c =
-    let at = c.loop-part in
-    let texts = c.args.texts.now in
-    let none : Bor (List ℕ) = record { ref_ptr = (0, 0); now = [] } in
-    let further = into_iter_items c.next.new.self in
-    let here : AreReadOf (drop at.number texts) (c.in-Some.part ∷ further) = rw c.in-Some.ensures.steps.0 at at.invariant.read in
-    let next = next_at texts at.number none c.in-Some.part further here in
-    (read_there c.in-Some.part c.in_ok-part.part (IsReadOf (slice_index_or texts at.number none).now) c.in_ok-part.was next.read).unfinished
+    read_there c.in-Some.part c.in_ok-part.part (IsReadOf (slice_index_or texts at.number none).now) c.in_ok-part.was next.read
 
 pub returns-in_err-take_part-clause-refused : goal.returns-in_err-take_part-clause-refused
 returns-in_err-take_part-clause-refused g c =
@@ -99,4 +78,4 @@ returns-clause-taken g c text taken =
     let left = joined (drop at.number c.args.texts.now) in
     let none : left ≡ [] = none_left (drop at.number c.args.texts.now) (into_iter_items at.part-iterator) at.invariant.read (sym at.invariant.left ∙ c.in-None.ensures.steps.0) in
     let is : before.0 ≡ text ++ joined c.args.texts.now = sym (append-nil before.0) ∙ ap (λ (t : List ℕ). before.0 ++ t) (sym none) ∙ before.2 in
-    subst (HasTaken HoldsLines at.cutter) is before.1
+    subst (HasRead at.reading) is before.1
