@@ -45,9 +45,9 @@ module _ {A : Type 0} where
       (λ refused out. (
         takes_nothing old new out.1 out.2,
         λ rest.
-        ap (λ (n : ℕ). add_lines n (text ∷ rest) (capture_so_far new)) out.2
-        ∙ ap (add_lines old.line (text ∷ rest)) out.1
-        ∙ ap (λ (r : Result CaptureContent RefusedLine). and_then r (add_lines (next_line old.line) rest)) out.0,
+            ap (λ (n : ℕ). add_lines n (text ∷ rest) (capture_so_far new)) out.2
+            ∙ ap (add_lines old.line (text ∷ rest)) out.1
+            ∙ ap (λ (r : Result CaptureContent RefusedLine). and_then r (add_lines (next_line old.line) rest)) out.0,
       ))
 
   held_more : (old new : Draft A) (before front : List (List ℕ)) → HoldsLines old before → TakesTexts old front new → HoldsLines new (before ++ front)

@@ -7,8 +7,8 @@ use Rattle.mdp_capture.proofs.Parts.{cut_whole, two_parts}
 use Rattle.mdp_capture.proofs.Pieces.{same_fault}
 use Rattle.mdp_capture.proofs.over_threads.take_large_piece.Goals as goal
 
-pub returns-in_err-take_piece-2-clause-refused : goal.returns-in_err-take_piece-2-clause-refused
-returns-in_err-take_piece-2-clause-refused g c =
+pub returns-in_err-take_piece-clause-refused : goal.returns-in_err-take_piece-clause-refused
+returns-in_err-take_piece-clause-refused g c =
     let p = err_from_is_err_and c.from_residual.result c.from_residual.ensures.1 in
     let old = c.args.reading.now in
     let piece = c.args.piece.now in
@@ -16,7 +16,7 @@ returns-in_err-take_piece-2-clause-refused g c =
     let rest = drop end piece in
     rw (p.1, p.2) (λ text more taken.
     same_fault _ _ _ (ap capture_of (two_parts text (take end piece) rest more (text ++ piece) (cut_whole end text piece)))
-    (c.in_err-take_piece-2.ensures.refused text (rest ++ more) taken))
+    (c.in_err-take_piece.ensures.refused text (rest ++ more) taken))
 
 pub returns-clause-taken : goal.returns-clause-taken
 returns-clause-taken g c =
@@ -25,7 +25,7 @@ returns-clause-taken g c =
     let further = rw (take_rest piece end) at c.take_by_parts.ensures.taken in
     on_ok_weaker c.take_by_parts.result
     (λ on text taken. subst (HasRead c.take_by_parts.new.reading) (append_assoc text (take end piece) (drop end piece) ∙ cut_whole end text piece)
-    (on (text ++ take end piece) (c.in_ok-take_piece-2.ensures.taken text taken)))
+    (on (text ++ take end piece) (c.in_ok-take_piece.ensures.taken text taken)))
     further
 
 pub returns-clause-refused : goal.returns-clause-refused
@@ -38,5 +38,5 @@ returns-clause-refused g c =
     IfErr-weaker c.take_by_parts.result (RefusesPiece mid (drop end piece)) (RefusesPiece old piece)
     (λ fault is text more taken.
     same_fault _ _ fault (ap capture_of (ap (λ (t : List ℕ). t ++ more) (sym (append_assoc text (take end piece) (drop end piece) ∙ cut_whole end text piece))))
-    (is (text ++ take end piece) more (c.in_ok-take_piece-2.ensures.taken text taken)))
+    (is (text ++ take end piece) more (c.in_ok-take_piece.ensures.taken text taken)))
     refused
