@@ -27,7 +27,7 @@ mod worker;
 
 pub use batch::Batch;
 pub use begun::{Begun, begin, join};
-pub use fault::{RunFault, hand_on};
+pub use fault::{RunFault, hand_on, out_of_memory};
 pub use gate::{Gate, Open};
 pub use plan::RunPlan;
 pub use running::{CrewOutcome, run_crew};

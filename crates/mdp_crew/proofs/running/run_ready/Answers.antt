@@ -60,10 +60,10 @@ pub returns-clause-told : goal.returns-clause-told
 returns-clause-told g c =
     let start = g.W.CountedWrite.taken c.args.writer.now in
     let taken = g.W.CountedWrite.taken c.collect-collected.new.writer in
-    let begun = ap (λ (n : ℕ). length taken - n) c.written.ensures in
+    let begun = ap (λ (n : ℕ). length taken - n) c.written-since.ensures in
     subst (λ (o : Result Standing RunFault). IfErr o (λ (fault : RunFault). written_before fault ≡ length taken - length start)) (sym c.outcome.ensures)
     (told_alike c.written_since.result (length taken - length start) c.collect-collected.result _ (c.written_since.ensures ∙ begun)
-    (subst (λ (n : ℕ). IfErr c.collect-collected.result (λ (fault : RunFault). written_before fault ≡ length taken - n)) c.written.ensures c.collect-collected.ensures.told))
+    (subst (λ (n : ℕ). IfErr c.collect-collected.result (λ (fault : RunFault). written_before fault ≡ length taken - n)) c.written-since.ensures c.collect-collected.ensures.told))
 
 pub returns-clause-range : goal.returns-clause-range
 returns-clause-range g c =

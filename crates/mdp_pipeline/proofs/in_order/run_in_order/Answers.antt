@@ -47,8 +47,8 @@ returns-clause-text g c =
 
 pub returns-clause-written : goal.returns-clause-written
 returns-clause-written g c =
-    printed_counted (channel_in c.args.plan) (records_in c.args.feeds) (g.W.CountedWrite.taken c.args.writer.now) (g.W.CountedWrite.taken c.finish.new.writer) c.written.result c.finish.result
-    c.written.ensures (returns-clause-text g c) c.finish.ensures.written
+    printed_counted (channel_in c.args.plan) (records_in c.args.feeds) (g.W.CountedWrite.taken c.args.writer.now) (g.W.CountedWrite.taken c.finish.new.writer) c.written-since.result c.finish.result
+    c.written-since.ensures (returns-clause-text g c) c.finish.ensures.written
 
 -- no run was made
 pub returns-in_default-clause-begins : goal.returns-in_default-clause-begins
@@ -93,20 +93,20 @@ returns-clause-begins g c =
 pub returns-in_default-clause-told : goal.returns-in_default-clause-told
 returns-in_default-clause-told g c =
     let start = g.W.CountedWrite.taken c.args.writer.now in
-    begun_counted (channel_in c.args.plan) (records_in c.args.feeds) start start c.written.result c.out_of_memory.result c.written.ensures (returns-in_default-clause-begins g c) (ap written_before c.out_of_memory.ensures)
+    begun_counted (channel_in c.args.plan) (records_in c.args.feeds) start start c.written-since.result c.out_of_memory.result c.written-since.ensures (returns-in_default-clause-begins g c) (ap written_before c.out_of_memory.ensures)
 
 pub returns-in_default-take-clause-told : goal.returns-in_default-take-clause-told
 returns-in_default-take-clause-told g c =
-    begun_counted (channel_in c.args.plan) (records_in c.args.feeds) (g.W.CountedWrite.taken c.args.writer.now) (g.W.CountedWrite.taken c.loop-feed.writer) c.written.result c.out_of_memory.result
-    c.written.ensures (returns-in_default-take-clause-begins g c) (ap written_before c.out_of_memory.ensures)
+    begun_counted (channel_in c.args.plan) (records_in c.args.feeds) (g.W.CountedWrite.taken c.args.writer.now) (g.W.CountedWrite.taken c.loop-feed.writer) c.written-since.result c.out_of_memory.result
+    c.written-since.ensures (returns-in_default-take-clause-begins g c) (ap written_before c.out_of_memory.ensures)
 
 pub returns-in_err-hand_on_pieces-clause-told : goal.returns-in_err-hand_on_pieces-clause-told
 returns-in_err-hand_on_pieces-clause-told g c =
     let fault = err_from_is_err_and c.from_residual.result c.from_residual.ensures.1 in
-    failed_counted (channel_in c.args.plan) (records_in c.args.feeds) (g.W.CountedWrite.taken c.args.writer.now) (g.W.CountedWrite.taken c.hand_on_pieces.new.writer) c.written.result c.from_residual.result
-    c.written.ensures (returns-in_err-hand_on_pieces-clause-begins g c) (rw (fault.1, fault.2) c.in_err-hand_on_pieces.ensures.told)
+    failed_counted (channel_in c.args.plan) (records_in c.args.feeds) (g.W.CountedWrite.taken c.args.writer.now) (g.W.CountedWrite.taken c.hand_on_pieces.new.writer) c.written-since.result c.from_residual.result
+    c.written-since.ensures (returns-in_err-hand_on_pieces-clause-begins g c) (rw (fault.1, fault.2) c.in_err-hand_on_pieces.ensures.told)
 
 pub returns-clause-told : goal.returns-clause-told
 returns-clause-told g c =
-    failed_counted (channel_in c.args.plan) (records_in c.args.feeds) (g.W.CountedWrite.taken c.args.writer.now) (g.W.CountedWrite.taken c.finish.new.writer) c.written.result c.finish.result
-    c.written.ensures (returns-clause-begins g c) c.finish.ensures.told
+    failed_counted (channel_in c.args.plan) (records_in c.args.feeds) (g.W.CountedWrite.taken c.args.writer.now) (g.W.CountedWrite.taken c.finish.new.writer) c.written-since.result c.finish.result
+    c.written-since.ensures (returns-clause-begins g c) c.finish.ensures.told
