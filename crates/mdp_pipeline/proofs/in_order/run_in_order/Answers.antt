@@ -97,8 +97,8 @@ returns-in_default-clause-told g c =
 
 pub returns-in_default-take-clause-told : goal.returns-in_default-take-clause-told
 returns-in_default-take-clause-told g c =
-    begun_counted (channel_in c.args.plan) (records_in c.args.feeds) (g.W.CountedWrite.taken c.args.writer.now) (g.W.CountedWrite.taken c.loop-feed.writer) c.written-since.result c.out_of_memory.result
-    c.written-since.ensures (returns-in_default-take-clause-begins g c) (ap written_before c.out_of_memory.ensures)
+    begun_counted (channel_in c.args.plan) (records_in c.args.feeds) (g.W.CountedWrite.taken c.args.writer.now) (g.W.CountedWrite.taken c.loop-feed.writer) c.written-since.result c.out_of_memory-in_default-take.result
+    c.written-since.ensures (returns-in_default-take-clause-begins g c) (ap written_before c.out_of_memory-in_default-take.ensures)
 
 pub returns-in_err-hand_on_pieces-clause-told : goal.returns-in_err-hand_on_pieces-clause-told
 returns-in_err-hand_on_pieces-clause-told g c =
