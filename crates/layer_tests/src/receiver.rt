@@ -154,6 +154,36 @@ fn recovers<A: Allocator + Copy, T: Abort>(
     Ok(())
 }
 
+/// Each record's datagram comes on feed B, and this becomes of its packet.
+fn all_become<A: Allocator + Copy, T: Abort>(
+    rt: &T,
+    alloc: A,
+    handler: &mut Handler<A>,
+    records: &[Record<A>],
+    fate: PacketFate,
+) -> Result<(), Memory> {
+    for record in records {
+        let (taken, _) = one(alloc, handler, Feed::B, record)?;
+        assert_eq!(rt; taken, Taken::Packet(fate));
+    }
+    Ok(())
+}
+
+/// Checks a recovery, a refused datagram, and packets that come again when they have passed and after the close.
+fn tells_of_each<A: Allocator + Copy, T: Abort>(
+    rt: &T,
+    alloc: A,
+    handler: &mut Handler<A>,
+    capture: &Capture<A>,
+) -> Result<(), Memory> {
+    recovers(rt, alloc, handler, capture)?;
+    let refused = handler.datagram(alloc, Feed::A, b"short")?;
+    assert_eq!(rt; refused, Taken::Refused(Refusal::TooShort));
+    all_become(rt, alloc, handler, capture.a(), PacketFate::Past)?;
+    handler.close()?;
+    all_become(rt, alloc, handler, capture.a(), PacketFate::AfterClose)
+}
+
 #[test]
 fn a_handler_tells_what_became_of_each_datagram(rt: HostRuntime) -> Result<(), Fail> {
     let alloc = rt.alloc();
@@ -161,18 +191,27 @@ fn a_handler_tells_what_became_of_each_datagram(rt: HostRuntime) -> Result<(), F
         return Err("no capture".into());
     };
     let mut handler = Handler::new(alloc, capture.instruments(), 4, Start::FromOne)?;
-    recovers(&rt, alloc, &mut handler, &capture)?;
-    let refused = handler.datagram(alloc, Feed::A, b"short")?;
-    assert_eq!(rt; refused, Taken::Refused(Refusal::TooShort));
-    for record in capture.a() {
-        let (taken, _) = one(alloc, &mut handler, Feed::B, record)?;
-        assert_eq!(rt; taken, Taken::Packet(PacketFate::Past));
-    }
-    handler.close()?;
-    for record in capture.a() {
-        let (taken, _) = one(alloc, &mut handler, Feed::B, record)?;
-        assert_eq!(rt; taken, Taken::Packet(PacketFate::AfterClose));
-    }
+    tells_of_each(&rt, alloc, &mut handler, &capture)?;
+    Ok(())
+}
+
+/// Checks the levels of the books after a recovery, and which books are current.
+fn books_stand<A: Allocator + Copy, T: Abort>(rt: &T, handler: &Handler<A>) -> Result<(), Fail> {
+    let near = handler.best(0).ok_or("no best levels")?;
+    let bid = Total {
+        price: 101,
+        size: 9,
+    };
+    let offer = Total {
+        price: 103,
+        size: 4,
+    };
+    assert_eq!(rt; (near.bid, near.offer), (Some(bid), Some(offer)));
+    let far = handler.consolidated(1).ok_or("no levels")?;
+    assert_eq!(rt; far.bids().len(), 0);
+    assert_eq!(rt; far.offers(), [Total { price: 90, size: 3 }].as_slice());
+    assert!(rt; handler.book(2).is_some() && handler.book(3).is_none());
+    assert!(rt; handler.is_current(0) && handler.is_current(2) && !handler.is_current(3));
     Ok(())
 }
 
@@ -183,33 +222,7 @@ fn a_handler_lends_the_books_as_they_stand(rt: HostRuntime) -> Result<(), Fail> 
         return Err("no capture".into());
     };
     let mut handler = Handler::new(alloc, capture.instruments(), 4, Start::FromOne)?;
-    assert!(rt; handler.is_current(0));
-    assert!(rt; handler.best(3).is_none());
+    assert!(rt; handler.is_current(0) && handler.best(3).is_none());
     recovers(&rt, alloc, &mut handler, &capture)?;
-    let Some(near) = handler.best(0) else {
-        return Err("no best levels".into());
-    };
-    assert_eq!(rt;
-        near.bid,
-        Some(Total {
-            price: 101,
-            size: 9
-        })
-    );
-    assert_eq!(rt;
-        near.offer,
-        Some(Total {
-            price: 103,
-            size: 4
-        })
-    );
-    let Some(far) = handler.consolidated(1) else {
-        return Err("no levels".into());
-    };
-    assert_eq!(rt; far.bids().len(), 0);
-    assert_eq!(rt; far.offers(), [Total { price: 90, size: 3 }].as_slice());
-    assert!(rt; handler.book(2).is_some());
-    assert!(rt; handler.book(3).is_none());
-    assert!(rt; handler.is_current(0) && handler.is_current(2) && !handler.is_current(3));
-    Ok(())
+    books_stand(&rt, &handler)
 }
