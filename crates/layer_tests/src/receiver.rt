@@ -121,7 +121,7 @@ fn waits_up_to(highest: u64) -> ChannelState {
         next: 1,
         lost: highest >= 5,
         highest,
-        waiting: highest - 1,
+        waiting: highest.saturating_sub(1),
         stale: if highest >= 5 { Some(0) } else { None },
     }
 }
@@ -139,7 +139,7 @@ fn recovers<A: Allocator + Copy, T: Abort>(
         assert_eq!(rt; one(alloc, handler, Feed::A, record)?, first);
         let again = (Taken::Packet(PacketFate::Repeat), waits_up_to(highest));
         assert_eq!(rt; one(alloc, handler, Feed::B, record)?, again);
-        highest += 1;
+        highest = highest.saturating_add(1);
     }
     for record in capture.s() {
         let (taken, state) = one(alloc, handler, Feed::S, record)?;
