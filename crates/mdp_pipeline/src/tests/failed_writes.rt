@@ -1,7 +1,7 @@
 //! Each write of a run failing in turn, in each way: the run tells how many bytes went out before, and writes nothing more.
 
-use crate::summary::RunFault;
 use crate::tests::ways::{ONE_PACKET, ROWS, Row, WAYS, Way, run_by};
+use mdp_crew::RunFault;
 use std::alloc::Global;
 use std::io::ErrorKind;
 use std::process::Abort;

@@ -1,7 +1,7 @@
 //! Each allocation of a run refused in turn: the run answers want of memory, and what went out is a beginning of its text.
 
-use crate::summary::RunFault;
 use crate::tests::ways::{ROWS, Row, WAYS, Way, run_by};
+use mdp_crew::RunFault;
 use refusing::Refusing;
 use std::alloc::Global;
 use std::process::Abort;
