@@ -6,18 +6,17 @@ ghost use Rattle.mdp_print.specs.Written.{HasCounted};
 ghost use Rattle.mdp_crew.specs.Plan.{IsLawful, channel_in};
 ghost use Rattle.mdp_crew.specs.Faults.{FailsBy, written_before};
 ghost use Rattle.mdp_pipeline.specs.Merge.{records_in};
-ghost use Rattle.mdp_pipeline.specs.Output.{BeginsByLine, PrintsByLine, end_text, standing_in};
+ghost use Rattle.mdp_pipeline.specs.Output.{BeginsByLine, PrintsByLine, standing_in};
 ghost use Rattle.mdp_pipeline.specs.Running.{EndsAs, EndsEarly, HandsOn, HasWritten, joined_texts};
 ghost use Rattle.mdp_arbiter.specs.Accepted.{Event};
 ghost use Rattle.mdp_arbiter.specs.Channel.{ListedChannel};
 
 use crate::feeds::Feeds;
 use crate::progress::Run;
-use crate::refusals::Refusals;
-use crate::summary::Summary;
+use crate::summary::{Summary, write_end};
 use mdp_arbiter::Standing;
 use mdp_crew::{RunFault, RunPlan, hand_on, out_of_memory};
-use mdp_print::{CountedWrite, written_since};
+use mdp_print::CountedWrite;
 use std::alloc::Allocator;
 
 /// How many bytes of text are gathered before they are written.
@@ -119,36 +118,4 @@ fn finish<W: CountedWrite, A: Allocator + Copy>(
     };
     hand_on(writer, handler.lines(), since)?;
     write_end(writer, refusals, standing, since)
-}
-
-/// Writes the lines of the refused datagrams and the last line, after all others of a run that began after the writer had taken
-/// `since` bytes.
-pub fn write_end<W: CountedWrite, A: Allocator + Copy>(
-    writer: &mut W,
-    refusals: Refusals<A>,
-    standing: Standing,
-    since: u64,
-) -> Result<Summary, RunFault>
-    requires { W.failed writer.old < 2 ^ 64 - 1 }
-    ensures stands { IfOk result (λ summary. standing_in summary ≡ standing) }
-    ensures text { OnOk result (W.taken writer.new ≡ W.taken writer.old
-        ++ end_text (joined_texts refusals) standing) }
-    ensures begins { IfErr result (λ _. (n : ℕ) × (W.taken writer.new
-        ≡ W.taken writer.old ++ take n (end_text (joined_texts refusals) standing))) }
-    ensures written { IfOk result (λ summary.
-        summary.written ≡ length (W.taken writer.new) - since) }
-    ensures told { IfErr result (λ fault.
-        written_before fault ≡ length (W.taken writer.new) - since) }
-    ensures failed { FailsBy result (W.failed writer.old) (W.failed writer.new) }
-{
-    let Standing { next, lost } = standing;
-    let Ok(end) = refusals.into_end(next, lost) else {
-        return Err(out_of_memory(writer, since));
-    };
-    hand_on(writer, &end, since)?;
-    Ok(Summary {
-        next,
-        lost,
-        written: written_since(writer, since),
-    })
 }

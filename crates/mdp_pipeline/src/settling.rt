@@ -15,10 +15,9 @@ ghost use Rattle.mdp_pipeline.specs.Output.{SaysAll, SaysSome, standing_in};
 ghost use Rattle.mdp_pipeline.specs.Taken.{HasReadFor};
 
 use crate::feeds::Feeds;
-use crate::in_order::write_end;
 use crate::reader::ReaderOutcome;
 use crate::refusals::Refusals;
-use crate::summary::Summary;
+use crate::summary::{Summary, write_end};
 use mdp_crew::{CrewOutcome, RunFault, out_of_memory};
 use mdp_lanes::Intake;
 use mdp_print::CountedWrite;

@@ -1,6 +1,17 @@
-//! What became of a run.
+//! What became of a run, and the end of its text.
 
-/// What a run came to. The number of bytes stays at 2^64 - 1 once it is there.
+ghost use Rattle.std.specs.Prelude.{◌≡◌, ◌<◌, ◌^◌, ◌-◌, ◌++◌, ℕ, length, take, IfOk, IfErr, OnOk};
+ghost use Rattle.mdp_crew.specs.Faults.{FailsBy, written_before};
+ghost use Rattle.mdp_pipeline.specs.Output.{end_text, standing_in};
+ghost use Rattle.mdp_pipeline.specs.Running.{joined_texts};
+
+use crate::refusals::Refusals;
+use mdp_arbiter::Standing;
+use mdp_crew::{RunFault, hand_on, out_of_memory};
+use mdp_print::{CountedWrite, written_since};
+use std::alloc::Allocator;
+
+/// What a run came to.
 #[derive(Clone, Copy, Debug, PartialEq, Eq)]
 pub struct Summary {
     /// The number of the packet that comes next, from 1 to 4294967296.
@@ -10,4 +21,36 @@ pub struct Summary {
     pub lost: bool,
     /// How many bytes were written.
     pub written: u64,
+}
+
+/// Writes the lines of the refused datagrams and the last line, after all others. The writer had
+/// taken `since` bytes before the run.
+pub fn write_end<W: CountedWrite, A: Allocator + Copy>(
+    writer: &mut W,
+    refusals: Refusals<A>,
+    standing: Standing,
+    since: u64,
+) -> Result<Summary, RunFault>
+    requires { W.failed writer.old < 2 ^ 64 - 1 }
+    ensures stands { IfOk result (λ summary. standing_in summary ≡ standing) }
+    ensures text { OnOk result (W.taken writer.new ≡ W.taken writer.old
+        ++ end_text (joined_texts refusals) standing) }
+    ensures begins { IfErr result (λ _. (n : ℕ) × (W.taken writer.new
+        ≡ W.taken writer.old ++ take n (end_text (joined_texts refusals) standing))) }
+    ensures written { IfOk result (λ summary.
+        summary.written ≡ length (W.taken writer.new) - since) }
+    ensures told { IfErr result (λ fault.
+        written_before fault ≡ length (W.taken writer.new) - since) }
+    ensures failed { FailsBy result (W.failed writer.old) (W.failed writer.new) }
+{
+    let Standing { next, lost } = standing;
+    let Ok(end) = refusals.into_end(next, lost) else {
+        return Err(out_of_memory(writer, since));
+    };
+    hand_on(writer, &end, since)?;
+    Ok(Summary {
+        next,
+        lost,
+        written: written_since(writer, since),
+    })
 }

@@ -1,7 +1,7 @@
 use Rattle.std.proofs.Common.{◌∙◌, ◌++◌, List, ℕ, take, sym, ap}
 use Rattle.std.proofs.lemmas.List.{append-nil}
 use Rattle.std.proofs.lemmas.Result.{err_from_is_err_and}
-use Rattle.mdp_pipeline.proofs.in_order.write_end.Goals as goal
+use Rattle.mdp_pipeline.proofs.summary.write_end.Goals as goal
 
 pub returns-clause-text : goal.returns-clause-text
 returns-clause-text g c = c.in_ok-hand_on.ensures.taken ∙ ap (λ (t : List ℕ). g.W.CountedWrite.taken c.args.writer.now ++ t) (c.deref.ensures.value ∙ c.in-Ok.ensures)
