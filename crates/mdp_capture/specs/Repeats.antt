@@ -44,6 +44,6 @@ bytes_in Closing = None
 bytes_in Blank = None
 bytes_in (Skipped skip) = None
 
--- where a draft knows on which feed the line before brought a datagram, the last record there has the bytes of this line
+-- where a draft knows on which feed the line before brought a datagram, the last record there has this line's bytes
 abbrev pub HasBytesOf : {A : Type 0} → LineContent → Draft A → Type 0
 HasBytesOf line draft = IfSome draft.brought_on (λ feed. newest_on feed (capture_so_far draft) ≡ bytes_in line)

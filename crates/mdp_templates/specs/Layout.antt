@@ -15,7 +15,7 @@ AreRefusedEntries read [] r = ⊥
 AreRefusedEntries {E} read (text ∷ texts) r =
     (read text ≡ Err r) ⊎ ((entry : E) × (read text ≡ Ok entry) × AreRefusedEntries read texts r)
 
--- how a template's messages are laid out: what an entry says, and how many bytes a root block and an entry have at least
+-- how a template's messages are laid out: what an entry says, and the fewest bytes of a root block and of an entry
 pub record Layout (E : Type 0) : Type 0 where
   pub read : List ℕ → Result E Refusal
   pub least_root : ℕ
@@ -25,7 +25,8 @@ abbrev pub layout_of : {E : Type 0} → (List ℕ → Result E Refusal) → ℕ 
 layout_of read least_root least_entry = record { read = read; least_root = least_root; least_entry = least_entry }
 
 -- a message has this root block and these entries; both are at least so long as the template's fields
-pub record IsLaidOut {E : Type 0} (layout : Layout E) (message : Parts) (root : List ℕ) (entries : List E) : Type 0 where
+pub record IsLaidOut {E : Type 0} (layout : Layout E) (message : Parts) (root : List ℕ)
+    (entries : List E) : Type 0 where
   pub texts : List (List ℕ)
   pub grouped : IsGrouped message layout.least_root layout.least_entry root texts
   pub each : AreEntries layout.read texts entries
