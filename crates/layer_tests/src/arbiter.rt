@@ -283,6 +283,112 @@ fn who_joins_waits_for_a_snapshot_of_what_is_given_up(rt: HostRuntime) -> Result
     follow_over_both(&rt, rt.alloc(), Start::Join, &table)
 }
 
+/// An outright of this id and name.
+fn outright(id: i32, text: &str) -> Result<Instrument, Fail> {
+    let mut name = ArrayString::new();
+    if name.try_push_str(text).is_err() {
+        return Err("a long name".into());
+    }
+    Ok(Instrument {
+        id,
+        name: Name::new(name),
+        kind: InstrumentKind::Outright,
+        depth: 10,
+    })
+}
+
+/// Three listed securities, 1 to 3.
+fn three() -> Result<[Instrument; 3], Fail>
+    ensures { IfOk result AreFit }
+{
+    let listed = [
+        outright(1, "ONE")?,
+        outright(2, "TWO")?,
+        outright(3, "THREE")?,
+    ];
+    if !are_fit(&listed) {
+        return Err("unfit".into());
+    }
+    Ok(listed)
+}
+
+/// Tells the first place without a fresh snapshot, by a walk over all.
+fn first_by_walk(newest: &[Option<Snapshot>], top: u64, room: u64) -> Option<usize> {
+    for slot in 0..newest.len() {
+        let fresh = match &newest[slot] {
+            None => false,
+            Some(snapshot) => top <= u64::from(snapshot.last()).saturating_add(room),
+        };
+        if !fresh {
+            return Some(slot);
+        }
+    }
+    None
+}
+
+/// Compares what an arbiter of room 4 keeps with what a walk over all tells.
+fn compare_with_walks<W: Window<Packet<Global>> + Drop>(
+    rt: &impl Abort,
+    arbiter: &Arbiter<Global, W>,
+) {
+    let first = first_by_walk(arbiter.newest(), arbiter.highest(), 4);
+    assert_eq!(rt; arbiter.first_stale(), first);
+}
+
+/// A call, and then, once all steps are made, the first place without a fresh snapshot and the number that passes next.
+type FreshRow = (Call, Option<usize>, u64);
+
+/// Makes the calls of a table on a new arbiter of three securities over this window, of four places.
+fn follow_three<W: Window<Packet<Global>> + Drop>(
+    rt: &impl Abort,
+    alloc: Global,
+    window: W,
+    table: &[FreshRow],
+) -> Result<(), Fail>
+    requires first { (W.view window).first ≡ 1 }
+    requires empty { (W.view window).held ≡ map.empty }
+{
+    let mut arbiter = Arbiter::new(alloc, &three()?, window, Start::FromOne)?;
+    for (call, stale, next) in table.iter() {
+        answer_to(alloc, &mut arbiter, *call)?;
+        compare_with_walks(rt, &arbiter);
+        for _ in 0..6 {
+            answer_to(alloc, &mut arbiter, Call::Step)?;
+        }
+        compare_with_walks(rt, &arbiter);
+        assert_eq!(rt; arbiter.first_stale(), *stale);
+        assert_eq!(rt; arbiter.next(), *next);
+    }
+    Ok(())
+}
+
+#[test]
+fn a_snapshot_is_fresh_up_to_the_packet_as_far_ahead_as_the_room(
+    rt: HostRuntime,
+) -> Result<(), Fail> {
+    let table: [FreshRow; 15] = [
+        (Call::Packet(5, 1), Some(0), 1),
+        (Call::Snapshot(1, 3), Some(1), 1),
+        (Call::Snapshot(2, 4), Some(2), 1),
+        // as far ahead of the least of the first two snapshots as the room, and one farther
+        (Call::Packet(7, 1), Some(2), 1),
+        (Call::Packet(8, 1), Some(0), 1),
+        (Call::Snapshot(1, 6), Some(2), 1),
+        (Call::Packet(9, 1), Some(1), 1),
+        (Call::Snapshot(2, 9), Some(2), 1),
+        (Call::Snapshot(3, 5), None, 6),
+        // lost again, and the third is stale that was fresh at the jump
+        (Call::Packet(10, 1), Some(2), 6),
+        (Call::Snapshot(3, 6), None, 11),
+        (Call::Packet(30, 1), Some(0), 11),
+        (Call::Snapshot(2, 30), Some(0), 11),
+        (Call::Snapshot(1, 29), Some(2), 11),
+        (Call::Snapshot(3, 28), None, 29),
+    ];
+    follow_three(&rt, rt.alloc(), MapWindow::new(rt.alloc(), 4), &table)?;
+    follow_three(&rt, rt.alloc(), RingWindow::new(rt.alloc(), 4)?, &table)
+}
+
 #[test]
 fn a_jump_makes_the_newest_snapshots_the_bases(rt: HostRuntime) -> Result<(), Fail> {
     let alloc = rt.alloc();

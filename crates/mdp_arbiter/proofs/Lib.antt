@@ -8,3 +8,4 @@ pub mod NoLoss
 pub mod Joining
 pub mod Passing
 pub mod Fates
+pub mod Fresh

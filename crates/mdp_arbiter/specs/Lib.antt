@@ -10,3 +10,4 @@ pub mod Standing
 pub mod Bases
 pub mod Turns
 pub mod Fates
+pub mod Fronts

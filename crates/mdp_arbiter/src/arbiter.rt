@@ -17,7 +17,8 @@ ghost use Rattle.mdp_arbiter.specs.Standing.{HasPassed, StandsAt, StepsAs};
 
 use crate::base::{Base, no_bases, take_newest};
 use crate::fate::{PacketFate, SnapshotFate};
-use crate::newest::{are_all_fresh, first_stale, least_number, none_for, renews};
+use crate::fresh_front::FreshFront;
+use crate::newest::{least_number, none_for, renews};
 use crate::start::Start;
 use crate::step::Step;
 use mdp_templates::{Instrument, Memory, Packet, Slots, Snapshot};
@@ -45,6 +46,7 @@ pub struct Arbiter<A: Allocator, W: Window<Packet<A>> + Drop> {
     slots: Slots<A>,
     start: Start,
     newest: Vec<Option<Snapshot>, A>,
+    front: FreshFront,
     bases: Vec<Base, A>,
     next: u64,
     top: u64,
@@ -58,6 +60,7 @@ impl<A: Allocator, W: Window<Packet<A>> + Drop> Model for Arbiter<A, W> {
     ghost use Rattle.mdp_arbiter.specs.Arbiter.{View};
     ghost use Rattle.mdp_arbiter.specs.Bases.{bases_of};
     ghost use Rattle.mdp_arbiter.specs.Codes.{view_code};
+    ghost use Rattle.mdp_arbiter.specs.Fronts.{Leads};
 
     ghost Value = { View };
 
@@ -79,7 +82,8 @@ impl<A: Allocator, W: Window<Packet<A>> + Drop> Model for Arbiter<A, W> {
         × (1 ≤ a.next) × (a.next ≤ a.top + 1) × (a.top ≤ 4294967295)
         × ((k : ℕ) → a.top < k → map.get (W.view a.window).held k ≡ None)
         × (length a.newest.items ≡ length a.slots) × (length a.bases.items ≡ length a.slots)
-        × (a.joined ≡ false → a.next ≡ 1) };
+        × (a.joined ≡ false → a.next ≡ 1)
+        × Leads a.front a.newest.items };
 }
 
 impl<A: Allocator + Copy, W: Window<Packet<A>> + Drop> Arbiter<A, W> {
@@ -109,6 +113,7 @@ impl<A: Allocator + Copy, W: Window<Packet<A>> + Drop> Arbiter<A, W> {
             slots,
             start,
             newest,
+            front: FreshFront::NONE,
             bases,
             next: 1,
             top: 0,
@@ -206,7 +211,8 @@ impl<A: Allocator + Copy, W: Window<Packet<A>> + Drop> Arbiter<A, W> {
     pub fn first_stale(&self) -> Option<usize>
         ensures { result ≡ first_stale self.now.channel.room self.now.top self.now.newest }
     {
-        first_stale(&self.newest, self.top, self.room)
+        let mut front = self.front;
+        front.first_stale(&self.newest, self.top, self.room)
     }
 
     /// Closes the channel. From now on `step` is `None`, and every packet and snapshot is handed back.
@@ -367,7 +373,7 @@ impl<A: Allocator + Copy, W: Window<Packet<A>> + Drop> Arbiter<A, W> {
             self.next += 1;
             return Some(Step::Pass(packet));
         }
-        if !are_all_fresh(&self.newest, self.top, self.room) {
+        if !self.front.are_all_fresh(&self.newest, self.top, self.room) {
             return None;
         }
         let last = u64::from(least_number(&self.newest)?);

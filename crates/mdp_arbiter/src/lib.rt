@@ -4,6 +4,7 @@
 mod arbiter;
 mod base;
 mod fate;
+mod fresh_front;
 mod laws;
 mod newest;
 mod start;

@@ -2,8 +2,7 @@
 
 ghost use Rattle.std.specs.Prelude.{◌≡◌, ◌≤◌, IfOk, Some, None, map};
 ghost use Rattle.mdp_arbiter.specs.Accepted.{is_newer};
-ghost use Rattle.mdp_arbiter.specs.Fates.{first_stale};
-ghost use Rattle.mdp_arbiter.specs.Machine.{is_fresh, are_fresh, lesser, least_last, snapshots_of};
+ghost use Rattle.mdp_arbiter.specs.Machine.{is_fresh, lesser, least_last, snapshots_of};
 
 use mdp_templates::{Instrument, Memory, Snapshot};
 use std::alloc::Allocator;
@@ -32,8 +31,8 @@ pub(crate) fn renews(so_far: &Option<Snapshot>, snapshot: &Snapshot) -> bool
     }
 }
 
-// Tells whether a snapshot is there and includes every packet that is given up.
-fn is_fresh_enough(snapshot: &Option<Snapshot>, top: u64, room: u64) -> bool
+/// Tells whether a snapshot is there and includes every packet that is given up.
+pub(crate) fn is_fresh_enough(snapshot: &Option<Snapshot>, top: u64, room: u64) -> bool
     requires { room ≤ 65536 }
     ensures { result ≡ is_fresh room top snapshot.now }
 {
@@ -41,32 +40,6 @@ fn is_fresh_enough(snapshot: &Option<Snapshot>, top: u64, room: u64) -> bool
         None => false,
         Some(snapshot) => top <= u64::from(snapshot.last()) + room,
     }
-}
-
-/// Tells whether each security has a snapshot that includes every packet which is given up.
-pub(crate) fn are_all_fresh(newest: &[Option<Snapshot>], top: u64, room: u64) -> bool
-    requires { room ≤ 65536 }
-    ensures { result ≡ are_fresh room top newest.now }
-{
-    for snapshot in newest {
-        if !is_fresh_enough(snapshot, top, room) {
-            return false;
-        }
-    }
-    true
-}
-
-/// Tells the first place whose snapshot is missing, or leaves out a packet that is given up.
-pub(crate) fn first_stale(newest: &[Option<Snapshot>], top: u64, room: u64) -> Option<usize>
-    requires { room ≤ 65536 }
-    ensures { result ≡ first_stale room top newest.now }
-{
-    for slot in 0..newest.len() {
-        if !is_fresh_enough(&newest[slot], top, room) {
-            return Some(slot);
-        }
-    }
-    None
 }
 
 // Tells the lesser of the number so far and that of a snapshot.

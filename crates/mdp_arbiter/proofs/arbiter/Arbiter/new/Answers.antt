@@ -18,6 +18,7 @@ invariant_of-result g c = (
   none_each _ _ _ c.in_ok-slots.ensures c.in_ok-newest.ensures,
   as_many _ _ _ c.in_ok-slots.ensures c.in_ok-bases.ensures,
   λ waits. refl,
+  (omega arith, refl),
 )
 
 pub returns-clause-stands : goal.returns-clause-stands

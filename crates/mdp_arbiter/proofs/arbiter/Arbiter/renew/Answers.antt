@@ -3,6 +3,7 @@ use Rattle.std.specs.Prelude.{Option, Some, slice_get}
 use Rattle.std.proofs.lemmas.Grind.{common_steps}
 use Rattle.std.proofs.lemmas.Int.{to_z-of_z}
 use Rattle.std.proofs.lemmas.Option.{slice_get_within, slice_get_read}
+use Rattle.std.proofs.lemmas.List.{length-set}
 use mir.Val.{SFits}
 use mir.Syntax.{w32}
 use Rattle.mdp_templates.specs.Snapshot.{SnapshotContent}
@@ -10,8 +11,35 @@ use Rattle.mdp_arbiter.specs.Accepted.{is_newer}
 use Rattle.mdp_arbiter.specs.Bases.{bases_of}
 use Rattle.mdp_arbiter.specs.declared.base.Base.{Base}
 use Rattle.mdp_arbiter.proofs.Bases.{bases_kept}
+use Rattle.mdp_arbiter.proofs.Fresh.{leads_renewed}
 use Rattle.mdp_arbiter.proofs.Renewals.{newest_after-set}
 use Rattle.mdp_arbiter.proofs.arbiter.Arbiter.renew.Goals as goal
+
+pub invariant_of-self : goal.invariant_of-self
+invariant_of-self g c =
+    let inside = c.self.inside in
+    let was : c.replace-before.result ≡ get_or inside.newest.items c.in-Some.slot c.replace-before.result =
+    subst (λ (o : Option SnapshotContent). o ≡ get_or inside.newest.items c.in-Some.slot o) (sym c.replace-before.ensures.value) c.index_mut.ensures.value in
+    let fits : SFits w32 c.security.result = search rules in
+    let at : slice_get inside.slots c.in-Some.slot ≡ Some c.args.snapshot.security = rw (to_z-of_z _ _ fits, c.security.ensures) at c.in-Some.ensures.some in
+    let within : c.in-Some.slot < length inside.newest.items = omega (arith, slice_get_within inside.slots c.in-Some.slot c.args.snapshot.security at, c.self.invariant.8) in
+    let there : slice_get inside.newest.items c.in-Some.slot ≡ Some c.index.result.now = slice_get_read inside.newest.items _ _ _ refl within c.index.ensures in
+    let here : slice_get inside.newest.items c.in-Some.slot ≡ Some c.replace-before.result = slice_get_read inside.newest.items _ _ _ refl within was in
+    let same : c.index.result.now ≡ c.replace-before.result = cc in
+    let newer : is_newer c.replace-before.result c.args.snapshot ≡ true = rw (← same) (grind (arith, common_steps, c.renews.ensures, c.if-not-renews.false)) in (
+      c.self.invariant.0,
+      c.self.invariant.1,
+      c.self.invariant.2,
+      c.self.invariant.3,
+      c.self.invariant.4,
+      c.self.invariant.5,
+      c.self.invariant.6,
+      c.self.invariant.7,
+      length-set inside.newest.items c.in-Some.slot c.replace-before.new.self ∙ c.self.invariant.8,
+      length-set inside.bases.items c.in-Some.slot c.keep.new.self ∙ c.self.invariant.9,
+      c.self.invariant.10,
+      rw c.replace-before.ensures.after (leads_renewed inside.front c.in-Some.slot inside.newest.items c.replace-before.result c.args.snapshot was newer c.self.invariant.11),
+    )
 
 pub returns : goal.returns
 returns g c =
