@@ -5,7 +5,7 @@ ghost use Rattle.std.specs.FinMap as map;
 ghost use Rattle.mdp_templates.specs.Instrument.{AreFit};
 
 use arrayvec::{ArrayString, ArrayVec};
-use mdp_arbiter::{Arbiter, Start, Step};
+use mdp_arbiter::{Arbiter, PacketFate, Start, Step};
 use mdp_templates::{Instrument, InstrumentKind, Name, Packet, Snapshot, are_fit};
 use mdp_window::{MapWindow, Put, RingWindow, Window};
 use refusing::Refusing;
@@ -326,30 +326,43 @@ fn first_by_walk(newest: &[Option<Snapshot>], top: u64, room: u64) -> Option<usi
     None
 }
 
-/// Compares what an arbiter of room 4 keeps with what a walk over all tells.
+/// Counts the packets up to number 60 that are held, by a walk over all.
+fn count_by_walk<W: Window<Packet<Global>> + Drop>(arbiter: &Arbiter<Global, W>) -> u64 {
+    let mut count = 0u64;
+    for number in 1..=60u32 {
+        if arbiter.fate_of(number) == PacketFate::Repeat {
+            count = count.saturating_add(1);
+        }
+    }
+    count
+}
+
+/// Compares what an arbiter of room 4 keeps with what walks over all tell.
 fn compare_with_walks<W: Window<Packet<Global>> + Drop>(
     rt: &impl Abort,
     arbiter: &Arbiter<Global, W>,
 ) {
     let first = first_by_walk(arbiter.newest(), arbiter.highest(), 4);
     assert_eq!(rt; arbiter.first_stale(), first);
+    assert_eq!(rt; arbiter.waiting(), count_by_walk(arbiter));
 }
 
-/// A call, and then, once all steps are made, the first place without a fresh snapshot and the number that passes next.
-type FreshRow = (Call, Option<usize>, u64);
+/// A call, and then, once all steps are made, the first place without a fresh snapshot, the number that passes next,
+/// and how many packets wait.
+type KeptRow = (Call, Option<usize>, u64, u64);
 
 /// Makes the calls of a table on a new arbiter of three securities over this window, of four places.
 fn follow_three<W: Window<Packet<Global>> + Drop>(
     rt: &impl Abort,
     alloc: Global,
     window: W,
-    table: &[FreshRow],
+    table: &[KeptRow],
 ) -> Result<(), Fail>
     requires first { (W.view window).first ≡ 1 }
     requires empty { (W.view window).held ≡ map.empty }
 {
     let mut arbiter = Arbiter::new(alloc, &three()?, window, Start::FromOne)?;
-    for (call, stale, next) in table.iter() {
+    for (call, stale, next, waiting) in table.iter() {
         answer_to(alloc, &mut arbiter, *call)?;
         compare_with_walks(rt, &arbiter);
         for _ in 0..6 {
@@ -358,6 +371,7 @@ fn follow_three<W: Window<Packet<Global>> + Drop>(
         compare_with_walks(rt, &arbiter);
         assert_eq!(rt; arbiter.first_stale(), *stale);
         assert_eq!(rt; arbiter.next(), *next);
+        assert_eq!(rt; arbiter.waiting(), *waiting);
     }
     Ok(())
 }
@@ -366,24 +380,50 @@ fn follow_three<W: Window<Packet<Global>> + Drop>(
 fn a_snapshot_is_fresh_up_to_the_packet_as_far_ahead_as_the_room(
     rt: HostRuntime,
 ) -> Result<(), Fail> {
-    let table: [FreshRow; 15] = [
-        (Call::Packet(5, 1), Some(0), 1),
-        (Call::Snapshot(1, 3), Some(1), 1),
-        (Call::Snapshot(2, 4), Some(2), 1),
+    let table: [KeptRow; 15] = [
+        (Call::Packet(5, 1), Some(0), 1, 1),
+        (Call::Snapshot(1, 3), Some(1), 1, 1),
+        (Call::Snapshot(2, 4), Some(2), 1, 1),
         // as far ahead of the least of the first two snapshots as the room, and one farther
-        (Call::Packet(7, 1), Some(2), 1),
-        (Call::Packet(8, 1), Some(0), 1),
-        (Call::Snapshot(1, 6), Some(2), 1),
-        (Call::Packet(9, 1), Some(1), 1),
-        (Call::Snapshot(2, 9), Some(2), 1),
-        (Call::Snapshot(3, 5), None, 6),
+        (Call::Packet(7, 1), Some(2), 1, 2),
+        (Call::Packet(8, 1), Some(0), 1, 3),
+        (Call::Snapshot(1, 6), Some(2), 1, 3),
+        (Call::Packet(9, 1), Some(1), 1, 3),
+        (Call::Snapshot(2, 9), Some(2), 1, 3),
+        (Call::Snapshot(3, 5), None, 6, 3),
         // lost again, and the third is stale that was fresh at the jump
-        (Call::Packet(10, 1), Some(2), 6),
-        (Call::Snapshot(3, 6), None, 11),
-        (Call::Packet(30, 1), Some(0), 11),
-        (Call::Snapshot(2, 30), Some(0), 11),
-        (Call::Snapshot(1, 29), Some(2), 11),
-        (Call::Snapshot(3, 28), None, 29),
+        (Call::Packet(10, 1), Some(2), 6, 4),
+        (Call::Snapshot(3, 6), None, 11, 0),
+        (Call::Packet(30, 1), Some(0), 11, 1),
+        (Call::Snapshot(2, 30), Some(0), 11, 1),
+        (Call::Snapshot(1, 29), Some(2), 11, 1),
+        (Call::Snapshot(3, 28), None, 29, 1),
+    ];
+    follow_three(&rt, rt.alloc(), MapWindow::new(rt.alloc(), 4), &table)?;
+    follow_three(&rt, rt.alloc(), RingWindow::new(rt.alloc(), 4)?, &table)
+}
+
+#[test]
+fn packets_that_wait_are_counted(rt: HostRuntime) -> Result<(), Fail> {
+    let table: [KeptRow; 16] = [
+        (Call::Packet(2, 1), Some(0), 1, 1),
+        (Call::Packet(4, 1), Some(0), 1, 2),
+        (Call::Packet(2, 2), Some(0), 1, 2),
+        // the window moves up by two, by one, and past all that it holds
+        (Call::Packet(6, 1), Some(0), 1, 2),
+        (Call::Packet(8, 1), Some(0), 1, 2),
+        (Call::Packet(7, 1), Some(0), 1, 3),
+        (Call::Packet(9, 1), Some(0), 1, 4),
+        (Call::Packet(10, 1), Some(0), 1, 4),
+        (Call::Packet(5, 1), Some(0), 1, 4),
+        (Call::Packet(45, 1), Some(0), 1, 1),
+        (Call::Packet(47, 1), Some(0), 1, 2),
+        // a jump drops one of two, and the other passes behind the one before it
+        (Call::Snapshot(1, 46), Some(1), 1, 2),
+        (Call::Snapshot(2, 45), Some(2), 1, 2),
+        (Call::Snapshot(3, 45), None, 46, 1),
+        (Call::Packet(46, 1), None, 48, 0),
+        (Call::Packet(48, 1), None, 49, 0),
     ];
     follow_three(&rt, rt.alloc(), MapWindow::new(rt.alloc(), 4), &table)?;
     follow_three(&rt, rt.alloc(), RingWindow::new(rt.alloc(), 4)?, &table)

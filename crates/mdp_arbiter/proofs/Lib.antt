@@ -9,3 +9,4 @@ pub mod Joining
 pub mod Passing
 pub mod Fates
 pub mod Fresh
+pub mod Counted

@@ -9,7 +9,7 @@ use Rattle.mdp_arbiter.specs.Accepted.{is_newer, newer_of}
 use Rattle.mdp_templates.specs.declared.instrument.Instrument.{Instrument}
 use Rattle.mdp_templates.specs.Instrument.{ids_of}
 use Rattle.std.proofs.lemmas.List.{length-map}
-use Rattle.mdp_arbiter.specs.Snapshots.{newest_after}
+use Rattle.mdp_arbiter.specs.Snapshots.{newest_after, IsNoNews}
 use Rattle.mdp_arbiter.proofs.Standings.{no_news, same_newest}
 
 -- the place after a front that was written over is written over
@@ -42,6 +42,14 @@ newest_after-set (id ∷ ids) s (n ∷ ns) (suc slot) held at only there newer =
     let other : id ≡ s.security → is_newer n s ≡ false = λ same. absurd (let e : zero ≡ suc slot = only zero (ap (λ (x : ℤ). Some x) same) in omega arith) in
     let rest : newest_after ids s ns ≡ set ns slot (Some s) = newest_after-set ids s ns slot held at (λ k here. let e : suc k ≡ suc slot = only (suc k) here in omega (arith, e)) there newer in
     rw (same_newest id n s (int_eq id s.security) refl other, rest) refl
+
+-- a snapshot that is no newer than its security's is no news
+pub no_news_at : (ids : List ℤ) (ns : List (Option SnapshotContent)) (s : SnapshotContent) (slot : ℕ) (held : Option SnapshotContent)
+    → ((other : ℕ) → slice_get ids other ≡ Some s.security → other ≡ slot) → slice_get ns slot ≡ Some held → is_newer held s ≡ false → IsNoNews ids ns s
+no_news_at ids ns s slot held only there older other also at from =
+    let here : slice_get ns slot ≡ Some also = rw (only other at) at from in
+    let same : also ≡ held = cc in
+    rw same older
 
 -- none for each instrument is none for each listed id
 map_none : (instruments : List Instrument) → map (λ (i : Instrument). let none : Option SnapshotContent = None in none) instruments ≡ map (λ (id : ℤ). None) (ids_of instruments)

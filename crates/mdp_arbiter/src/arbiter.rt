@@ -1,6 +1,6 @@
 //! The arbiter of a channel's feeds.
 
-ghost use Rattle.std.specs.Prelude.{◌≡◌, ◌≤◌, ◌<◌, ℕ, List, [], ◌∷◌, ◌++◌, length, true, false, IfOk, IfSome, Some, None, slice_get, option_copied, if◌then◌else◌};
+ghost use Rattle.std.specs.Prelude.{◌≡◌, ◌≤◌, ◌<◌, ℕ, List, [], ◌∷◌, ◌++◌, ◌-◌, length, true, false, IfOk, IfSome, Some, None, slice_get, option_copied, if◌then◌else◌};
 ghost use Rattle.std.specs.FinMap as map;
 ghost use Rattle.std.specs.FinMap.{contains_key};
 ghost use Rattle.mdp_templates.specs.Instrument.{AreFit};
@@ -9,7 +9,7 @@ ghost use Rattle.mdp_arbiter.specs.Accepted.{Event};
 ghost use Rattle.mdp_arbiter.specs.Accepted.Event.{came, recovered, closed};
 ghost use Rattle.mdp_arbiter.specs.Machine.{first_state, is_lost};
 ghost use Rattle.mdp_arbiter.specs.Arbiter.{is_lost_now, least_held, state, steps_left};
-ghost use Rattle.mdp_arbiter.specs.Fates.{fate_of, fate_of_snapshot, first_stale, packet_fate, snapshot_fate, waiting};
+ghost use Rattle.mdp_arbiter.specs.Fates.{fate_of, fate_of_snapshot, first_stale, held_among, packet_fate, snapshot_fate, waiting};
 ghost use Rattle.mdp_arbiter.specs.Packets.{LetsPass, Receives, is_taken_in, passes_at_once};
 ghost use Rattle.mdp_arbiter.specs.Snapshots.{Renews};
 ghost use Rattle.mdp_arbiter.specs.Moves.{Answers, Moves, seen_move};
@@ -42,6 +42,8 @@ pub struct Standing {
 #[derive(Drop)]
 pub struct Arbiter<A: Allocator, W: Window<Packet<A>> + Drop> {
     window: W,
+    /// How many packets the window holds.
+    held_count: u64,
     room: u64,
     slots: Slots<A>,
     start: Start,
@@ -60,6 +62,7 @@ impl<A: Allocator, W: Window<Packet<A>> + Drop> Model for Arbiter<A, W> {
     ghost use Rattle.mdp_arbiter.specs.Arbiter.{View};
     ghost use Rattle.mdp_arbiter.specs.Bases.{bases_of};
     ghost use Rattle.mdp_arbiter.specs.Codes.{view_code};
+    ghost use Rattle.mdp_arbiter.specs.Fates.{held_among};
     ghost use Rattle.mdp_arbiter.specs.Fronts.{Leads};
 
     ghost Value = { View };
@@ -83,7 +86,9 @@ impl<A: Allocator, W: Window<Packet<A>> + Drop> Model for Arbiter<A, W> {
         × ((k : ℕ) → a.top < k → map.get (W.view a.window).held k ≡ None)
         × (length a.newest.items ≡ length a.slots) × (length a.bases.items ≡ length a.slots)
         × (a.joined ≡ false → a.next ≡ 1)
-        × Leads a.front a.newest.items };
+        × Leads a.front a.newest.items
+        × (a.held_count ≡ held_among (W.view a.window).held (W.view a.window).first
+        (a.top + 1 - (W.view a.window).first)) };
 }
 
 impl<A: Allocator + Copy, W: Window<Packet<A>> + Drop> Arbiter<A, W> {
@@ -109,6 +114,7 @@ impl<A: Allocator + Copy, W: Window<Packet<A>> + Drop> Arbiter<A, W> {
         let room = window.capacity();
         Ok(Arbiter {
             window,
+            held_count: 0,
             room,
             slots,
             start,
@@ -199,12 +205,7 @@ impl<A: Allocator + Copy, W: Window<Packet<A>> + Drop> Arbiter<A, W> {
     pub fn waiting(&self) -> u64
         ensures { result ≡ waiting self.now }
     {
-        let first = self.least_held();
-        let mut count = 0;
-        for n in 0..(self.top + 1).saturating_sub(first) {
-            count += self.held_at(first + n);
-        }
-        count
+        self.held_count
     }
 
     /// Tells the first listed place, from 0, whose newest snapshot is missing, or leaves out a packet that is given up.
@@ -308,6 +309,35 @@ impl<A: Allocator + Copy, W: Window<Packet<A>> + Drop> Arbiter<A, W> {
         if self.window.holds(number) { 1 } else { 0 }
     }
 
+    // Counts the packets that are held below a number: those that a window which moves up to it drops. Most often it
+    // doesn't move.
+    fn held_below(&self, number: u64) -> u64
+        ensures { result ≡ held_among self.now.held (least_held self.now)
+            (number - least_held self.now) }
+    {
+        if number <= self.next {
+            return 0;
+        }
+        self.count_below(number)
+    }
+
+    // Counts them one by one, if any is held.
+    #[inline(never)]
+    fn count_below(&self, number: u64) -> u64
+        ensures { result ≡ held_among self.now.held (least_held self.now)
+            (number - least_held self.now) }
+    {
+        if self.held_count == 0 {
+            return 0;
+        }
+        let first = self.least_held();
+        let mut count = 0;
+        for n in 0..number.min(self.top + 1).saturating_sub(first) {
+            count += self.held_at(first + n);
+        }
+        count
+    }
+
     // Tells whether a packet of this number passes at once.
     fn is_free(&self, number: u32) -> bool
         ensures { result ≡ passes_at_once number self.now }
@@ -335,9 +365,11 @@ impl<A: Allocator + Copy, W: Window<Packet<A>> + Drop> Arbiter<A, W> {
             return Put::Back(packet);
         }
         let number = u64::from(packet.number());
+        let dropped = self.held_below((number + 1).saturating_sub(self.room));
         let answer = self.window.put(packet);
         if let Put::Kept = answer {
             self.top = self.top.max(number);
+            self.held_count = self.held_count - dropped + 1;
         }
         answer
     }
@@ -370,6 +402,7 @@ impl<A: Allocator + Copy, W: Window<Packet<A>> + Drop> Arbiter<A, W> {
         }
         if !self.lost() {
             let packet = self.window.take_first()?;
+            self.held_count -= 1;
             self.next += 1;
             return Some(Step::Pass(packet));
         }
@@ -378,6 +411,7 @@ impl<A: Allocator + Copy, W: Window<Packet<A>> + Drop> Arbiter<A, W> {
         }
         let last = u64::from(least_number(&self.newest)?);
         let old = self.next;
+        self.held_count -= self.held_below(last + 1);
         self.next = last + 1;
         self.joined = true;
         self.top = self.top.max(last);

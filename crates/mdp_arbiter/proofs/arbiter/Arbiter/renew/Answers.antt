@@ -1,4 +1,4 @@
-use Rattle.std.proofs.Common.{◌≡◌, ℕ, ◌<◌, ◌∙◌, true, length, get_or, set, arith, refl, rules, ap, subst, sym}
+use Rattle.std.proofs.Common.{◌≡◌, ℕ, ◌<◌, ◌∙◌, true, false, inr, length, get_or, set, arith, refl, rules, ap, subst, sym}
 use Rattle.std.specs.Prelude.{Option, Some, slice_get}
 use Rattle.std.proofs.lemmas.Grind.{common_steps}
 use Rattle.std.proofs.lemmas.Int.{to_z-of_z}
@@ -12,7 +12,7 @@ use Rattle.mdp_arbiter.specs.Bases.{bases_of}
 use Rattle.mdp_arbiter.specs.declared.base.Base.{Base}
 use Rattle.mdp_arbiter.proofs.Bases.{bases_kept}
 use Rattle.mdp_arbiter.proofs.Fresh.{leads_renewed}
-use Rattle.mdp_arbiter.proofs.Renewals.{newest_after-set}
+use Rattle.mdp_arbiter.proofs.Renewals.{newest_after-set, no_news_at}
 use Rattle.mdp_arbiter.proofs.arbiter.Arbiter.renew.Goals as goal
 
 pub invariant_of-self : goal.invariant_of-self
@@ -39,6 +39,7 @@ invariant_of-self g c =
       length-set inside.bases.items c.in-Some.slot c.keep.new.self ∙ c.self.invariant.9,
       c.self.invariant.10,
       rw c.replace-before.ensures.after (leads_renewed inside.front c.in-Some.slot inside.newest.items c.replace-before.result c.args.snapshot was newer c.self.invariant.11),
+      c.self.invariant.12,
     )
 
 pub returns : goal.returns
@@ -59,3 +60,27 @@ returns g c =
     let newer : is_newer c.index.result.now c.args.snapshot ≡ true = grind (arith, common_steps, c.renews.ensures, c.if-not-renews.false) in
     let renewed = newest_after-set c.self.inside.slots c.args.snapshot c.self.inside.newest.items c.in-Some.slot c.index.result.now at only there newer in
     rw (← c.self.view_is) (c.if-self.false, (c.in-Some.slot, c.index.result.now, at, there, newer), rw (renewed, c.replace-before.ensures.after, kept) refl)
+
+pub returns-then-not-renews : goal.returns-then-not-renews
+returns-then-not-renews g c =
+    let inside = c.self.inside in
+    let fits : SFits w32 c.security.result = search rules in
+    let at : slice_get inside.slots c.in-Some.slot ≡ Some c.args.snapshot.security = rw (to_z-of_z _ _ fits, c.security.ensures) at c.in-Some.ensures.some in
+    let only : (other : ℕ) → slice_get inside.slots other ≡ Some c.args.snapshot.security → other ≡ c.in-Some.slot =
+    rw (to_z-of_z _ _ fits, c.security.ensures) at c.in-Some.ensures.only in
+    let within : c.in-Some.slot < length inside.newest.items = omega (arith, slice_get_within inside.slots c.in-Some.slot c.args.snapshot.security at, c.self.invariant.8) in
+    let there : slice_get inside.newest.items c.in-Some.slot ≡ Some c.index.result.now = slice_get_read inside.newest.items _ _ _ refl within c.index.ensures in
+    let older : is_newer c.index.result.now c.args.snapshot ≡ false = sym c.renews.ensures ∙ c.if-not-renews.true in
+    rw (← c.self.view_is) (refl, refl, inr (no_news_at inside.slots inside.newest.items c.args.snapshot c.in-Some.slot c.index.result.now only there older))
+
+pub index_mut-requires : goal.index_mut-requires
+index_mut-requires g c =
+    let fits : SFits w32 c.security.result = search rules in
+    let at : slice_get c.self.inside.slots c.in-Some.slot ≡ Some c.args.snapshot.security = rw (to_z-of_z _ _ fits, c.security.ensures) at c.in-Some.ensures.some in
+    omega (arith, slice_get_within c.self.inside.slots c.in-Some.slot c.args.snapshot.security at, c.self.invariant.8)
+
+pub index_mut-requires-2 : goal.index_mut-requires-2
+index_mut-requires-2 g c =
+    let fits : SFits w32 c.security.result = search rules in
+    let at : slice_get c.self.inside.slots c.in-Some.slot ≡ Some c.args.snapshot.security = rw (to_z-of_z _ _ fits, c.security.ensures) at c.in-Some.ensures.some in
+    omega (arith, slice_get_within c.self.inside.slots c.in-Some.slot c.args.snapshot.security at, c.self.invariant.9)

@@ -1,7 +1,6 @@
 use Rattle.std.proofs.Common.{◌≡◌, ◌≤◌}
-use Rattle.mdp_arbiter.specs.Arbiter.{least_held}
 use Rattle.mdp_arbiter.specs.Fates.{held_among}
-use Rattle.mdp_arbiter.proofs.arbiter.Arbiter.waiting.Given as goal
+use Rattle.mdp_arbiter.proofs.arbiter.Arbiter.count_below.Given as goal
 
 -- the packets among the first numbers are counted
 abbrev pub invariant-loop-n : goal.invariant-loop-n
