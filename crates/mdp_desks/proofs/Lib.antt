@@ -1,6 +1,8 @@
 pub mod Marks
 pub mod Hearing
 pub mod Searching
+pub mod Clearing
+pub mod Waiting
 pub mod Passing
 pub mod Showing
 pub mod Moments

@@ -1,4 +1,4 @@
--- A desk that isn't marked has no lines at an event end, and is as it was behind it.
+-- A desk that isn't due has no lines at an event end, and is as it was behind it.
 use Rattle.std.proofs.Common.{◌≡◌, ◌<◌, ◌≤◌, ℕ, zero, suc, ◌+◌, Bool, true, false, List, [], ◌∷◌, ◌++◌, length, map, take, drop, get_or, set, replicate, Option, Some, None, refl, sym, ap, subst, ◌∙◌, arith, append-nil, append_assoc}
 use Rattle.std.specs.List.{flat_map}
 use Rattle.std.specs.Prelude.{nat_lt, All}
@@ -10,23 +10,24 @@ use Rattle.mdp_books.specs.declared.event_end.EventEnd.{EventEnd}
 use Rattle.mdp_desks.specs.declared.desk.Desk.{Desk}
 use Rattle.mdp_desks.specs.Lines.{text_of}
 use Rattle.mdp_desks.specs.Desks.{desk_at_start, desk_settled, desk_standing, desk_jumped, rebased_desks}
-use Rattle.mdp_desks.specs.Beside.{AreClear, listed_in, marks_of}
+use Rattle.mdp_desks.specs.Beside.{AreClear, all_due_at, is_due_at, listed_in, marks_of}
 use Rattle.mdp_templates.specs.Instrument.{HasDepth}
+use Rattle.mdp_desks.proofs.Waiting.{unmarked}
 
 -- ---- one desk
 
-pub no_lines : (end : EventEnd) (d : Desk) → d.marked ≡ false → text_of end (desk_standing end.packet d) ≡ []
+pub no_lines : (end : EventEnd) (d : Desk) → is_due_at end.packet d ≡ false → text_of end (desk_standing end.packet d) ≡ []
 no_lines end d is = by_base (nat_lt d.base end.packet) refl
   where
     by_base : (b : Bool) → nat_lt d.base end.packet ≡ b → text_of end (desk_standing end.packet d) ≡ []
-    by_base true over = rw (over, is) refl
+    by_base true over = let off = unmarked d.marked (nat_lt d.base end.packet) is over in rw (over, off) refl
     by_base false under = rw under refl
 
-pub still : (k : ℕ) (d : Desk) → d.marked ≡ false → desk_settled k d ≡ d
+pub still : (k : ℕ) (d : Desk) → is_due_at k d ≡ false → desk_settled k d ≡ d
 still k d is = by_base (nat_lt d.base k) refl
   where
     by_base : (b : Bool) → nat_lt d.base k ≡ b → desk_settled k d ≡ d
-    by_base true over = rw over (ap (λ (b : Bool). record { instrument = d.instrument; base = d.base; book = d.book; marked = b }) (sym is))
+    by_base true over = rw over (ap (λ (b : Bool). record { instrument = d.instrument; base = d.base; book = d.book; marked = b }) (sym (unmarked d.marked (nat_lt d.base k) is over)))
     by_base false under = rw under refl
 
 -- ---- the desks from one place on
@@ -34,14 +35,14 @@ still k d is = by_base (nat_lt d.base k) refl
 abbrev pub lines_in : EventEnd → List Desk → List ℕ
 lines_in end ds = flat_map (text_of end) (map (desk_standing end.packet) ds)
 
-pub lines_from : (end : EventEnd) (ds : List Desk) (n : ℕ) → ((i : ℕ) → i < n → get_or (marks_of ds) i false ≡ false) → lines_in end (drop n ds) ≡ lines_in end ds
+pub lines_from : (end : EventEnd) (ds : List Desk) (n : ℕ) → ((i : ℕ) → i < n → get_or (all_due_at end.packet ds) i false ≡ false) → lines_in end (drop n ds) ≡ lines_in end ds
 lines_from end ds zero none = refl
 lines_from end [] (suc n) none = refl
 lines_from end (d ∷ ds) (suc n) none =
     lines_from end ds n (λ i less. none (suc i) (omega (arith, less)))
     ∙ ap (λ (t : List ℕ). t ++ lines_in end ds) (sym (no_lines end d (none 0 (omega arith))))
 
-pub lines_between : (end : EventEnd) (ds : List Desk) (a b : ℕ) → a ≤ b → AreClear a b (marks_of ds) → lines_in end (drop b ds) ≡ lines_in end (drop a ds)
+pub lines_between : (end : EventEnd) (ds : List Desk) (a b : ℕ) → a ≤ b → AreClear a b (all_due_at end.packet ds) → lines_in end (drop b ds) ≡ lines_in end (drop a ds)
 lines_between end ds zero b up clear = lines_from end ds b (λ i less. clear i (omega arith) less)
 lines_between end ds (suc a) zero up clear = absurd (omega (arith, up))
 lines_between end [] (suc a) (suc b) up clear = refl
@@ -51,7 +52,7 @@ pub lines_next : (end : EventEnd) (ds : List Desk) (n : ℕ) (d : Desk) → n < 
 lines_next end ds n d less = at_drop_more (lines_in end) ds n d less
 
 -- the desks that are passed over have no lines, and then those of the next come
-pub lines_more : (end : EventEnd) (ds : List Desk) (from n : ℕ) (d : Desk) (old new whole : List ℕ) → from ≤ n → n < length ds → AreClear from n (marks_of ds) → d ≡ get_or ds n d → new ≡ old ++ text_of end (desk_standing end.packet d)
+pub lines_more : (end : EventEnd) (ds : List Desk) (from n : ℕ) (d : Desk) (old new whole : List ℕ) → from ≤ n → n < length ds → AreClear from n (all_due_at end.packet ds) → d ≡ get_or ds n d → new ≡ old ++ text_of end (desk_standing end.packet d)
     → old ++ lines_in end (drop from ds) ≡ whole → new ++ lines_in end (drop (n + 1) ds) ≡ whole
 lines_more end ds from n d old new whole up less clear at is before =
     let text = text_of end (desk_standing end.packet d) in
@@ -63,7 +64,7 @@ lines_more end ds from n d old new whole up less clear at is before =
     ∙ before
 
 -- none is left with lines
-pub lines_end : (end : EventEnd) (ds : List Desk) (from : ℕ) (text whole : List ℕ) → from ≤ length ds → AreClear from (length ds) (marks_of ds) → text ++ lines_in end (drop from ds) ≡ whole → text ≡ whole
+pub lines_end : (end : EventEnd) (ds : List Desk) (from : ℕ) (text whole : List ℕ) → from ≤ length ds → AreClear from (length ds) (all_due_at end.packet ds) → text ++ lines_in end (drop from ds) ≡ whole → text ≡ whole
 lines_end end ds from text whole up clear before =
     let none : lines_in end (drop from ds) ≡ [] = sym (lines_between end ds from (length ds) up clear) ∙ ap (lines_in end) (drop_all (length ds) ds (omega arith)) in
     sym (append-nil text) ∙ ap (λ (t : List ℕ). text ++ t) (sym none) ∙ before
@@ -74,7 +75,7 @@ lines_end end ds from text whole up clear before =
 abbrev pub settled_behind : ℕ → ℕ → List Desk → List Desk
 settled_behind k n ds = take n ds ++ map (desk_settled k) (drop n ds)
 
-settled_from : (k : ℕ) (ds : List Desk) (n : ℕ) → ((i : ℕ) → i < n → get_or (marks_of ds) i false ≡ false) → settled_behind k n ds ≡ map (desk_settled k) ds
+settled_from : (k : ℕ) (ds : List Desk) (n : ℕ) → ((i : ℕ) → i < n → get_or (all_due_at k ds) i false ≡ false) → settled_behind k n ds ≡ map (desk_settled k) ds
 settled_from k ds zero none = refl
 settled_from k [] (suc n) none = refl
 settled_from k (d ∷ ds) (suc n) none =
@@ -82,7 +83,7 @@ settled_from k (d ∷ ds) (suc n) none =
     let others = settled_from k ds n (λ i less. none (suc i) (omega (arith, less))) in
     cc (first, others)
 
-pub settled_between : (k : ℕ) (ds : List Desk) (a b : ℕ) → a ≤ b → AreClear a b (marks_of ds) → settled_behind k b ds ≡ settled_behind k a ds
+pub settled_between : (k : ℕ) (ds : List Desk) (a b : ℕ) → a ≤ b → AreClear a b (all_due_at k ds) → settled_behind k b ds ≡ settled_behind k a ds
 settled_between k ds zero b up clear = settled_from k ds b (λ i less. clear i (omega arith) less)
 settled_between k ds (suc a) zero up clear = absurd (omega (arith, up))
 settled_between k [] (suc a) (suc b) up clear = refl
@@ -95,14 +96,14 @@ settled_next k (x ∷ ds) zero here d less is = ap (λ (t : Desk). t ∷ map (de
 settled_next k (x ∷ ds) (suc n) here d less is = ap (λ (t : List Desk). x ∷ t) (settled_next k ds n here d (omega (arith, less)) is)
 
 -- the desks that are passed over stay as they are, and the next is settled
-pub settled_more : (k : ℕ) (ds whole : List Desk) (from n : ℕ) (here d : Desk) → from ≤ n → n < length ds → AreClear from n (marks_of ds) → here ≡ desk_settled k (get_or ds n d)
+pub settled_more : (k : ℕ) (ds whole : List Desk) (from n : ℕ) (here d : Desk) → from ≤ n → n < length ds → AreClear from n (all_due_at k ds) → here ≡ desk_settled k (get_or ds n d)
     → settled_behind k from ds ≡ whole → settled_behind k (n + 1) (set ds n here) ≡ whole
 settled_more k ds whole from n here d up less clear is before =
     let one : suc n ≡ n + 1 = omega arith in
     subst (λ (m : ℕ). settled_behind k m (set ds n here) ≡ whole) one (settled_next k ds n here d less is ∙ settled_between k ds from n up clear ∙ before)
 
 -- none is left to settle
-pub settled_end : (k : ℕ) (ds whole : List Desk) (from : ℕ) → from ≤ length ds → AreClear from (length ds) (marks_of ds) → settled_behind k from ds ≡ whole → ds ≡ whole
+pub settled_end : (k : ℕ) (ds whole : List Desk) (from : ℕ) → from ≤ length ds → AreClear from (length ds) (all_due_at k ds) → settled_behind k from ds ≡ whole → ds ≡ whole
 settled_end k ds whole from up clear before =
     let all : settled_behind k (length ds) ds ≡ ds =
     ap (λ (t : List Desk). take (length ds) ds ++ map (desk_settled k) t) (drop_all (length ds) ds (omega arith)) ∙ append-nil (take (length ds) ds) ∙ take_all (length ds) ds (omega arith) in

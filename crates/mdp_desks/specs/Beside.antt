@@ -1,6 +1,6 @@
 -- What stands beside the desks: the ids of their securities, and their marks.
-use Rattle.std.specs.Prelude.{◌≡◌, ◌≢◌, ◌<◌, ◌≤◌, ℕ, ℤ, Bool, true, false, ◌==◌, List, map, length, get_or, All}
-use Rattle.std.specs.List.{AllPairs}
+use Rattle.std.specs.Prelude.{◌≡◌, ◌≢◌, ◌<◌, ◌≤◌, ℕ, ℤ, Bool, true, false, ◌==◌, ◌&&◌, if◌then◌else◌, min, nat_lt, ◌+◌, List, [], ◌∷◌, map, length, get_or, All}
+use Rattle.std.specs.List.{AllPairs, list_any}
 use Rattle.mdp_templates.specs.declared.instrument.Instrument.{Instrument}
 use Rattle.mdp_templates.specs.Instrument.{HasDepth, ids_of}
 use Rattle.mdp_desks.specs.declared.desk.Desk.{Desk}
@@ -40,3 +40,35 @@ pub record AreBeside (desks : List Desk) (ids : List ℤ) (marks : List Bool) : 
   pub differ : AllPairs (λ a b. a ≢ b) ids
   pub marks_are : marks ≡ marks_of desks
   pub depths : All HasDepth (listed_in desks)
+
+-- whether an event end in this packet has lines of the desk: it is marked, and the packet stands behind its base
+abbrev pub is_due_at : ℕ → Desk → Bool
+is_due_at packet d = d.marked && nat_lt d.base packet
+
+-- the desks of which it has lines
+abbrev pub all_due_at : ℕ → List Desk → List Bool
+all_due_at packet desks = map (is_due_at packet) desks
+
+-- where one of these marks is set, so is the other one there
+abbrev pub AreAmong : List Bool → List Bool → Type 0
+AreAmong marks others = (n : ℕ) → get_or marks n false ≡ true → get_or others n false ≡ true
+
+-- a mark for each desk: only a marked one's is set, and that of each of which an event end in this packet has lines
+pub record AreDueAt (packet : ℕ) (marks : List Bool) (desks : List Desk) : Type 0 where
+  pub many : length marks ≡ length desks
+  pub only : AreAmong marks (marks_of desks)
+  pub all : AreAmong (all_due_at packet desks) marks
+
+-- these will do at each packet before this one
+pub record AreDueBefore (until : ℕ) (marks : List Bool) (desks : List Desk) : Type 0 where
+  pub many : length marks ≡ length desks
+  pub due : (k : ℕ) → k < until → AreDueAt k marks desks
+
+-- the least of this number and of the bases of the desks that are marked
+abbrev pub least_base : ℕ → List Desk → ℕ
+least_base k [] = k
+least_base k (d ∷ ds) = least_base (if d.marked then min k d.base else k) ds
+
+-- the first packet that stands behind the base of a desk that is marked, 0 where none is marked
+abbrev pub first_awaited : List Desk → ℕ
+first_awaited ds = if list_any (λ (d : Desk). d.marked) ds then least_base 4294967295 ds + 1 else 0

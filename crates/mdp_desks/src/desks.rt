@@ -1,9 +1,9 @@
 //! The desks of all listed securities.
 
-ghost use Rattle.std.specs.Prelude.{◌≡◌, ◌≢◌, ◌++◌, ◌≤◌, ℕ, All, AllPairs, IfOk, OnErr, OnOk, IfSome, IfNone, Some, slice_get, map, length};
+ghost use Rattle.std.specs.Prelude.{◌≡◌, ◌≢◌, ◌<◌, ◌++◌, ◌≤◌, ℕ, false, true, All, AllPairs, IfOk, OnErr, OnOk, IfSome, IfNone, Some, ◌&&◌, if◌then◌else◌, nat_lt, set, slice_get, map, length};
 ghost use Rattle.std.specs.List.{flat_map};
 ghost use Rattle.mdp_templates.specs.Instrument.{HasDepth, ids_of};
-ghost use Rattle.mdp_desks.specs.Beside.{listed_in, marks_of};
+ghost use Rattle.mdp_desks.specs.Beside.{AreDueAt, AreDueBefore, first_awaited, least_base, listed_in, marks_of};
 ghost use Rattle.mdp_desks.specs.Desks.{desk_at_start, desk_heard, desk_jumped, desk_settled, desk_standing, desks_through, rebased_desks, snapshots_at};
 ghost use Rattle.mdp_desks.specs.Lines.{text_of};
 ghost use Rattle.mdp_print.specs.Pieces.{BeginsWith};
@@ -21,18 +21,24 @@ pub struct Desks<A: Allocator> {
     slots: Slots<A>,
     desks: Vec<Desk, A>,
     marked: Marked<A>,
+    // Behind a jump a desk stays marked for long, if its base lies far ahead. So that no event end before it need look
+    // at it, `due` marks the desks of which an event end in a packet before `until` has lines: all others that are
+    // marked wait for `until`, or for a later packet. Where none waits `until` is 0, and no mark in `due` is kept.
+    due: Marked<A>,
+    until: u64,
 }
 
 impl<A: Allocator> Model for Desks<A> {
     ghost use Rattle.std.specs.Prelude.{List};
     ghost use Rattle.mdp_desks.specs.declared.desk.Desk.{Desk};
-    ghost use Rattle.mdp_desks.specs.Beside.{AreBeside};
+    ghost use Rattle.mdp_desks.specs.Beside.{AreBeside, AreDueBefore};
 
     ghost Value = { List Desk };
 
     ghost view = { λ d. d.desks.items };
 
-    ghost invariant = { λ d. AreBeside d.desks.items d.slots d.marked };
+    ghost invariant = { λ d. AreBeside d.desks.items d.slots d.marked
+        × AreDueBefore d.until d.due d.desks.items };
 }
 
 // Tells the place of the security that an entry names, if it is listed. The place at hand is looked at first, since
@@ -54,14 +60,26 @@ fn slot_named<A: Allocator + Copy>(
     slots.slot_of(entry.security)
 }
 
-// Appends the lines of the desks that are marked.
+// Marks a desk as due, while others wait, at which an entry of this packet has arrived. Where the packet doesn't stand
+// behind its base, the desk has not heard the entry, and goes on waiting.
+fn mark_due<A: Allocator>(due: &mut Marked<A>, until: u64, slot: usize, desk: &Desk, packet: u32)
+    requires { slot < length due.old }
+    ensures { due.new ≡ if nat_lt 0 until && nat_lt desk.now.base packet
+        then set due.old slot true else due.old }
+{
+    if until > 0 && packet > desk.base {
+        due.put(slot, true);
+    }
+}
+
+// Appends the lines of the desks that are due.
 fn put_marked<A: Allocator>(
     out: &mut Vec<u8, A>,
     end: EventEnd,
     desks: &[Desk],
     marked: &Marked<A>,
 ) -> Result<(), Memory>
-    requires { marked.now ≡ marks_of desks.now }
+    requires { AreDueAt end.packet marked.now desks.now }
     ensures ok { OnOk result (out.new.items ≡ out.old.items
         ++ flat_map (text_of end) (map (desk_standing end.packet) desks.now)) }
     ensures err { OnErr result (BeginsWith out.new.items out.old.items) }
@@ -74,7 +92,30 @@ fn put_marked<A: Allocator>(
     Ok(())
 }
 
-// Forgets the marks where an event ended.
+// Forgets the marks of the desks that are due where an event ended. The others stay as they are: each is not marked, or
+// the packet stands not behind its base.
+fn settle_due<A: Allocator>(
+    desks: &mut [Desk],
+    marked: &mut Marked<A>,
+    due: &mut Marked<A>,
+    packet: u32,
+)
+    requires marks { marked.old ≡ marks_of desks.old }
+    requires due { AreDueAt packet due.old desks.old }
+    ensures desks { desks.new ≡ map (desk_settled packet) desks.old }
+    ensures marks { marked.new ≡ marks_of desks.new }
+    ensures due { (k : ℕ) → AreDueAt k due.old desks.old → AreDueAt k due.new desks.new }
+{
+    let mut from = 0;
+    while let Some(slot) = due.next_from(from) {
+        desks[slot].settle(packet);
+        marked.put(slot, desks[slot].marked);
+        due.put(slot, desks[slot].marked);
+        from = slot + 1;
+    }
+}
+
+// Forgets all marks where an event ended.
 fn settle_all<A: Allocator>(desks: &mut [Desk], marked: &mut Marked<A>, packet: u32)
     requires { marked.old ≡ marks_of desks.old }
     ensures desks { desks.new ≡ map (desk_settled packet) desks.old }
@@ -86,6 +127,72 @@ fn settle_all<A: Allocator>(desks: &mut [Desk], marked: &mut Marked<A>, packet: 
         marked.put(n, desks[n].marked);
         from = n + 1;
     }
+}
+
+// Takes all marks away, of which there are so many.
+fn clear_all<A: Allocator>(marks: &mut Marked<A>, count: usize)
+    requires { length marks.old ≡ count }
+    ensures { marks.new ≡ map (λ _. false) marks.old }
+{
+    let mut from = 0;
+    while let Some(n) = marks.next_from(from) {
+        marks.put(n, false);
+        from = n + 1;
+    }
+}
+
+// Gives the least base of the desks that are marked.
+fn least_base<A: Allocator>(desks: &[Desk], marked: &Marked<A>) -> u32
+    requires { marked.now ≡ marks_of desks.now }
+    ensures { result ≡ least_base 4294967295 desks.now }
+{
+    let mut least = u32::MAX;
+    let mut from = 0;
+    while let Some(n) = marked.next_from(from) {
+        least = least.min(desks[n].base);
+        from = n + 1;
+    }
+    least
+}
+
+// Tells the first packet behind the base of a desk that is marked, 0 where none is. Before that packet none of these is
+// due, so that the marks of `due` go.
+fn first_awaited<A: Allocator>(desks: &[Desk], marked: &Marked<A>, due: &mut Marked<A>) -> u64
+    requires marks { marked.now ≡ marks_of desks.now }
+    requires many { length due.old ≡ length desks.now }
+    ensures awaited { result ≡ first_awaited desks.now }
+    ensures due { AreDueBefore result due.new desks.now }
+{
+    clear_all(due, desks.len());
+    let Some(_) = marked.next_from(0) else {
+        return 0;
+    };
+    u64::from(least_base(desks, marked)) + 1
+}
+
+// Forgets the marks where an event ended, while desks wait for packet `until`, and tells for which they wait then. From
+// `until` on all that are marked are looked at, so that it moves on: once for each base, and not at each event end.
+#[cold]
+fn settle_waiting<A: Allocator>(
+    desks: &mut [Desk],
+    marked: &mut Marked<A>,
+    due: &mut Marked<A>,
+    until: u64,
+    packet: u32,
+) -> u64
+    requires marks { marked.old ≡ marks_of desks.old }
+    requires due { AreDueBefore until due.old desks.old }
+    ensures desks { desks.new ≡ map (desk_settled packet) desks.old }
+    ensures marks { marked.new ≡ marks_of desks.new }
+    ensures until { result ≡ if nat_lt packet until then until else first_awaited desks.new }
+    ensures due { AreDueBefore result due.new desks.new }
+{
+    if u64::from(packet) < until {
+        settle_due(desks, marked, due, packet);
+        return until;
+    }
+    settle_all(desks, marked, packet);
+    first_awaited(desks, marked, due)
 }
 
 // Replaces each desk's book by the snapshot beside it, where there is one, and marks it.
@@ -144,10 +251,13 @@ impl<A: Allocator + Copy> Desks<A> {
             desks.push(Desk::new(instrument.copy()))?;
         }
         let marked = Marked::none(alloc, instruments.len())?;
+        let due = Marked::none(alloc, instruments.len())?;
         Ok(Desks {
             slots,
             desks,
             marked,
+            due,
+            until: 0,
         })
     }
 
@@ -163,6 +273,17 @@ impl<A: Allocator + Copy> Desks<A> {
         ensures { result.now ≡ marks_of self.now }
     {
         &self.marked
+    }
+
+    /// Lends a mark for each desk, in listed order. It is set for each that is marked and whose base packet `packet`
+    /// stands behind, since an event end in that packet has lines of these alone, and for none that isn't marked.
+    pub fn due_at(&self, packet: u32) -> &Marked<A>
+        ensures { AreDueAt packet result.now self.now }
+    {
+        if u64::from(packet) < self.until {
+            return &self.due;
+        }
+        self.marked()
     }
 
     /// Lends the places of the securities.
@@ -182,6 +303,13 @@ impl<A: Allocator + Copy> Desks<A> {
         };
         self.desks[slot].enter(place, entry);
         self.marked.put(slot, self.desks[slot].marked);
+        mark_due(
+            &mut self.due,
+            self.until,
+            slot,
+            &self.desks[slot],
+            place.packet,
+        );
         slot
     }
 
@@ -208,20 +336,32 @@ impl<A: Allocator + Copy> Desks<A> {
             ++ flat_map (text_of end) (map (desk_standing end.packet) self.now)) }
         ensures err { OnErr result (BeginsWith out.new.items out.old.items) }
     {
-        put_marked(out, end, &self.desks, &self.marked)
+        put_marked(out, end, &self.desks, self.due_at(end.packet))
     }
 
     /// Forgets the marks where an event ended in packet `packet`.
     pub fn settle(&mut self, packet: u32)
         ensures { self.new ≡ map (desk_settled packet) self.old }
     {
-        settle_all(&mut self.desks, &mut self.marked, packet);
+        if self.until == 0 {
+            settle_all(&mut self.desks, &mut self.marked, packet);
+            return;
+        }
+        self.until = settle_waiting(
+            &mut self.desks,
+            &mut self.marked,
+            &mut self.due,
+            self.until,
+            packet,
+        );
     }
 
     /// Replaces each book by its security's snapshot, listed side by side, where there is one.
     pub fn rebase(&mut self, bases: &[Option<Snapshot>])
         ensures { self.new ≡ rebased_desks bases.now self.old }
     {
+        clear_all(&mut self.due, self.desks.len());
+        self.until = 1;
         rebase_all(&mut self.desks, &mut self.marked, bases);
     }
 
@@ -229,6 +369,8 @@ impl<A: Allocator + Copy> Desks<A> {
     pub fn rebase_from(&mut self, slots: &[u16], snapshots: &[Snapshot])
         ensures { self.new ≡ rebased_desks (snapshots_at slots.now snapshots.now) self.old }
     {
+        clear_all(&mut self.due, self.desks.len());
+        self.until = 1;
         rebase_at(&mut self.desks, &mut self.marked, slots, snapshots);
     }
 }

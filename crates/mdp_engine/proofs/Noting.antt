@@ -7,10 +7,11 @@ use Rattle.std.proofs.lemmas.List.{get_or-map, get_or_default, length-map, lengt
 use Rattle.std.proofs.lemmas.List.Elements.{Contains-push, Contains-push_cases, Contains-append_left}
 use Rattle.mdp_books.specs.declared.event_end.EventEnd.{EventEnd}
 use Rattle.mdp_desks.specs.declared.desk.Desk.{Desk}
-use Rattle.mdp_desks.specs.Beside.{AreClear, IsFirstSet, marks_of}
+use Rattle.mdp_desks.specs.Beside.{AreClear, AreDueAt, IsFirstSet, all_due_at}
 use Rattle.mdp_desks.specs.Lines.{Seen, spread_text}
+use Rattle.mdp_desks.proofs.Waiting.{off_of, unmarked}
 use Rattle.mdp_engine.specs.declared.spreads.Spread.{Spread}
-use Rattle.mdp_engine.specs.Parts.{AreDue, AreParts, AreQuiet, IsNoted, IsPart, IsQuiet, lists_in, with_part, with_parts}
+use Rattle.mdp_engine.specs.Parts.{AreDue, AreParts, AreQuiet, AreSilent, IsNoted, IsPart, IsQuiet, lists_in, with_part, with_parts}
 use Rattle.mdp_engine.specs.Spreads.{IsUnder, seen_there, spread_line}
 
 -- ---- one part more
@@ -177,13 +178,16 @@ quiet_of marks count spreads parts due are marked n d less unmarked =
       | inr is ↦ is
     ]
 
--- what is shown of a desk that isn't marked is not printed
-unprinted : (k : ℕ) (ds : List Desk) (n : ℕ) → get_or (marks_of ds) n false ≡ false → (s : Seen) → seen_there k (slice_get ds n) ≡ Some s → s.printed ≡ false
+-- what is shown of a desk that isn't due is not printed
+unprinted : (k : ℕ) (ds : List Desk) (n : ℕ) → get_or (all_due_at k ds) n false ≡ false → (s : Seen) → seen_there k (slice_get ds n) ≡ Some s → s.printed ≡ false
 unprinted k [] n off s is = absurd (cc is)
 unprinted k (d ∷ ds) zero off s is = by_base (nat_lt d.base k) refl
   where
     by_base : (b : Bool) → nat_lt d.base k ≡ b → s.printed ≡ false
-    by_base true over = let same : Some (record { instrument = d.instrument; printed = d.marked; book = d.book }) ≡ Some s = rw over at is in cc (same, off)
+    by_base true over =
+        let same : Some (record { instrument = d.instrument; printed = d.marked; book = d.book }) ≡ Some s = rw over at is in
+        let none : d.marked ≡ false = unmarked d.marked (nat_lt d.base k) off over in
+        cc (same, none)
     by_base false under = let none : None ≡ Some s = rw under at is in absurd (cc none)
 unprinted k (d ∷ ds) (suc n) off s is = unprinted k ds n off s is
 
@@ -197,7 +201,7 @@ no_text end (Some a) (Some b) (Some e) p1 p2 p3 =
     let z = p3 e refl in
     rw (x, y, z) refl
 
-quiet_line : (end : EventEnd) (ds : List Desk) (spread : Spread) → IsQuiet (marks_of ds) spread → spread_line end ds spread ≡ []
+quiet_line : (end : EventEnd) (ds : List Desk) (spread : Spread) → IsQuiet (all_due_at end.packet ds) spread → spread_line end ds spread ≡ []
 quiet_line end ds spread quiet =
     no_text end (seen_there end.packet (slice_get ds spread.slot)) (seen_there end.packet (slice_get ds spread.leg1)) (seen_there end.packet (slice_get ds spread.leg2))
     (unprinted end.packet ds spread.slot quiet.slot) (unprinted end.packet ds spread.leg1 quiet.leg1) (unprinted end.packet ds spread.leg2 quiet.leg2)
@@ -206,10 +210,16 @@ quiet_line end ds spread quiet =
 abbrev pub IsSilent : List Bool → (Spread → List ℕ) → Type 0
 IsSilent marks line = (spread : Spread) → IsQuiet marks spread → line spread ≡ []
 
-pub desks_silent : (end : EventEnd) (ds : List Desk) (marks : List Bool) → marks ≡ marks_of ds → IsSilent marks (spread_line end ds)
-desks_silent end ds marks are spread quiet = quiet_line end ds spread (subst (λ (ms : List Bool). IsQuiet ms spread) are quiet)
+pub desks_silent : (end : EventEnd) (ds : List Desk) (marks : List Bool) → AreDueAt end.packet marks ds → IsSilent marks (spread_line end ds)
+desks_silent end ds marks due spread quiet = quiet_line end ds spread (record { slot = off spread.slot quiet.slot; leg1 = off spread.leg1 quiet.leg1; leg2 = off spread.leg2 quiet.leg2 })
+  where
+    off : (n : ℕ) → get_or marks n false ≡ false → get_or (all_due_at end.packet ds) n false ≡ false
+    off n none = off_of (get_or (all_due_at end.packet ds) n false) (get_or marks n false) (due.all n) none
 
--- ---- the lines of the spreads from one place on, where quiet spreads have none
+pub all_silent : (line : Spread → List ℕ) (spreads : List Spread) (marks due : List Bool) → IsSilent marks line → AreQuiet marks spreads due → AreSilent line spreads due
+all_silent line spreads marks due silent quiet n d less off = silent (get_or spreads n d) (quiet n d less off)
+
+-- ---- the lines of the spreads from one place on, where silent spreads have none
 
 abbrev pub lines_left : (Spread → List ℕ) → List Spread → ℕ → List ℕ
 lines_left line spreads n = flat_map line (drop n spreads)
@@ -226,27 +236,27 @@ silent_to f (x ∷ xs) (suc a) zero up short none = absurd (omega (arith, up))
 silent_to f (x ∷ xs) (suc a) (suc b) up short none = silent_to f xs a b (omega (arith, up)) (omega (arith, short)) (λ i d from less. none (suc i) d (omega (arith, from)) (omega (arith, less)))
 
 -- of the spreads whose marks none is set, none has a line
-passed_over : (line : Spread → List ℕ) (spreads : List Spread) (marks due now : List Bool) (from n : ℕ) → IsSilent marks line → AreQuiet marks spreads due → ((i : ℕ) → from ≤ i → get_or now i false ≡ get_or due i false)
+passed_over : (line : Spread → List ℕ) (spreads : List Spread) (due now : List Bool) (from n : ℕ) → AreSilent line spreads due → ((i : ℕ) → from ≤ i → get_or now i false ≡ get_or due i false)
     → from ≤ n → n ≤ length spreads → AreClear from n now → lines_left line spreads n ≡ lines_left line spreads from
-passed_over line spreads marks due now from n silent quiet same up short clear =
+passed_over line spreads due now from n silent same up short clear =
     silent_to line spreads from n up short (λ i d above under.
-    silent (get_or spreads i d) (quiet i d (omega (arith, under, short)) (sym (same i above) ∙ clear i above under)))
+    silent i d (omega (arith, under, short)) (sym (same i above) ∙ clear i above under))
 
-pub line_more : (line : Spread → List ℕ) (spreads : List Spread) (marks due now : List Bool) (from n : ℕ) (d : Spread) (old new whole : List ℕ) → IsSilent marks line → AreQuiet marks spreads due → ((i : ℕ) → from ≤ i → get_or now i false ≡ get_or due i false)
+pub line_more : (line : Spread → List ℕ) (spreads : List Spread) (due now : List Bool) (from n : ℕ) (d : Spread) (old new whole : List ℕ) → AreSilent line spreads due → ((i : ℕ) → from ≤ i → get_or now i false ≡ get_or due i false)
     → from ≤ n → n < length spreads → AreClear from n now → new ≡ old ++ line (get_or spreads n d) → old ++ lines_left line spreads from ≡ whole → new ++ lines_left line spreads (n + 1) ≡ whole
-line_more line spreads marks due now from n d old new whole silent quiet same up less clear is before =
+line_more line spreads due now from n d old new whole silent same up less clear is before =
     let here = line (get_or spreads n d) in
     let rest = lines_left line spreads (n + 1) in
     let next : lines_left line spreads n ≡ here ++ rest = at_drop_more (flat_map line) spreads n d less in
     ap (λ (t : List ℕ). t ++ rest) is
     ∙ append_assoc old here rest
-    ∙ ap (λ (t : List ℕ). old ++ t) (sym next ∙ passed_over line spreads marks due now from n silent quiet same up (omega (arith, less)) clear)
+    ∙ ap (λ (t : List ℕ). old ++ t) (sym next ∙ passed_over line spreads due now from n silent same up (omega (arith, less)) clear)
     ∙ before
 
-pub line_end : (line : Spread → List ℕ) (spreads : List Spread) (marks due now : List Bool) (from : ℕ) (text whole : List ℕ) → IsSilent marks line → AreQuiet marks spreads due → ((i : ℕ) → from ≤ i → get_or now i false ≡ get_or due i false)
+pub line_end : (line : Spread → List ℕ) (spreads : List Spread) (due now : List Bool) (from : ℕ) (text whole : List ℕ) → AreSilent line spreads due → ((i : ℕ) → from ≤ i → get_or now i false ≡ get_or due i false)
     → from ≤ length spreads → AreClear from (length spreads) now → text ++ lines_left line spreads from ≡ whole → text ≡ whole
-line_end line spreads marks due now from text whole silent quiet same up clear before =
-    let past = passed_over line spreads marks due now from (length spreads) silent quiet same up (omega arith) clear in
+line_end line spreads due now from text whole silent same up clear before =
+    let past = passed_over line spreads due now from (length spreads) silent same up (omega arith) clear in
     let none : lines_left line spreads from ≡ [] = sym past ∙ ap (flat_map line) (drop_all (length spreads) spreads (omega arith)) in
     sym (append-nil text) ∙ ap (λ (t : List ℕ). text ++ t) (sym none) ∙ before
 

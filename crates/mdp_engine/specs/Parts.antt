@@ -48,6 +48,11 @@ abbrev pub AreQuiet : List Bool → List Spread → List Bool → Type 0
 AreQuiet marks spreads due =
     (n : ℕ) (d : Spread) → n < length spreads → get_or due n false ≡ false → IsQuiet marks (get_or spreads n d)
 
+-- of the spreads that are not marked, none has a line
+abbrev pub AreSilent : (Spread → List ℕ) → List Spread → List Bool → Type 0
+AreSilent line spreads due =
+    (n : ℕ) (d : Spread) → n < length spreads → get_or due n false ≡ false → line (get_or spreads n d) ≡ []
+
 -- what stands beside the desks of listed securities: the spreads among them, their parts, and a mark for each spread
 pub record AreAudited (listed : List Instrument) (spreads : List Spread) (parts : List (List ℕ))
     (due : List Bool) : Type 0 where

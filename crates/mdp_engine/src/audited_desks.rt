@@ -84,7 +84,7 @@ impl<A: Allocator + Copy> AuditedDesks<A> {
             (map (desk_standing end.packet) self.old)) }
         ensures err { OnErr result (BeginsWith out.new.items out.old.items) }
     {
-        mark_spreads(&mut self.due, self.desks.marked(), &self.parts);
+        mark_spreads(&mut self.due, self.desks.due_at(end.packet), &self.parts);
         put_audits(
             out,
             end,

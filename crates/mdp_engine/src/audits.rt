@@ -7,7 +7,7 @@ ghost use Rattle.mdp_desks.specs.Desks.{desk_standing};
 ghost use Rattle.mdp_engine.specs.Spreads.{spread_line};
 ghost use Rattle.mdp_desks.specs.Lines.{verdicts_text, spread_text, audit_text};
 ghost use Rattle.mdp_desks.specs.Beside.{listed_in, marks_of};
-ghost use Rattle.mdp_engine.specs.Parts.{AreQuiet};
+ghost use Rattle.mdp_engine.specs.Parts.{AreSilent};
 ghost use Rattle.mdp_engine.specs.Spreads.{AreSpreadsOf, IsUnder};
 
 use crate::spreads::Spread;
@@ -141,7 +141,7 @@ pub(crate) fn put_audits<A: Allocator>(
     requires marks { marked.now ≡ marks_of desks.now }
     requires spreads { AreSpreadsOf (listed_in desks.now) spreads.now }
     requires many { length due.old ≡ length spreads.now }
-    requires quiet { AreQuiet marked.now spreads.now due.old }
+    requires silent { AreSilent (spread_line end desks.now) spreads.now due.old }
     ensures long { length due.new ≡ length due.old }
     ensures text { OnOk result (out.new.items ≡ out.old.items
         ++ flat_map (audit_text end (map (desk_standing end.packet) desks.now))

@@ -1,11 +1,10 @@
 -- The spreads of which one of the three is told of.
-use Rattle.std.proofs.Common.{◌≡◌, ◌≢◌, ◌<◌, ◌≤◌, ◌+◌, take, drop, ℕ, zero, suc, Bool, true, false, List, [], ◌∷◌, ◌++◌, length, map, get_or, set, refl, sym, ap, subst, ◌∙◌, arith, inl, inr}
+use Rattle.std.proofs.Common.{◌≡◌, ◌≢◌, ◌<◌, ◌≤◌, ◌+◌, take, drop, ℕ, zero, suc, Bool, true, false, List, [], ◌∷◌, ◌++◌, length, map, get_or, set, refl, sym, ap, subst, ◌∙◌, arith}
 use Rattle.std.specs.Prelude.{Option, ◌||◌, ◌==◌}
 use Rattle.std.specs.List.{flat_map, AllByRecursion}
 use Rattle.std.proofs.lemmas.List.{length-set, length-map, get_or-set_other, drop_all, take_all, append-nil}
 use Rattle.std.proofs.lemmas.List.Edits.{map_over_more}
 use Rattle.std.proofs.lemmas.Grind.{get_or-set_at}
-use Rattle.std.proofs.lemmas.Bool.{cases_lt}
 use Rattle.std.proofs.lemmas.Bool.Decides.{nat_tests}
 use Rattle.mdp_templates.specs.declared.instrument.Instrument.{Instrument}
 use Rattle.mdp_books.specs.declared.event_end.EventEnd.{EventEnd}
@@ -14,7 +13,7 @@ use Rattle.mdp_templates.specs.Instrument.{ids_of}
 use Rattle.mdp_engine.specs.declared.spreads.Spread.{Spread}
 use Rattle.mdp_desks.specs.Desks.{desk_at_start}
 use Rattle.mdp_engine.specs.Spreads.{IsUnder, spreads_from}
-use Rattle.mdp_desks.specs.Beside.{AreClear, listed_in}
+use Rattle.mdp_desks.specs.Beside.{listed_in}
 use Rattle.mdp_desks.proofs.Hearing.{start_listed}
 use Rattle.mdp_engine.proofs.Auditing.{under_there}
 use Rattle.mdp_engine.proofs.Noting.{IsSilent}
@@ -110,43 +109,6 @@ all_under listed spreads are =
 
 pub marks_silent : (end : EventEnd) (listed : List Instrument) (marks : List Bool) (kept : List (Option Best)) → IsSilent marks (marked_line end listed marks kept)
 marks_silent end listed marks kept s quiet = rw (quiet.slot, quiet.leg1, quiet.leg2) refl
-
--- ---- marks that are taken away
-
-still_off : (marks : List Bool) (n k : ℕ) → get_or marks k false ≡ false → get_or (set marks n false) k false ≡ false
-still_off [] n k off = off
-still_off (b ∷ marks) zero zero off = refl
-still_off (b ∷ marks) zero (suc k) off = off
-still_off (b ∷ marks) (suc n) zero off = off
-still_off (b ∷ marks) (suc n) (suc k) off = still_off marks n k off
-
-off_there : (marks : List Bool) (n : ℕ) → get_or (set marks n false) n false ≡ false
-off_there [] n = refl
-off_there (b ∷ marks) zero = refl
-off_there (b ∷ marks) (suc n) = off_there marks n
-
-pub clear_more : (marks new : List Bool) (from n : ℕ) → new ≡ set marks n false → AreClear from n marks → ((k : ℕ) → k < from → get_or marks k false ≡ false) → (k : ℕ) → k < n + 1 → get_or new k false ≡ false
-clear_more marks new from n is between below k less = ap (λ ms. get_or ms k false) is ∙ elim (cases_lt k n) [
-  | inl before ↦ still_off marks n k (off k before)
-  | inr after ↦ (let same : n ≡ k = omega (arith, after, less) in subst (λ (i : ℕ). get_or (set marks n false) i false ≡ false) same (off_there marks n))
-]
-  where
-    off : (i : ℕ) → i < n → get_or marks i false ≡ false
-    off i before = elim (cases_lt i from) [ inl under ↦ below i under | inr above ↦ between i above before ]
-
-pub all_clear : (old now : List Bool) (from : ℕ) → length now ≡ length old → ((k : ℕ) → k < from → get_or now k false ≡ false) → AreClear from (length now) now → now ≡ map (λ _. false) old
-all_clear old now from long below behind = by_place old now long off
-  where
-    off : (k : ℕ) → k < length now → get_or now k false ≡ false
-    off k inside = elim (cases_lt k from) [ inl under ↦ below k under | inr above ↦ behind k above inside ]
-
-    by_place : (old now : List Bool) → length now ≡ length old → ((k : ℕ) → k < length now → get_or now k false ≡ false) → now ≡ map (λ _. false) old
-    by_place [] [] long off = refl
-    by_place [] (b ∷ now) long off = absurd (omega (arith, long))
-    by_place (a ∷ old) [] long off = absurd (omega (arith, long))
-    by_place (a ∷ old) (b ∷ now) long off =
-        ap (λ (c : Bool). c ∷ now) (off 0 (omega arith))
-        ∙ ap (λ (bs : List Bool). false ∷ bs) (by_place old now (omega (arith, long)) (λ k inside. off (suc k) (omega (arith, inside))))
 
 -- ---- a list that is filled
 

@@ -1,9 +1,8 @@
-use Rattle.std.proofs.Common.{rules, ◌≡◌, ◌<◌, ℕ, length, ap, sym, ◌∙◌, refl, arith, subst}
-use Rattle.std.specs.Prelude.{List, Bool}
-use Rattle.std.proofs.lemmas.List.{length-map}
-use Rattle.mdp_desks.specs.Beside.{AreClear}
+use Rattle.std.proofs.Common.{rules, ◌<◌, ℕ, length, sym, arith, subst}
+use Rattle.std.specs.Prelude.{List}
 use Rattle.mdp_print.specs.Pieces.{BeginsWith}
 use Rattle.mdp_print.proofs.Fronts.{begins_first, begins_more}
+use Rattle.mdp_desks.proofs.Waiting.{clear_due}
 use Rattle.mdp_desks.proofs.Passing.{lines_more, lines_end}
 use Rattle.mdp_desks.proofs.desks.put_marked.Goals as goal
 
@@ -11,10 +10,10 @@ pub loop-n-preserved : goal.loop-n-preserved
 loop-n-preserved g c =
     let ds = c.args.desks.now in
     let n = c.in-Some.n in
-    let long : length c.args.marked.now ≡ length ds = ap length c.requires ∙ simp length-map refl in
+    let long = c.requires.many in
     let first = c.in-Some.ensures.some in
     let less : n < length ds = omega (arith, first.inside, long) in
-    let clear = subst (λ (ms : List Bool). AreClear c.loop-n.from n ms) c.requires first.before in
+    let clear = clear_due c.args.end.packet ds _ c.loop-n.from n c.requires first.before in
     record {
       inside = omega (arith, less);
       text = lines_more c.args.end ds c.loop-n.from n _ c.loop-n.out.items c.put.new.out.items _ first.behind less clear c.index-desks-n.is c.in_ok-put.ensures.ok c.loop-n.invariant.text;
@@ -24,9 +23,9 @@ loop-n-preserved g c =
 pub returns-clause-ok : goal.returns-clause-ok
 returns-clause-ok g c =
     let ds = c.args.desks.now in
-    let long : length c.args.marked.now ≡ length ds = ap length c.requires ∙ simp length-map refl in
+    let long = c.requires.many in
     let none = c.in_default.ensures.none in
-    let clear = subst (λ (ms : List Bool). AreClear c.loop-n.from (length ds) ms) c.requires (λ i from under. none i from (omega (arith, under, long))) in
+    let clear = clear_due c.args.end.packet ds _ c.loop-n.from (length ds) c.requires (λ i from under. none i from (omega (arith, under, long))) in
     lines_end c.args.end ds c.loop-n.from c.loop-n.out.items _ c.loop-n.invariant.inside clear c.loop-n.invariant.text
 
 pub returns-in_err-put-clause-err : goal.returns-in_err-put-clause-err

@@ -5,7 +5,7 @@ use Rattle.mdp_print.specs.Pieces.{BeginsWith}
 use Rattle.mdp_print.proofs.Fronts.{begins_first, begins_more}
 use Rattle.mdp_engine.specs.Spreads.{spread_line}
 use Rattle.mdp_engine.proofs.Auditing.{audits_are, under_there}
-use Rattle.mdp_engine.proofs.Noting.{desks_silent, line_more, line_end}
+use Rattle.mdp_engine.proofs.Noting.{line_more, line_end}
 use Rattle.mdp_engine.proofs.audits.put_audits.Goals as goal
 
 pub put_audit_at-requires-clause-under : goal.put_audit_at-requires-clause-under
@@ -30,7 +30,7 @@ loop-n-preserved g c =
       marks = λ k from.
           let other : k ≢ n = λ same. omega (arith, same, from) in
           ap (λ ms. get_or ms k false) c.put.ensures ∙ get_or-set_other due n k false false other ∙ was.marks k (omega (arith, from, first.behind));
-      text = line_more (spread_line c.args.end c.args.desks.now) c.args.spreads.now c.args.marked.now c.args.due.now due c.loop-n.from n _ c.loop-n.out.items c.put_audit_at.new.out.items _ (desks_silent c.args.end c.args.desks.now c.args.marked.now c.requires.marks) c.requires.quiet was.marks first.behind less first.before c.in_ok-put_audit_at.ensures.ok was.text;
+      text = line_more (spread_line c.args.end c.args.desks.now) c.args.spreads.now c.args.due.now due c.loop-n.from n _ c.loop-n.out.items c.put_audit_at.new.out.items _ c.requires.silent was.marks first.behind less first.before c.in_ok-put_audit_at.ensures.ok was.text;
       front = subst (λ (ys : List ℕ). BeginsWith ys c.args.out.now.items) (sym c.in_ok-put_audit_at.ensures.ok) (begins_more c.args.out.now.items c.loop-n.out.items _ was.front);
     }
 
@@ -43,7 +43,7 @@ returns-clause-text g c =
     let long = was.long in
     let none = c.in_default.ensures.none in
     let whole = audits_are c.args.end ds spreads c.requires.spreads.differ c.requires.spreads.spreads_are in
-    line_end line spreads c.args.marked.now c.args.due.now c.loop-n.due c.loop-n.from c.loop-n.out.items (c.args.out.now.items ++ flat_map line spreads) (desks_silent c.args.end ds c.args.marked.now c.requires.marks) c.requires.quiet was.marks was.inside
+    line_end line spreads c.args.due.now c.loop-n.due c.loop-n.from c.loop-n.out.items (c.args.out.now.items ++ flat_map line spreads) c.requires.silent was.marks was.inside
     (λ i from under. none i from (omega (arith, under, long, c.requires.many))) was.text
     ∙ ap (λ (t : List ℕ). c.args.out.now.items ++ t) (sym whole)
 

@@ -1,7 +1,7 @@
 use Rattle.std.proofs.Common.{rules, Fits, w64, ◌∙◌, ap, length, arith}
 use Rattle.std.specs.Prelude.{false}
 use Rattle.std.proofs.lemmas.List.{length-set}
-use Rattle.mdp_reports.proofs.Marking.{clear_more, all_clear}
+use Rattle.mdp_desks.proofs.Clearing.{clear_more, all_clear}
 use Rattle.mdp_reports.proofs.kept.clear.Goals as goal
 
 pub overflow_add-from : goal.overflow_add-from
