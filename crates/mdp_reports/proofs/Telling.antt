@@ -1,13 +1,14 @@
--- What desks tell at an event end: the marked alone.
+-- What desks tell at an event end: those that are due alone.
 use Rattle.std.proofs.Common.{◌≡◌, ℕ, zero, suc, ◌+◌, ◌<◌, ◌≤◌, append-nil, append_assoc, Bool, true, false, List, [], ◌∷◌, ◌++◌, length, drop, map, get_or, refl, sym, ap, ◌∙◌, arith}
 use Rattle.std.specs.Prelude.{nat_lt}
 use Rattle.std.proofs.lemmas.List.{length-map, drop_all}
 use Rattle.mdp_templates.specs.declared.entry.Entry.{Entry}
 use Rattle.mdp_books.specs.declared.event_end.EventEnd.{EventEnd}
 use Rattle.mdp_desks.specs.declared.desk.Desk.{Desk}
-use Rattle.mdp_desks.specs.Beside.{AreClear, marks_of}
+use Rattle.mdp_desks.specs.Beside.{AreClear, all_due_at, is_due_at}
 use Rattle.mdp_desks.specs.Desks.{desks_through, desk_standing}
 use Rattle.mdp_desks.specs.Reports.{Told, Report, tells, told_there, told_by}
+use Rattle.mdp_desks.proofs.Waiting.{unmarked}
 use Rattle.mdp_desks.proofs.Hearing.{through, all_through}
 use Rattle.mdp_reports.specs.Flat.{reports_with}
 use Rattle.mdp_reports.specs.Reporting.{reports_with_all}
@@ -16,13 +17,13 @@ use Rattle.mdp_reports.proofs.Flatting.{reports_with-push}
 pub through_long : (packet message : ℕ) (entries : List Entry) (ds : List Desk) → length (desks_through packet message 1 entries ds) ≡ length ds
 through_long packet message entries ds = ap length (all_through packet message 1 entries ds) ∙ length-map ds (through packet message 1 entries)
 
--- ---- the marked alone
+-- ---- those that are due alone
 
-none_there : (end : EventEnd) (slot : ℕ) (d : Desk) → d.marked ≡ false → told_there end slot (desk_standing end.packet d) ≡ []
+none_there : (end : EventEnd) (slot : ℕ) (d : Desk) → is_due_at end.packet d ≡ false → told_there end slot (desk_standing end.packet d) ≡ []
 none_there end slot d is = by_base (nat_lt d.base end.packet) refl
   where
     by_base : (b : Bool) → nat_lt d.base end.packet ≡ b → told_there end slot (desk_standing end.packet d) ≡ []
-    by_base true over = rw (over, is) refl
+    by_base true over = let off = unmarked d.marked (nat_lt d.base end.packet) is over in rw (over, off) refl
     by_base false under = rw under refl
 
 abbrev pub told_of : EventEnd → List ℕ → List Desk → List Told
@@ -32,7 +33,7 @@ no_slots : (end : EventEnd) (slots : List ℕ) → told_by end slots [] ≡ []
 no_slots end [] = refl
 no_slots end (slot ∷ slots) = refl
 
-told_below : (end : EventEnd) (slots : List ℕ) (ds : List Desk) (n : ℕ) → length slots ≡ length ds → ((i : ℕ) → i < n → get_or (marks_of ds) i false ≡ false) → told_of end (drop n slots) (drop n ds) ≡ told_of end slots ds
+told_below : (end : EventEnd) (slots : List ℕ) (ds : List Desk) (n : ℕ) → length slots ≡ length ds → ((i : ℕ) → i < n → get_or (all_due_at end.packet ds) i false ≡ false) → told_of end (drop n slots) (drop n ds) ≡ told_of end slots ds
 told_below end slots ds zero many none = refl
 told_below end [] [] (suc n) many none = refl
 told_below end [] (d ∷ ds) (suc n) many none = absurd (omega (arith, many))
@@ -41,7 +42,7 @@ told_below end (slot ∷ slots) (d ∷ ds) (suc n) many none =
     told_below end slots ds n (omega (arith, many)) (λ i less. none (suc i) (omega (arith, less)))
     ∙ ap (λ (t : List Told). t ++ told_of end slots ds) (sym (none_there end slot d (none 0 (omega arith))))
 
-pub told_between : (end : EventEnd) (slots : List ℕ) (ds : List Desk) (a b : ℕ) → length slots ≡ length ds → a ≤ b → AreClear a b (marks_of ds) → told_of end (drop b slots) (drop b ds) ≡ told_of end (drop a slots) (drop a ds)
+pub told_between : (end : EventEnd) (slots : List ℕ) (ds : List Desk) (a b : ℕ) → length slots ≡ length ds → a ≤ b → AreClear a b (all_due_at end.packet ds) → told_of end (drop b slots) (drop b ds) ≡ told_of end (drop a slots) (drop a ds)
 told_between end slots ds zero b many up clear = told_below end slots ds b many (λ i less. clear i (omega arith) less)
 told_between end slots ds (suc a) zero many up clear = absurd (omega (arith, up))
 told_between end [] [] (suc a) (suc b) many up clear = refl
@@ -51,7 +52,7 @@ told_between end (slot ∷ slots) (d ∷ ds) (suc a) (suc b) many up clear =
     told_between end slots ds a b (omega (arith, many)) (omega (arith, up)) (λ i from less. clear (suc i) (omega (arith, from)) (omega (arith, less)))
 
 -- none is left to tell of
-pub told_end : (end : EventEnd) (slots : List ℕ) (ds : List Desk) (from : ℕ) → length slots ≡ length ds → from ≤ length ds → AreClear from (length ds) (marks_of ds) → told_of end (drop from slots) (drop from ds) ≡ []
+pub told_end : (end : EventEnd) (slots : List ℕ) (ds : List Desk) (from : ℕ) → length slots ≡ length ds → from ≤ length ds → AreClear from (length ds) (all_due_at end.packet ds) → told_of end (drop from slots) (drop from ds) ≡ []
 told_end end slots ds from many up clear =
     sym (told_between end slots ds from (length ds) many up clear)
     ∙ ap (λ (l : List ℕ). told_of end l (drop (length ds) ds)) (drop_all (length ds) slots (omega (arith, many)))

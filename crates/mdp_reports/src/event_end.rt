@@ -1,7 +1,7 @@
 //! What a worker reports of an event end: the securities of its own that are printed there.
 
 ghost use Rattle.std.specs.Prelude.{◌≡◌, ◌++◌, ◌∷◌, [], map, length, true, OnOk};
-ghost use Rattle.mdp_desks.specs.Beside.{marks_of};
+ghost use Rattle.mdp_desks.specs.Beside.{AreDueAt};
 ghost use Rattle.mdp_desks.specs.Desks.{desk_standing};
 ghost use Rattle.mdp_desks.specs.Reports.{tells, told_by, told_there};
 ghost use Rattle.mdp_reports.specs.Reporting.{reports_with_all};
@@ -30,7 +30,7 @@ fn tell_due<A: Allocator + Copy>(
     Ok(())
 }
 
-// Tells of the securities whose desks are marked.
+// Tells of the securities whose desks are due.
 fn tell_marked<A: Allocator + Copy>(
     out: &mut Reports<A>,
     end: EventEnd,
@@ -38,7 +38,7 @@ fn tell_marked<A: Allocator + Copy>(
     desks: &[Desk],
     marked: &Marked<A>,
 ) -> Result<(), Memory>
-    requires marks { marked.now ≡ marks_of desks.now }
+    requires marks { AreDueAt end.packet marked.now desks.now }
     requires many { length slots.now ≡ length desks.now }
     ensures { OnOk result (out.new ≡ reports_with_all
         (told_by end slots.now (map (desk_standing end.packet) desks.now)) out.old) }
@@ -52,7 +52,7 @@ fn tell_marked<A: Allocator + Copy>(
 }
 
 /// Reports an event end: of the securities of these desks, which stand at these slots, those that are
-/// printed there. A desk that is not marked is not looked at.
+/// printed there. A desk that is not marked is not looked at, nor one that waits for a later packet.
 pub(crate) fn report_event_end<A: Allocator + Copy>(
     desks: &Desks<A>,
     slots: &[u16],
@@ -64,6 +64,6 @@ pub(crate) fn report_event_end<A: Allocator + Copy>(
         ++ tells end (told_by end slots.now (map (desk_standing end.packet) desks.now)) ∷ []) }
 {
     out.begin(end)?;
-    tell_marked(out, end, slots, desks.as_slice(), desks.marked())?;
+    tell_marked(out, end, slots, desks.as_slice(), desks.due_at(end.packet))?;
     Ok(())
 }
