@@ -5,8 +5,8 @@ ghost use Rattle.std.specs.Option.{option_map};
 ghost use Rattle.mdp_templates.specs.Instrument.{AreFit};
 ghost use Rattle.mdp_print.specs.Pieces.{Appends, BeginsWith};
 ghost use Rattle.mdp_print.specs.Texts.{last_line};
-ghost use Rattle.mdp_quotes.specs.Consolidation.{consolidation_of};
-ghost use Rattle.mdp_quotes.specs.Top.{top_of_book};
+ghost use Rattle.mdp_quotes.specs.Consolidation.{consolidation_of, quotes_of};
+ghost use Rattle.mdp_quotes.specs.Top.{top_of_book, top_of_quotes};
 ghost use Rattle.mdp_templates.specs.declared.instrument.Instrument.{Instrument};
 ghost use Rattle.mdp_arbiter.specs.Accepted.{Event as Accepted, came, closed, recovered};
 ghost use Rattle.mdp_arbiter.specs.Machine.{is_lost, state_at};
@@ -21,11 +21,11 @@ use crate::decoding::{Decoded, decode};
 use crate::last_packet::LastPacket;
 use crate::taken::{SnapshotCounts, Taken};
 use mdp_arbiter::Start;
-use mdp_books::Book;
+use mdp_books::{Book, Sides};
 use mdp_desks::Desk;
 use mdp_engine::{Engine, Event};
 use mdp_print::put_last;
-use mdp_quotes::{Consolidated, TopOfBook};
+use mdp_quotes::{Consolidated, TopOfBook, are_in_order, merged_top};
 use mdp_templates::{Feed, Instrument, Memory, Packet, Snapshot};
 use mdp_window::RingWindow;
 use std::alloc::Allocator;
@@ -45,6 +45,27 @@ pub struct ChannelState {
     /// While it is lost, the slot of the first listed security that a jump waits for: it has no snapshot, or none that
     /// includes all packets that are given up.
     pub stale: Option<usize>,
+}
+
+// Gives the best level of each consolidated side of a good book. Where each of its sides is in order, these levels
+// tell, and no side is added up.
+fn top_of(sides: &Sides) -> TopOfBook
+    ensures { result ≡ top_of_quotes (quotes_of sides.now) }
+{
+    if are_in_order(sides) {
+        return merged_top(sides);
+    }
+    Consolidated::of_sides(sides).top()
+}
+
+// Gives the best level of each consolidated side of a book; none of a faulty one.
+fn best_of(book: &Book) -> Option<TopOfBook>
+    ensures { result ≡ top_of_book book.now }
+{
+    match book {
+        Book::Good(sides) => Some(top_of(sides)),
+        Book::Fault(_) => None,
+    }
 }
 
 /// A handler of one channel. It takes the datagrams of the channel's feeds as they come, keeps the books of the listed
@@ -226,8 +247,8 @@ impl<A: Allocator + Copy> Handler<A> {
     pub fn best(&self, slot: usize) -> Option<TopOfBook>
         ensures { IfSome (slice_get self.now.desks slot) (λ d. result ≡ top_of_book d.book) }
     {
-        match self.consolidated(slot) {
-            Some(consolidated) => Some(consolidated.top()),
+        match self.desk(slot) {
+            Some(desk) => best_of(desk.book.book()),
             None => None,
         }
     }
