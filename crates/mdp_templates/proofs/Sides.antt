@@ -21,7 +21,7 @@ use Rattle.mdp_sbe.specs.Number.{int32_at, int64_at}
 use Rattle.mdp_templates.specs.Answer.{◌>>=◌}
 use Rattle.mdp_templates.specs.Layout.{AreEntries}
 use Rattle.mdp_templates.specs.Recovery.{IsSide, level_at, levels_at, same_kind, quote_in, quote_by}
-use Rattle.mdp_templates.specs.Side.{found_of, found_and, Notes, AreFound, AreShallow, IsGathered}
+use Rattle.mdp_templates.specs.Side.{found_of, found_and, Notes, AreFound, AreAllShallow, AreShallow, IsGathered}
 
 -- ---- what is found
 
@@ -316,3 +316,11 @@ are_shallow kind (t ∷ texts) [] good = λ k past. refl
 are_shallow kind (t ∷ texts) (q ∷ quotes) good = λ k past.
     let here : level_at kind (k + 1) q ≡ None = not_past kind k q past (inside_of q t good.0) in
     rw here (are_shallow kind texts quotes good.1 k past)
+
+pub are_all_shallow : (texts : List (List ℕ)) (quotes : List (Option Quote)) → AreEntries quote_in texts quotes → AreAllShallow quotes
+are_all_shallow texts quotes good = record {
+  bids = are_shallow kinds.Bid texts quotes good;
+  offers = are_shallow kinds.Offer texts quotes good;
+  implied_bids = are_shallow kinds.ImpliedBid texts quotes good;
+  implied_offers = are_shallow kinds.ImpliedOffer texts quotes good;
+}

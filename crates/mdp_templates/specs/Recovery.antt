@@ -1,6 +1,6 @@
 -- The messages of the market recovery feed S, and the snapshots that a datagram gives
 -- (MDP 3.0, snapshot full refresh; that one message holds a whole book is this project's own profile).
-use Rattle.std.specs.Prelude.{◌≡◌, ◌≢◌, ◌<◌, ◌+◌, ◌==◌, ◌&&◌, if◌then◌else◌, ℕ, List, [], length, drop, slice_index, slice_get, Option, Some, None, Result, Ok, Err, Bool, true, false}
+use Rattle.std.specs.Prelude.{◌≡◌, ◌≢◌, ◌<◌, ◌+◌, ◌==◌, ◌&&◌, if◌then◌else◌, ℕ, List, [], ◌++◌, length, drop, slice_index, slice_get, Option, Some, None, Result, Ok, Err, Bool, true, false}
 use Rattle.std.specs.Option.{option_to_list}
 use Rattle.std.specs.List.{filter_map}
 use Rattle.mdp_sbe.specs.Number.{number_at, int32_at, int64_at}
@@ -59,6 +59,18 @@ pub record HasBadSide (quotes : List (Option Quote)) : Type 0 where
   pub kind : Kind
   pub none : (side : List Level) → IsSide kind quotes side → ⊥
 
+-- and then a message of these entries is refused
+pub record IsBadlySided (quotes : List (Option Quote)) (r : Refusal) : Type 0 where
+  pub sides : HasBadSide quotes
+  pub refused : r ≡ refusals.SnapshotLevels
+
+-- the sides are those that these entries give
+pub record HasSides (quotes : List (Option Quote)) (value : SnapshotContent) : Type 0 where
+  pub bids : IsSide kinds.Bid quotes value.bids
+  pub offers : IsSide kinds.Offer quotes value.offers
+  pub implied_bids : IsSide kinds.ImpliedBid quotes value.implied_bids
+  pub implied_offers : IsSide kinds.ImpliedOffer quotes value.implied_offers
+
 -- what the root block and the entries of a snapshot message give: one security's sides after its last packet
 pub record IsWhole (root : List ℕ) (quotes : List (Option Quote)) (value : SnapshotContent) : Type 0 where
   pub last : value.last ≡ number_at 0 4 root
@@ -92,6 +104,12 @@ IsRecovery message (Some value) = (message.template ≡ 52) × IsSnapshot messag
 
 abbrev pub IsRefusedRecovery : Parts → Refusal → Type 0
 IsRefusedRecovery message r = (message.template ≡ 52) × IsRefusedSnapshot message r
+
+-- a list of snapshots grew by what a message of this feed gives
+pub record AddsRecovery (message : Parts) (old new : List SnapshotContent) : Type 0 where
+  pub given : Option SnapshotContent
+  pub grown : new ≡ old ++ option_to_list given
+  pub is : IsRecovery message given
 
 -- from `rest` to `here` stand messages that give these snapshots in order
 pub record Give (rest : List ℕ) (values : List SnapshotContent) (here : List ℕ) : Type 0 where

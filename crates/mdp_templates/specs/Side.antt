@@ -3,9 +3,11 @@ use Rattle.std.specs.Prelude.{◌≡◌, ◌<◌, ◌≤◌, ◌+◌, ℕ, List,
 use Rattle.std.specs.Option.{option_map, option_to_list}
 use Rattle.mdp_templates.specs.declared.entry.Level.{Level}
 use Rattle.mdp_templates.specs.declared.entry.Kind.{Kind}
+use Rattle.mdp_templates.specs.declared.entry.Kind.TheVariants as kinds
 use Rattle.mdp_templates.specs.declared.quote.Quote.{Quote}
 use Rattle.mdp_templates.specs.declared.side.Found.{Found}
 use Rattle.mdp_templates.specs.declared.side.Found.TheVariants.{Nothing, One, Many}
+use Rattle.mdp_templates.specs.Entry.{direct_depth, implied_depth}
 use Rattle.mdp_templates.specs.Recovery.{level_at, levels_at}
 
 -- how many levels stand at a position
@@ -34,6 +36,13 @@ AreFound kind quotes found =
 -- no entry of this kind stands at a position past the depth
 abbrev pub AreShallow : Kind → ℕ → List (Option Quote) → Type 0
 AreShallow kind depth quotes = (k : ℕ) → depth ≤ k → levels_at kind (k + 1) quotes ≡ []
+
+-- no entry stands at a position past the depth of its side
+pub record AreAllShallow (quotes : List (Option Quote)) : Type 0 where
+  pub bids : AreShallow kinds.Bid direct_depth quotes
+  pub offers : AreShallow kinds.Offer direct_depth quotes
+  pub implied_bids : AreShallow kinds.ImpliedBid implied_depth quotes
+  pub implied_offers : AreShallow kinds.ImpliedOffer implied_depth quotes
 
 -- up to this position the levels are the side's, which may be shorter
 pub record IsGathered (kind : Kind) (quotes : List (Option Quote)) (position : ℕ) (side : List Level) : Type 0 where

@@ -25,6 +25,12 @@ pub record Adds {E : Type 0} (IsMore : List E → Type 0) (old new : List E) : T
   pub grown : new ≡ old ++ more
   pub is : IsMore more
 
+-- a list grew by one item of which this holds
+pub record AddsOne {E : Type 0} (IsItem : E → Type 0) (old new : List E) : Type 0 where
+  pub item : E
+  pub grown : new ≡ old ++ item ∷ []
+  pub is : IsItem item
+
 -- a list of entries grew by those of a message of which this holds, and there they lie
 pub record AddsMessage (IsValue : MessageContent → Type 0) (old new : List Entry) (span : Span) : Type 0 where
   pub more : List Entry

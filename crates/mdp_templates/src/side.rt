@@ -1,6 +1,6 @@
 //! The sides of a snapshot, gathered from entries that stand in any order.
 
-ghost use Rattle.std.specs.Prelude.{◌≡◌, ◌≤◌, IfSome, IfNone, List, Some};
+ghost use Rattle.std.specs.Prelude.{◌≡◌, ◌≤◌, List, [], Some, true, false};
 ghost use Rattle.mdp_templates.specs.declared.entry.Level.{Level};
 ghost use Rattle.mdp_templates.specs.Entry.{direct_depth};
 ghost use Rattle.mdp_templates.specs.Recovery.{IsSide, same_kind};
@@ -62,25 +62,26 @@ fn find_all<const DEPTH: usize>(quotes: &[Option<Quote>], kind: Kind) -> [Found;
     found
 }
 
-/// Gathers the side that these entries give, or nothing where its levels are not 1 to n, each once.
+/// Gathers the side that these entries give into an empty list, and tells whether its levels are 1 to n, each once.
 pub(crate) fn gather<const DEPTH: usize>(
     quotes: &[Option<Quote>],
     kind: Kind,
-) -> Option<ArrayVec<Level, DEPTH>>
+    side: &mut ArrayVec<Level, DEPTH>,
+) -> bool
     requires few { DEPTH ≤ direct_depth }
     requires shallow { AreShallow kind DEPTH quotes.now }
-    ensures some { IfSome result (λ side. IsSide kind quotes.now side.items) }
-    ensures none { IfNone result ((side : List Level) → IsSide kind quotes.now side → ⊥) }
+    requires empty { side.old.items ≡ [] }
+    ensures whole { result ≡ true → IsSide kind quotes.now side.new.items }
+    ensures bad { result ≡ false → (levels : List Level) → IsSide kind quotes.now levels → ⊥ }
 {
     let found: [Found; DEPTH] = find_all(quotes, kind);
-    let mut side = ArrayVec::new_in(());
     for place in 0..DEPTH {
         match found[place] {
             Found::Nothing => {}
             Found::One(level) if side.len() == place => side.push(level),
-            Found::One(_) => return None,
-            Found::Many => return None,
+            Found::One(_) => return false,
+            Found::Many => return false,
         }
     }
-    Some(side)
+    true
 }

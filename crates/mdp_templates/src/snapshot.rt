@@ -1,10 +1,14 @@
 //! Snapshots of the market recovery feed.
 
-ghost use Rattle.std.specs.Prelude.{◌≡◌, ◌≤◌, length};
+ghost use Rattle.std.specs.Prelude.{◌≡◌, ◌≤◌, length, true, false};
 ghost use Rattle.mdp_templates.specs.Entry.{direct_depth, implied_depth};
-ghost use Rattle.mdp_templates.specs.Snapshot.{SnapshotContent};
+ghost use Rattle.mdp_templates.specs.Snapshot.{SnapshotContent, empty_snapshot};
+ghost use Rattle.mdp_templates.specs.Recovery.{HasBadSide, HasSides};
+ghost use Rattle.mdp_templates.specs.Side.{AreAllShallow};
 
-use crate::entry::{DIRECT_DEPTH, IMPLIED_DEPTH, Level};
+use crate::entry::{DIRECT_DEPTH, IMPLIED_DEPTH, Kind, Level};
+use crate::quote::Quote;
+use crate::side::gather;
 use arrayvec::ArrayVec;
 use std::marker::Model;
 
@@ -61,6 +65,45 @@ impl Snapshot {
             implied_bids,
             implied_offers,
         }
+    }
+
+    // Makes a snapshot with no levels.
+    pub(crate) fn empty(security: i32, last: u32) -> Snapshot
+        ensures { result ≡ empty_snapshot security last }
+    {
+        Snapshot {
+            security,
+            last,
+            bids: ArrayVec::new_in(()),
+            offers: ArrayVec::new_in(()),
+            implied_bids: ArrayVec::new_in(()),
+            implied_offers: ArrayVec::new_in(()),
+        }
+    }
+
+    // Gathers the sides that these entries give where they will stay, so that no side is moved, and tells whether the
+    // levels of each are good.
+    pub(crate) fn gather(&mut self, quotes: &[Option<Quote>]) -> bool
+        requires shallow { AreAllShallow quotes.now }
+        requires empty { self.old ≡ empty_snapshot self.old.security self.old.last }
+        ensures whole { result ≡ true → HasSides quotes.now self.new }
+        ensures security { self.new.security ≡ self.old.security }
+        ensures last { self.new.last ≡ self.old.last }
+        ensures bad { result ≡ false → HasBadSide quotes.now }
+    {
+        if !gather(quotes, Kind::Bid, &mut self.bids) {
+            return false;
+        }
+        if !gather(quotes, Kind::Offer, &mut self.offers) {
+            return false;
+        }
+        if !gather(quotes, Kind::ImpliedBid, &mut self.implied_bids) {
+            return false;
+        }
+        if !gather(quotes, Kind::ImpliedOffer, &mut self.implied_offers) {
+            return false;
+        }
+        true
     }
 
     /// Tells the security whose book this is.
