@@ -16,6 +16,19 @@ IsNoNews ids newest s =
     (slot : ℕ) (held : Option SnapshotContent)
     → slice_get ids slot ≡ Some s.security → slice_get newest slot ≡ Some held → is_newer held s ≡ false
 
+-- the channel is open, and at this place, which is listed for its security alone, is an older one
+pub record IsNewsAt (slot : ℕ) (s : SnapshotContent) (v : View) : Type 0 where
+  pub opened : v.is_closed ≡ false
+  pub held : Option SnapshotContent
+  pub at : slice_get v.channel.ids slot ≡ Some s.security
+  pub only : (other : ℕ) → slice_get v.channel.ids other ≡ Some s.security → other ≡ slot
+  pub there : slice_get v.newest slot ≡ Some held
+  pub newer : is_newer held s ≡ true
+
+-- the channel is closed, or no listed security's newest snapshot gives way to this one
+abbrev pub IsNotTaken : SnapshotContent → View → Type 0
+IsNotTaken s v = (v.is_closed ≡ true) ⊎ IsNoNews v.channel.ids v.newest s
+
 -- each security's newest snapshot, after one more of whatever security
 abbrev pub newest_after : List ℤ → SnapshotContent → List (Option SnapshotContent) → List (Option SnapshotContent)
 newest_after (id ∷ ids) s (n ∷ ns) = newer_of id n s ∷ newest_after ids s ns

@@ -1,6 +1,6 @@
 //! The arbiter of a channel's feeds.
 
-ghost use Rattle.std.specs.Prelude.{◌≡◌, ◌≤◌, ◌<◌, ℕ, List, [], ◌∷◌, ◌++◌, ◌-◌, length, true, false, IfOk, IfSome, Some, None, slice_get, option_copied, if◌then◌else◌};
+ghost use Rattle.std.specs.Prelude.{◌≡◌, ◌≤◌, ◌<◌, ℕ, List, [], ◌∷◌, ◌++◌, ◌-◌, length, true, false, IfOk, IfSome, IfNone, Some, None, slice_get, option_copied, if◌then◌else◌};
 ghost use Rattle.std.specs.FinMap as map;
 ghost use Rattle.std.specs.FinMap.{contains_key};
 ghost use Rattle.mdp_templates.specs.Instrument.{AreFit};
@@ -11,7 +11,7 @@ ghost use Rattle.mdp_arbiter.specs.Machine.{first_state, is_lost};
 ghost use Rattle.mdp_arbiter.specs.Arbiter.{is_lost_now, least_held, state, steps_left};
 ghost use Rattle.mdp_arbiter.specs.Fates.{fate_of, fate_of_snapshot, first_stale, held_among, packet_fate, snapshot_fate, waiting};
 ghost use Rattle.mdp_arbiter.specs.Packets.{LetsPass, Receives, is_taken_in, passes_at_once};
-ghost use Rattle.mdp_arbiter.specs.Snapshots.{Renews};
+ghost use Rattle.mdp_arbiter.specs.Snapshots.{IsNewsAt, IsNotTaken, Renews};
 ghost use Rattle.mdp_arbiter.specs.Moves.{Answers, Moves, seen_move};
 ghost use Rattle.mdp_arbiter.specs.Standing.{HasPassed, StandsAt, StepsAs};
 
@@ -267,6 +267,23 @@ impl<A: Allocator + Copy, W: Window<Packet<A>> + Drop> Arbiter<A, W> {
         self.renew(snapshot)
     }
 
+    /// Takes in a snapshot that is lent, as [`snapshot`](Arbiter::snapshot) does, and copies it only where it takes its
+    /// place; tells whether it does. Where not, all is as it was.
+    pub fn snapshot_from(&mut self, snapshot: &Snapshot) -> bool
+        ensures renews { Renews snapshot.now self.old self.new
+            (if result then None else Some snapshot.now) }
+        ensures keeps { state self.new ≡ state self.old }
+        ensures channel { self.new.channel ≡ self.old.channel }
+        ensures stands { (es : List Event) → StandsAt es self.old
+            → StandsAt (es ++ recovered snapshot.now ∷ []) self.new }
+    {
+        let Some(slot) = self.place_of_news(snapshot) else {
+            return false;
+        };
+        self.put_newest(slot, snapshot.copy());
+        true
+    }
+
     /// Makes the one step that is possible, and answers it; none exactly where none is. Each step raises `next`, but
     /// that a first jump which joins may leave it.
     pub fn step(&mut self) -> Option<Step<A>>
@@ -374,21 +391,40 @@ impl<A: Allocator + Copy, W: Window<Packet<A>> + Drop> Arbiter<A, W> {
         answer
     }
 
+    // Tells the listed place whose newest snapshot gives way to this one, where there is one and the channel is open.
+    fn place_of_news(&self, snapshot: &Snapshot) -> Option<usize>
+        ensures some { IfSome result (λ slot. IsNewsAt slot snapshot.now self.now) }
+        ensures none { IfNone result (IsNotTaken snapshot.now self.now) }
+    {
+        if self.is_closed {
+            return None;
+        }
+        let Some(slot) = self.slots.slot_of(snapshot.security()) else {
+            return None;
+        };
+        if !renews(&self.newest[slot], snapshot) {
+            return None;
+        }
+        Some(slot)
+    }
+
     // Puts a snapshot in the place of an older one of its security.
+    fn put_newest(&mut self, slot: usize, snapshot: Snapshot)
+        requires { IsNewsAt slot snapshot self.old }
+        ensures { Renews snapshot self.old self.new None }
+    {
+        let before = self.newest[slot].replace(snapshot);
+        self.bases[slot].keep(before);
+    }
+
+    // Takes in a snapshot, where it is news.
     fn renew(&mut self, snapshot: Snapshot) -> Option<Snapshot>
         ensures { Renews snapshot self.old self.new result }
     {
-        if self.is_closed {
-            return Some(snapshot);
-        }
-        let Some(slot) = self.slots.slot_of(snapshot.security()) else {
+        let Some(slot) = self.place_of_news(&snapshot) else {
             return Some(snapshot);
         };
-        if !renews(&self.newest[slot], &snapshot) {
-            return Some(snapshot);
-        }
-        let before = self.newest[slot].replace(snapshot);
-        self.bases[slot].keep(before);
+        self.put_newest(slot, snapshot);
         None
     }
 

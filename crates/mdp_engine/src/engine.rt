@@ -5,7 +5,7 @@ ghost use Rattle.std.specs.FinMap as map;
 ghost use Rattle.mdp_templates.specs.Packet.{PacketContent};
 ghost use Rattle.mdp_templates.specs.Instrument.{AreFit, ids_of};
 ghost use Rattle.mdp_templates.specs.declared.instrument.Instrument.{Instrument};
-ghost use Rattle.mdp_arbiter.specs.Accepted.{Event as Accepted, came};
+ghost use Rattle.mdp_arbiter.specs.Accepted.{Event as Accepted, came, recovered};
 ghost use Rattle.mdp_arbiter.specs.Machine.{State, is_lost, moves_of, state_at};
 ghost use Rattle.mdp_arbiter.specs.Channel.{channel_of};
 ghost use Rattle.mdp_arbiter.specs.Arbiter.{is_lost_now, state};
@@ -22,7 +22,7 @@ use crate::event::Event;
 use crate::taking::take_in;
 use mdp_arbiter::{Arbiter, Start, Step};
 use mdp_desks::Desk;
-use mdp_templates::{Instrument, Memory, Packet};
+use mdp_templates::{Instrument, Memory, Packet, Snapshot};
 use mdp_window::Window;
 use std::alloc::Allocator;
 use std::marker::Model;
@@ -167,6 +167,30 @@ impl<A: Allocator + Copy, W: Window<Packet<A>> + Drop> Engine<A, W> {
         Ok(())
     }
 
+    /// Takes in a snapshot that is lent and makes all moves that are then possible, as [`on`](Engine::on) does of its
+    /// event; the snapshot is copied only where it is kept.
+    ///
+    /// # Errors
+    ///
+    /// Memory ran out, now or in an earlier call.
+    pub fn on_snapshot(&mut self, snapshot: &Snapshot) -> Result<(), Memory>
+        ensures stands { OnOk result ((listed : List Instrument) (es : List Accepted)
+            (drained : List ℕ) → Stands listed es drained self.old
+            → Stands listed (es ++ recovered snapshot.now ∷ []) drained self.new) }
+        ensures channel { OnOk result (self.new.arbiter.channel ≡ self.old.arbiter.channel) }
+        ensures sound { OnOk result (self.new.has_failed ≡ false) }
+        ensures fails { IfErr result (λ _. self.new.has_failed ≡ true) }
+        ensures front { BeginsWith self.new.held self.old.held }
+        ensures stays { self.old.has_failed ≡ true → IsErr result }
+    {
+        self.still_sound()?;
+        let Ok(()) = self.recover(snapshot) else {
+            self.has_failed = true;
+            return Err(Memory);
+        };
+        Ok(())
+    }
+
     /// Appends the lines that are held, and holds none from then on.
     ///
     /// # Errors
@@ -235,6 +259,31 @@ impl<A: Allocator + Copy, W: Window<Packet<A>> + Drop> Engine<A, W> {
         self.take_in(event)?;
         self.move_on()?;
         Ok(())
+    }
+
+    // Takes in a snapshot that is lent, and makes moves until none is possible.
+    fn recover(&mut self, snapshot: &Snapshot) -> Result<(), Memory>
+        ensures stands { OnOk result ((listed : List Instrument) (es : List Accepted)
+            (drained : List ℕ) → Stands listed es drained self.old
+            → Stands listed (es ++ recovered snapshot.now ∷ []) drained self.new) }
+        ensures channel { OnOk result (self.new.arbiter.channel ≡ self.old.arbiter.channel) }
+        ensures sound { OnOk result (self.new.has_failed ≡ self.old.has_failed) }
+        ensures front { BeginsWith self.new.held self.old.held }
+    {
+        self.take_lent(snapshot);
+        self.move_on()?;
+        Ok(())
+    }
+
+    // Takes in a snapshot that is lent, and makes no move. It is copied only where it is news: most are older ones.
+    fn take_lent(&mut self, snapshot: &Snapshot)
+        ensures stands { (es : List Accepted) → StandsAt es self.old.arbiter
+            → StandsAt (es ++ recovered snapshot.now ∷ []) self.new.arbiter }
+        ensures keeps { state self.new.arbiter ≡ state self.old.arbiter }
+        ensures channel { self.new.arbiter.channel ≡ self.old.arbiter.channel }
+        ensures rest { self.new ≡ record self.old { arbiter = self.new.arbiter } }
+    {
+        self.arbiter.snapshot_from(snapshot);
     }
 
     // Takes in a packet that passes at once and shows it, where the event is one, and tells whether it is.

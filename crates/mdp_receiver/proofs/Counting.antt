@@ -52,11 +52,10 @@ counted_more snapshots i s first now counts fate within at goes told so_far = λ
     ∙ ap (λ (f : SnapshotFate). counts_after ids (es ++ recovered s ∷ []) (map recovered (drop (i + 1) snapshots)) (with_fate f counts)) (sym here)
     ∙ ap (λ (xs : List Event). counts_after ids xs (map recovered (drop (i + 1) snapshots)) (with_fate fate counts)) events
 
-pub goes_so : (snapshots : List SnapshotContent) (i : ℕ) (s copied : SnapshotContent) (first now new : View) → i < length snapshots → s ≡ get_or snapshots i s → copied ≡ s → GoesOn (map recovered (take i snapshots)) first now → GoesOn (recovered copied ∷ []) now new → GoesOn (map recovered (take (i + 1) snapshots)) first new
-goes_so snapshots i s copied first now new within at is so_far one =
-    subst (λ (es : List Event). GoesOn es first new)
-    (ap (λ (x : SnapshotContent). map recovered (take i snapshots) ++ recovered x ∷ []) is ∙ taken_so snapshots i within s at)
-    (goes_more (map recovered (take i snapshots)) (recovered copied ∷ []) first now new so_far one)
+pub goes_so : (snapshots : List SnapshotContent) (i : ℕ) (s : SnapshotContent) (first now new : View) → i < length snapshots → s ≡ get_or snapshots i s → GoesOn (map recovered (take i snapshots)) first now → GoesOn (recovered s ∷ []) now new → GoesOn (map recovered (take (i + 1) snapshots)) first new
+goes_so snapshots i s first now new within at so_far one =
+    subst (λ (es : List Event). GoesOn es first new) (taken_so snapshots i within s at)
+    (goes_more (map recovered (take i snapshots)) (recovered s ∷ []) first now new so_far one)
 
 taken_snapshots : (channel : Channel) (es : List Event) (snapshots : List SnapshotContent) → taken_by channel es (map recovered snapshots) ≡ Snapshots (counts_after channel.ids es (map recovered snapshots) no_counts)
 taken_snapshots channel es [] = refl

@@ -288,6 +288,14 @@ impl<A: Allocator + Copy> Handler<A> {
         self.engine.on(event)
     }
 
+    // Takes a snapshot; the lines that it owes are held.
+    fn on_snapshot(&mut self, snapshot: &Snapshot) -> Result<(), Memory>
+        ensures goes { OnOk result (GoesOn (recovered snapshot.now ∷ []) self.old self.new) }
+        ensures front { BeginsWith self.new.held self.old.held }
+    {
+        self.engine.on_snapshot(snapshot)
+    }
+
     // Takes a datagram of a feed.
     fn take(&mut self, alloc: A, feed: Feed, bytes: &[u8]) -> Result<Taken, Memory>
         ensures taken { IfOk result (λ taken. TakesDatagram feed bytes.now taken self.old self.new) }
@@ -298,7 +306,7 @@ impl<A: Allocator + Copy> Handler<A> {
         }
         let decoded = decode(alloc, feed, bytes)?;
         self.keep(feed, bytes, &decoded)?;
-        self.take_in(alloc, decoded)
+        self.take_in(decoded)
     }
 
     // Tells the number of the packet that a datagram is, where it is the second copy of one that has passed.
@@ -346,13 +354,13 @@ impl<A: Allocator + Copy> Handler<A> {
     }
 
     // Takes in what a datagram says.
-    fn take_in(&mut self, alloc: A, decoded: Decoded<A>) -> Result<Taken, Memory>
+    fn take_in(&mut self, decoded: Decoded<A>) -> Result<Taken, Memory>
         ensures taken { IfOk result (λ taken. TakesSaid (said_of decoded) taken self.old self.new) }
         ensures front { BeginsWith self.new.held self.old.held }
     {
         match decoded {
             Decoded::Packet(packet) => self.pass(packet),
-            Decoded::Snapshots(snapshots) => self.recover(alloc, &snapshots),
+            Decoded::Snapshots(snapshots) => self.recover(&snapshots),
             Decoded::Refused(refusal) => Ok(Taken::Refused(refusal)),
         }
     }
@@ -369,7 +377,7 @@ impl<A: Allocator + Copy> Handler<A> {
     }
 
     // Takes snapshots, in their order.
-    fn recover(&mut self, alloc: A, snapshots: &[Snapshot]) -> Result<Taken, Memory>
+    fn recover(&mut self, snapshots: &[Snapshot]) -> Result<Taken, Memory>
         ensures taken { IfOk result (λ taken. TakesSaid
             (brings (map recovered snapshots.now)) taken self.old self.new) }
         ensures front { BeginsWith self.new.held self.old.held }
@@ -377,7 +385,7 @@ impl<A: Allocator + Copy> Handler<A> {
         let mut counts = SnapshotCounts::NONE;
         for snapshot in snapshots {
             counts = counts.and(self.engine.arbiter().fate_of_snapshot(snapshot));
-            self.on(Event::snapshot(alloc, snapshot.copy())?)?;
+            self.on_snapshot(snapshot)?;
         }
         Ok(Taken::Snapshots(counts))
     }

@@ -1,12 +1,11 @@
-use Rattle.std.proofs.Common.{◌≡◌, ◌≤◌, List, [], ◌∷◌, length, sym, ap, subst, ◌∙◌, arith}
+use Rattle.std.proofs.Common.{◌≡◌, ◌≤◌, List, length, sym, ap, subst, ◌∙◌, arith}
 use Rattle.std.proofs.lemmas.List.{take_all, drop_all}
 use Rattle.mdp_print.proofs.Fronts.{begins_first}
-use Rattle.mdp_arbiter.specs.Accepted.{Event, recovered}
+use Rattle.mdp_arbiter.specs.Accepted.{Event}
 use Rattle.mdp_arbiter.specs.Arbiter.{View as ArbiterView}
 use Rattle.mdp_arbiter.specs.Fates.{snapshot_fate}
 use Rattle.mdp_arbiter.specs.Standing.{StandsAt}
 use Rattle.mdp_engine.specs.Engine.{View}
-use Rattle.mdp_receiver.specs.Handling.{GoesOn}
 use Rattle.mdp_receiver.proofs.Counting.{AreCounted, counted_all, counted_more, few_more, goes_so}
 use Rattle.mdp_receiver.proofs.handler.Handler.recover.Goals as goal
 
@@ -21,13 +20,12 @@ loop-snapshot-preserved g c =
     let same : c.arbiter.result.now ≡ now.arbiter = c.arbiter.ensures ∙ ap (λ (e : View). e.arbiter) c.self.view_is in
     let told : (es : List Event) → StandsAt es now.arbiter → fate ≡ snapshot_fate now.arbiter.channel.ids es item =
     λ es stands. subst (λ (a : ArbiterView). fate ≡ snapshot_fate a.channel.ids es item) same (c.fate_of_snapshot.ensures.stands es (subst (StandsAt es) (sym same) stands)) in
-    let one : GoesOn (recovered c.copy.result ∷ []) now c.on.new.self = subst (λ (e : Event). GoesOn (e ∷ []) now c.on.new.self) c.in_ok-snapshot.ensures c.in_ok-on.ensures.goes in
     record {
-      goes = goes_so snapshots i item c.copy.result first now c.on.new.self c.loop-snapshot-test.true c.snapshot-item.is c.copy.ensures c.loop-snapshot.invariant.goes one;
+      goes = goes_so snapshots i item first now c.on_snapshot.new.self c.loop-snapshot-test.true c.snapshot-item.is c.loop-snapshot.invariant.goes c.in_ok-on_snapshot.ensures.goes;
       counted = subst (AreCounted snapshots _ first) (sym c.and-counts.ensures)
           (counted_more snapshots i item first now c.loop-snapshot.counts fate c.loop-snapshot-test.true c.snapshot-item.is c.loop-snapshot.invariant.goes told c.loop-snapshot.invariant.counted);
       few = few_more fate c.loop-snapshot.counts c.and-counts.result i c.and-counts.ensures c.loop-snapshot.invariant.few;
-      front = begins_first first.held now.held c.on.new.self.held c.loop-snapshot.invariant.front c.in_ok-on.ensures.front;
+      front = begins_first first.held now.held c.on_snapshot.new.self.held c.loop-snapshot.invariant.front c.in_ok-on_snapshot.ensures.front;
     }
 
 pub returns-clause-taken : goal.returns-clause-taken
