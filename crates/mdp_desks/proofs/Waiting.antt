@@ -1,15 +1,14 @@
 -- Of which desks an event end has lines, and the marks that are set for these.
-use Rattle.std.proofs.Common.{◌≡◌, ◌≢◌, ◌<◌, ◌≤◌, ℕ, zero, suc, Bool, true, false, List, [], ◌∷◌, ◌+◌, cond, length, map, min, drop, get_or, set, refl, sym, ap, subst, ◌∙◌, arith, inl, inr}
-use Rattle.std.specs.Prelude.{◌&&◌, ◌||◌, nat_lt}
-use Rattle.std.specs.List.{list_any}
+use Rattle.std.proofs.Common.{◌≡◌, ◌≢◌, ◌<◌, ◌≤◌, ℕ, zero, suc, Bool, true, false, List, [], ◌∷◌, cond, length, map, get_or, set, refl, sym, ap, subst, ◌∙◌, arith, inl, inr}
+use Rattle.std.specs.Prelude.{◌&&◌, nat_lt}
 use Rattle.std.proofs.lemmas.Bool.{cases_eq}
 use Rattle.std.proofs.lemmas.Bool.Decides.{nat_tests}
-use Rattle.std.proofs.lemmas.List.{map-set, length-map, length-set, get_or-map, get_or-set_same, get_or-set_other, drop_all}
+use Rattle.std.proofs.lemmas.List.{map-set, length-map, length-set, get_or-map, get_or-set_same, get_or-set_other}
 use Rattle.mdp_desks.specs.declared.desk.Desk.{Desk}
 use Rattle.mdp_templates.specs.declared.entry.Entry.{Entry}
 use Rattle.mdp_books.specs.declared.book.Place.{Place}
 use Rattle.mdp_desks.specs.Desks.{desk_entered}
-use Rattle.mdp_desks.specs.Beside.{AreAmong, AreClear, AreDueAt, AreDueBefore, all_due_at, first_awaited, is_due_at, least_base, marks_of}
+use Rattle.mdp_desks.specs.Beside.{AreAmong, AreClear, AreDueAt, AreDueBefore, all_due_at, is_due_at, marks_of}
 
 -- ---- one desk
 
@@ -42,7 +41,7 @@ later k least [] up n is = is
 later k least (d ∷ ds) up zero is = due_later k least d up is
 later k least (d ∷ ds) up (suc n) is = later k least ds up n is
 
-marked_due : (k : ℕ) (ds : List Desk) → AreAmong (all_due_at k ds) (marks_of ds)
+pub marked_due : (k : ℕ) (ds : List Desk) → AreAmong (all_due_at k ds) (marks_of ds)
 marked_due k [] n is = is
 marked_due k (d ∷ ds) zero is = first_of d.marked (nat_lt d.base k) is
 marked_due k (d ∷ ds) (suc n) is = marked_due k ds n is
@@ -133,47 +132,17 @@ due_entered until place entry ds marks new n here before less at is = record {
 pub none_waits : (ds : List Desk) (marks : List Bool) → length marks ≡ length ds → AreDueBefore 0 marks ds
 none_waits ds marks long = record { many = long; due = λ k under. absurd (omega (arith, under)) }
 
-pub none_awaited : (ds : List Desk) → AreClear 0 (length ds) (marks_of ds) → 0 ≡ first_awaited ds
-none_awaited ds clear = ap (λ (b : Bool). cond b (least_base 4294967295 ds + 1) 0) (sym (none ds (λ n under. clear n (omega arith) under)))
+-- at packet 0 none is due
+none_at_first : (k n : ℕ) (ds : List Desk) → k < 1 → get_or (all_due_at k ds) n false ≡ true → ⊥
+none_at_first k n [] first is = cc is
+none_at_first k zero (d ∷ ds) first is = by_mark d.marked is
   where
-    none : (ds : List Desk) → ((n : ℕ) → n < length ds → get_or (marks_of ds) n false ≡ false) → list_any (λ (d : Desk). d.marked) ds ≡ false
-    none [] off = refl
-    none (d ∷ ds) off =
-        let first = off 0 (omega arith) in
-        let others = none ds (λ n under. off (suc n) (omega (arith, under))) in
-        rw (first, others) refl
+    by_mark : (b : Bool) → (b && nat_lt d.base k) ≡ true → ⊥
+    by_mark true is = grind (arith, nat_tests, is, first)
+    by_mark false is = cc is
+none_at_first k (suc n) (d ∷ ds) first is = none_at_first k n ds first is
 
-pub one_awaited : (ds : List Desk) (n : ℕ) → get_or (marks_of ds) n false ≡ true → least_base 4294967295 ds + 1 ≡ first_awaited ds
-one_awaited ds n is = ap (λ (b : Bool). cond b (least_base 4294967295 ds + 1) 0) (sym (some ds n is))
-  where
-    or_true : (b : Bool) → (b || true) ≡ true
-    or_true true = refl
-    or_true false = refl
-
-    some : (ds : List Desk) (n : ℕ) → get_or (marks_of ds) n false ≡ true → list_any (λ (d : Desk). d.marked) ds ≡ true
-    some [] n is = absurd (cc is)
-    some (d ∷ ds) zero is = rw is refl
-    some (d ∷ ds) (suc n) is = let others = some ds n is in rw others (or_true d.marked)
-
-under_least : (k : ℕ) (ds : List Desk) → least_base k ds ≤ k
-under_least k [] = omega arith
-under_least k (d ∷ ds) = by_mark d.marked (under_least (min k d.base) ds) (under_least k ds)
-  where
-    by_mark : (b : Bool) → least_base (min k d.base) ds ≤ min k d.base → least_base k ds ≤ k → least_base (cond b (min k d.base) k) ds ≤ k
-    by_mark true here others = omega (arith, here)
-    by_mark false here others = others
-
--- none is due up to the least base
-none_before : (k m : ℕ) (ds : List Desk) → m ≤ least_base k ds → (n : ℕ) → get_or (all_due_at m ds) n false ≡ true → ⊥
-none_before k m [] up n is = cc is
-none_before k m (d ∷ ds) up zero is = by_mark d.marked up is
-  where
-    by_mark : (b : Bool) → m ≤ least_base (cond b (min k d.base) k) ds → (b && nat_lt d.base m) ≡ true → ⊥
-    by_mark true up is = let under = under_least (min k d.base) ds in grind (arith, nat_tests, is, under, up)
-    by_mark false up is = cc is
-none_before k m (d ∷ ds) up (suc n) is = none_before (cond d.marked (min k d.base) k) m ds up n is
-
--- so no mark is needed up to it
+-- where none is due no mark is needed
 none_due : (until : ℕ) (ds : List Desk) (marks old : List Bool) → marks ≡ map (λ _. false) old → length old ≡ length ds → ((k n : ℕ) → k < until → get_or (all_due_at k ds) n false ≡ true → ⊥) → AreDueBefore until marks ds
 none_due until ds marks old are long none = record {
   many = many;
@@ -195,44 +164,5 @@ none_due until ds marks old are long none = record {
     cleared (b ∷ marks) zero = refl
     cleared (b ∷ marks) (suc n) = cleared marks n
 
-pub due_awaited : (k until : ℕ) (ds : List Desk) (marks old : List Bool) → marks ≡ map (λ _. false) old → length old ≡ length ds → until ≡ least_base k ds + 1 → AreDueBefore until marks ds
-due_awaited k until ds marks old are long is = none_due until ds marks old are long (λ m n under. none_before k m ds (omega (arith, under, is)) n)
-
--- nor at packet 0
 pub due_at_first : (ds : List Desk) (marks old : List Bool) → marks ≡ map (λ _. false) old → length old ≡ length ds → AreDueBefore 1 marks ds
-due_at_first ds marks old are long = none_due 1 ds marks old are long (λ k n under. none_before 0 k ds (omega (arith, under)) n)
-
--- ---- their least base, one marked desk after another
-
-least_below : (k : ℕ) (ds : List Desk) (n : ℕ) → ((i : ℕ) → i < n → get_or (marks_of ds) i false ≡ false) → least_base k (drop n ds) ≡ least_base k ds
-least_below k ds zero none = refl
-least_below k [] (suc n) none = refl
-least_below k (d ∷ ds) (suc n) none =
-    least_below k ds n (λ i less. none (suc i) (omega (arith, less)))
-    ∙ ap (λ (b : Bool). least_base (cond b (min k d.base) k) ds) (sym (none 0 (omega arith)))
-
-least_between : (k : ℕ) (ds : List Desk) (a b : ℕ) → a ≤ b → AreClear a b (marks_of ds) → least_base k (drop b ds) ≡ least_base k (drop a ds)
-least_between k ds zero b up clear = least_below k ds b (λ i less. clear i (omega arith) less)
-least_between k ds (suc a) zero up clear = absurd (omega (arith, up))
-least_between k [] (suc a) (suc b) up clear = refl
-least_between k (d ∷ ds) (suc a) (suc b) up clear = least_between k ds a b (omega (arith, up)) (λ i from less. clear (suc i) (omega (arith, from)) (omega (arith, less)))
-
-least_next : (k : ℕ) (ds : List Desk) (n : ℕ) (here : Desk) → n < length ds → here ≡ get_or ds n here → get_or (marks_of ds) n false ≡ true → least_base k (drop n ds) ≡ least_base (min k here.base) (drop (suc n) ds)
-least_next k [] n here less at is = absurd (omega (arith, less))
-least_next k (d ∷ ds) zero here less at is =
-    ap (λ (b : Bool). least_base (cond b (min k d.base) k) ds) is ∙ ap (λ (e : Desk). least_base (min k e.base) ds) (sym at)
-least_next k (d ∷ ds) (suc n) here less at is = least_next k ds n here (omega (arith, less)) at is
-
-pub least_more : (k new whole : ℕ) (ds : List Desk) (from n : ℕ) (here : Desk) → from ≤ n → n < length ds → AreClear from n (marks_of ds) → here ≡ get_or ds n here → get_or (marks_of ds) n false ≡ true → new ≡ min k here.base
-    → least_base k (drop from ds) ≡ whole → least_base new (drop (n + 1) ds) ≡ whole
-least_more k new whole ds from n here up less clear at is lesser before =
-    let one : suc n ≡ n + 1 = omega arith in
-    ap (λ (m : ℕ). least_base m (drop (n + 1) ds)) lesser
-    ∙ ap (λ (m : ℕ). least_base (min k here.base) (drop m ds)) (sym one)
-    ∙ sym (least_next k ds n here less at is)
-    ∙ least_between k ds from n up clear
-    ∙ before
-
-pub least_end : (k whole : ℕ) (ds : List Desk) (from : ℕ) → from ≤ length ds → AreClear from (length ds) (marks_of ds) → least_base k (drop from ds) ≡ whole → k ≡ whole
-least_end k whole ds from up clear before =
-    sym (ap (least_base k) (drop_all (length ds) ds (omega arith))) ∙ least_between k ds from (length ds) up clear ∙ before
+due_at_first ds marks old are long = none_due 1 ds marks old are long (λ k n under. none_at_first k n ds under)

@@ -1,6 +1,6 @@
 -- What stands beside the desks: the ids of their securities, and their marks.
-use Rattle.std.specs.Prelude.{◌≡◌, ◌≢◌, ◌<◌, ◌≤◌, ℕ, ℤ, Bool, true, false, ◌==◌, ◌&&◌, if◌then◌else◌, min, nat_lt, ◌+◌, List, [], ◌∷◌, map, length, get_or, All}
-use Rattle.std.specs.List.{AllPairs, list_any}
+use Rattle.std.specs.Prelude.{◌≡◌, ◌≢◌, ◌<◌, ◌≤◌, ℕ, ℤ, Bool, true, false, ◌==◌, ◌&&◌, nat_lt, List, map, length, get_or, All}
+use Rattle.std.specs.List.{AllPairs}
 use Rattle.mdp_templates.specs.declared.instrument.Instrument.{Instrument}
 use Rattle.mdp_templates.specs.Instrument.{HasDepth, ids_of}
 use Rattle.mdp_desks.specs.declared.desk.Desk.{Desk}
@@ -63,12 +63,3 @@ pub record AreDueAt (packet : ℕ) (marks : List Bool) (desks : List Desk) : Typ
 pub record AreDueBefore (until : ℕ) (marks : List Bool) (desks : List Desk) : Type 0 where
   pub many : length marks ≡ length desks
   pub due : (k : ℕ) → k < until → AreDueAt k marks desks
-
--- the least of this number and of the bases of the desks that are marked
-abbrev pub least_base : ℕ → List Desk → ℕ
-least_base k [] = k
-least_base k (d ∷ ds) = least_base (if d.marked then min k d.base else k) ds
-
--- the first packet that stands behind the base of a desk that is marked, 0 where none is marked
-abbrev pub first_awaited : List Desk → ℕ
-first_awaited ds = if list_any (λ (d : Desk). d.marked) ds then least_base 4294967295 ds + 1 else 0

@@ -1,9 +1,9 @@
 //! The desks of all listed securities.
 
-ghost use Rattle.std.specs.Prelude.{◌≡◌, ◌≢◌, ◌<◌, ◌++◌, ◌≤◌, ℕ, false, true, All, AllPairs, IfOk, OnErr, OnOk, IfSome, IfNone, Some, ◌&&◌, if◌then◌else◌, nat_lt, set, slice_get, map, length};
+ghost use Rattle.std.specs.Prelude.{◌≡◌, ◌≢◌, ◌<◌, ◌++◌, ◌≤◌, ℕ, false, true, All, AllPairs, IfOk, OnErr, OnOk, IfSome, IfNone, Some, ◌&&◌, if◌then◌else◌, nat_lt, min, ◌+◌, set, slice_get, map, length};
 ghost use Rattle.std.specs.List.{flat_map};
 ghost use Rattle.mdp_templates.specs.Instrument.{HasDepth, ids_of};
-ghost use Rattle.mdp_desks.specs.Beside.{AreDueAt, AreDueBefore, first_awaited, least_base, listed_in, marks_of};
+ghost use Rattle.mdp_desks.specs.Beside.{AreAmong, AreDueAt, AreDueBefore, listed_in, marks_of};
 ghost use Rattle.mdp_desks.specs.Desks.{desk_at_start, desk_heard, desk_jumped, desk_settled, desk_standing, desks_through, rebased_desks, snapshots_at};
 ghost use Rattle.mdp_desks.specs.Lines.{text_of};
 ghost use Rattle.mdp_print.specs.Pieces.{BeginsWith};
@@ -141,37 +141,52 @@ fn clear_all<A: Allocator>(marks: &mut Marked<A>, count: usize)
     }
 }
 
-// Gives the least base of the desks that are marked.
-fn least_base<A: Allocator>(desks: &[Desk], marked: &Marked<A>) -> u32
-    requires { marked.now ≡ marks_of desks.now }
-    ensures { result ≡ least_base 4294967295 desks.now }
+// Sets the mark of a desk whose base the packet stands behind. Another one waits for the packet behind its base; tells
+// the least of that and of those that others wait for.
+fn ripen_one<A: Allocator>(
+    due: &mut Marked<A>,
+    at: usize,
+    base: u32,
+    packet: u32,
+    until: u64,
+) -> u64
+    requires { at < length due.old }
+    ensures due { due.new ≡ if nat_lt base packet then set due.old at true else due.old }
+    ensures until { result ≡ if nat_lt base packet then until else min until (base + 1) }
 {
-    let mut least = u32::MAX;
-    let mut from = 0;
-    while let Some(n) = marked.next_from(from) {
-        least = least.min(desks[n].base);
-        from = n + 1;
+    if packet > base {
+        due.put(at, true);
+        return until;
     }
-    least
+    until.min(u64::from(base) + 1)
 }
 
-// Tells the first packet behind the base of a desk that is marked, 0 where none is. Before that packet none of these is
-// due, so that the marks of `due` go.
-fn first_awaited<A: Allocator>(desks: &[Desk], marked: &Marked<A>, due: &mut Marked<A>) -> u64
+// Sets the marks of the desks that are due at a packet, of those that are marked, and tells the first packet that one of
+// the others waits for; 0 where none waits.
+#[inline(never)]
+fn ripen_all<A: Allocator>(
+    desks: &[Desk],
+    marked: &Marked<A>,
+    due: &mut Marked<A>,
+    packet: u32,
+) -> u64
     requires marks { marked.now ≡ marks_of desks.now }
     requires many { length due.old ≡ length desks.now }
-    ensures awaited { result ≡ first_awaited desks.now }
+    requires only { AreAmong due.old (marks_of desks.now) }
     ensures due { AreDueBefore result due.new desks.now }
+    ensures later { 0 < result → packet < result }
 {
-    clear_all(due, desks.len());
-    let Some(_) = marked.next_from(0) else {
-        return 0;
-    };
-    u64::from(least_base(desks, marked)) + 1
+    let mut until = u64::MAX;
+    let mut from = 0;
+    while let Some(n) = marked.next_from(from) {
+        until = ripen_one(due, n, desks[n].base, packet, until);
+        from = n + 1;
+    }
+    if until == u64::MAX { 0 } else { until }
 }
 
-// Forgets the marks where an event ended, while desks wait for packet `until`, and tells for which they wait then. From
-// `until` on all that are marked are looked at, so that it moves on: once for each base, and not at each event end.
+// Forgets the marks where an event ended, while desks wait for packet `until`, and tells up to which packet the marks of
+// `due` will do then. From `until` on, where `ripen` was not asked first, all that are marked are looked at.
 #[cold]
 fn settle_waiting<A: Allocator>(
     desks: &mut [Desk],
@@ -184,15 +199,16 @@ fn settle_waiting<A: Allocator>(
     requires due { AreDueBefore until due.old desks.old }
     ensures desks { desks.new ≡ map (desk_settled packet) desks.old }
     ensures marks { marked.new ≡ marks_of desks.new }
-    ensures until { result ≡ if nat_lt packet until then until else first_awaited desks.new }
+    ensures until { result ≡ if nat_lt packet until then until else 1 }
     ensures due { AreDueBefore result due.new desks.new }
 {
     if u64::from(packet) < until {
         settle_due(desks, marked, due, packet);
         return until;
     }
+    clear_all(due, desks.len());
     settle_all(desks, marked, packet);
-    first_awaited(desks, marked, due)
+    1
 }
 
 // Replaces each desk's book by the snapshot beside it, where there is one, and marks it.
@@ -284,6 +300,17 @@ impl<A: Allocator + Copy> Desks<A> {
             return &self.due;
         }
         self.marked()
+    }
+
+    /// Finds the desks that are due at an event end in packet `packet`, where some have waited for it since a jump, so
+    /// that [`due_at`](Desks::due_at) and [`settle`](Desks::settle) look at no desk that waits for a later packet. It
+    /// changes nothing else, and goes over the marked desks only where one of them may have waited for this packet.
+    pub fn ripen(&mut self, packet: u32)
+        ensures { self.new ≡ self.old }
+    {
+        if self.until > 0 && u64::from(packet) >= self.until {
+            self.until = ripen_all(&self.desks, &self.marked, &mut self.due, packet);
+        }
     }
 
     /// Lends the places of the securities.

@@ -107,6 +107,13 @@ impl<A: Allocator + Copy> AuditedDesks<A> {
         self.put_spreads(out, end)
     }
 
+    // Finds the desks that an event end in this packet has lines of, where some waited for it.
+    fn ripen(&mut self, packet: u32)
+        ensures { self.new ≡ self.old }
+    {
+        self.desks.ripen(packet);
+    }
+
     // Forgets the marks where an event ended.
     fn settle(&mut self, packet: u32)
         ensures { self.new ≡ map (desk_settled packet) self.old }
@@ -130,6 +137,7 @@ impl<A: Allocator + Copy> AuditedDesks<A> {
     {
         self.hear(packet, message, taken.entries());
         if taken.is_end() {
+            self.ripen(packet);
             self.put(out, EventEnd { packet, message })?;
             self.settle(packet);
         }

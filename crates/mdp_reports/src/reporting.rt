@@ -32,6 +32,7 @@ fn report_message<A: Allocator + Copy>(
 {
     desks.hear(packet, message, taken.entries());
     if taken.is_end() {
+        desks.ripen(packet);
         report_event_end(desks, slots, EventEnd { packet, message }, out)?;
         desks.settle(packet);
     }

@@ -10,13 +10,13 @@ use Rattle.mdp_reports.proofs.reporting.report_message.Goals as goal
 
 pub report_event_end-requires : goal.report_event_end-requires
 report_event_end-requires g c =
-    c.requires ∙ sym (ap length (c.hear.ensures ∙ ap (λ (es : List Entry). desks_through c.args.packet c.args.message 1 es c.args.desks.now) c.entries.ensures.items)
+    c.requires ∙ sym (ap length (c.ripen.ensures ∙ c.hear.ensures ∙ ap (λ (es : List Entry). desks_through c.args.packet c.args.message 1 es c.args.desks.now) c.entries.ensures.items)
     ∙ through_long c.args.packet c.args.message c.args.taken.now.entries c.args.desks.now)
 
 pub returns-in_ok-report_event_end-clause-desks : goal.returns-in_ok-report_event_end-clause-desks
 returns-in_ok-report_event_end-clause-desks g c =
     c.settle.ensures
-    ∙ ap (map (desk_settled c.args.packet)) (c.hear.ensures ∙ ap (λ (es : List Entry). desks_through c.args.packet c.args.message 1 es c.args.desks.now) c.entries.ensures.items)
+    ∙ ap (map (desk_settled c.args.packet)) (c.ripen.ensures ∙ c.hear.ensures ∙ ap (λ (es : List Entry). desks_through c.args.packet c.args.message 1 es c.args.desks.now) c.entries.ensures.items)
     ∙ ended_desks c.args.packet c.args.message c.args.taken.now.entries c.args.desks.now c.args.taken.now.end (sym c.is_end.ensures ∙ c.if-is_end.true)
 
 pub returns-in_ok-report_event_end-clause-reports : goal.returns-in_ok-report_event_end-clause-reports
@@ -24,7 +24,7 @@ returns-in_ok-report_event_end-clause-reports g c =
     let k = c.args.packet in
     let j = c.args.message in
     c.in_ok-report_event_end.ensures
-    ∙ ap (λ (ds : List Desk). c.args.out.now ++ tells (record { packet = k; message = j }) (told_of (record { packet = k; message = j }) c.args.slots.now ds) ∷ []) (c.hear.ensures ∙ ap (λ (es : List Entry). desks_through k j 1 es c.args.desks.now) c.entries.ensures.items)
+    ∙ ap (λ (ds : List Desk). c.args.out.now ++ tells (record { packet = k; message = j }) (told_of (record { packet = k; message = j }) c.args.slots.now ds) ∷ []) (c.ripen.ensures ∙ c.hear.ensures ∙ ap (λ (es : List Entry). desks_through k j 1 es c.args.desks.now) c.entries.ensures.items)
     ∙ ap (λ (t : List Report). c.args.out.now ++ t) (ap (map (report_by c.args.slots.now)) (ended_moment k j c.args.taken.now.entries c.args.desks.now c.args.taken.now.end (sym c.is_end.ensures ∙ c.if-is_end.true)))
 
 pub returns-else-is_end-clause-desks : goal.returns-else-is_end-clause-desks
@@ -35,14 +35,14 @@ returns-else-is_end-clause-desks g c =
 
 pub returns-in_err-report_event_end-clause-many : goal.returns-in_err-report_event_end-clause-many
 returns-in_err-report_event_end-clause-many g c =
-    ap length (c.hear.ensures ∙ ap (λ (es : List Entry). desks_through c.args.packet c.args.message 1 es c.args.desks.now) c.entries.ensures.items)
+    ap length (c.ripen.ensures ∙ c.hear.ensures ∙ ap (λ (es : List Entry). desks_through c.args.packet c.args.message 1 es c.args.desks.now) c.entries.ensures.items)
     ∙ through_long c.args.packet c.args.message c.args.taken.now.entries c.args.desks.now
 
 pub returns-in_ok-report_event_end-clause-many : goal.returns-in_ok-report_event_end-clause-many
 returns-in_ok-report_event_end-clause-many g c =
     ap length c.settle.ensures
     ∙ length-map _ (desk_settled c.args.packet)
-    ∙ ap length (c.hear.ensures ∙ ap (λ (es : List Entry). desks_through c.args.packet c.args.message 1 es c.args.desks.now) c.entries.ensures.items)
+    ∙ ap length (c.ripen.ensures ∙ c.hear.ensures ∙ ap (λ (es : List Entry). desks_through c.args.packet c.args.message 1 es c.args.desks.now) c.entries.ensures.items)
     ∙ through_long c.args.packet c.args.message c.args.taken.now.entries c.args.desks.now
 
 pub returns-else-is_end-clause-many : goal.returns-else-is_end-clause-many

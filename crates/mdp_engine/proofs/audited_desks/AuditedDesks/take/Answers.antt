@@ -12,7 +12,7 @@ use Rattle.mdp_engine.proofs.audited_desks.AuditedDesks.take.Goals as goal
 pub returns-in_ok-put-clause-desks : goal.returns-in_ok-put-clause-desks
 returns-in_ok-put-clause-desks g c =
     c.settle.ensures
-    ∙ ap (map (desk_settled c.args.packet)) (c.in_ok-put.ensures.same ∙ c.hear.ensures ∙ ap (λ (es : List Entry). desks_through c.args.packet c.args.message 1 es c.args.self.now) c.entries.ensures.items)
+    ∙ ap (map (desk_settled c.args.packet)) (c.in_ok-put.ensures.same ∙ c.ripen.ensures ∙ c.hear.ensures ∙ ap (λ (es : List Entry). desks_through c.args.packet c.args.message 1 es c.args.self.now) c.entries.ensures.items)
     ∙ ended_desks c.args.packet c.args.message c.args.taken.now.entries c.args.self.now c.args.taken.now.end (sym c.is_end.ensures ∙ c.if-is_end.true)
 
 pub returns-in_ok-put-clause-text : goal.returns-in_ok-put-clause-text
@@ -22,7 +22,7 @@ returns-in_ok-put-clause-text g c =
     let end : EventEnd = record { packet = k; message = j } in
     let heard = desks_through k j 1 c.args.taken.now.entries c.args.self.now in
     c.in_ok-put.ensures.text
-    ∙ ap (λ (ds : List Desk). c.args.out.now.items ++ lines_as end (map (desk_standing k) ds)) (c.hear.ensures ∙ ap (λ (es : List Entry). desks_through k j 1 es c.args.self.now) c.entries.ensures.items)
+    ∙ ap (λ (ds : List Desk). c.args.out.now.items ++ lines_as end (map (desk_standing k) ds)) (c.ripen.ensures ∙ c.hear.ensures ∙ ap (λ (es : List Entry). desks_through k j 1 es c.args.self.now) c.entries.ensures.items)
     ∙ ap (λ (t : List ℕ). c.args.out.now.items ++ t) (sym (append-nil (lines_as end (map (desk_standing k) heard))))
     ∙ ap (λ (ms : List Moment). c.args.out.now.items ++ text_of_moments ms) (ended_moment k j c.args.taken.now.entries c.args.self.now c.args.taken.now.end (sym c.is_end.ensures ∙ c.if-is_end.true))
 
