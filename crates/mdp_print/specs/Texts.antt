@@ -18,6 +18,10 @@ use Rattle.mdp_templates.specs.Feed.{feed_letter}
 abbrev pub totals_text : List Total → List ℕ
 totals_text totals = flat_map (λ total. quote_text total.price total.size) totals
 
+-- where an event ends, with a space behind it: PACKET.MESSAGE and then the space
+abbrev pub event_front : EventEnd → List ℕ
+event_front end = decimal end.packet ++ codes "." ++ decimal end.message ++ codes " "
+
 -- where an event ends, and whose line it is: PACKET.MESSAGE NAME
 abbrev pub event_text : EventEnd → List ℕ → List ℕ
 event_text end name = decimal end.packet ++ codes "." ++ decimal end.message ++ codes " " ++ name

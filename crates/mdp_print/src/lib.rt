@@ -7,6 +7,7 @@
 
 mod book_lines;
 mod counting;
+mod event;
 mod head;
 mod merged;
 mod pieces;
@@ -20,6 +21,7 @@ mod writing;
 
 pub use book_lines::{put_consolidated, put_direct, put_implied, put_merged};
 pub use counting::Counting;
+pub use event::EventText;
 pub use head::Head;
 pub use mdp_books::ShortText;
 pub use status_lines::{put_fault, put_jump, put_last, put_refusal};
