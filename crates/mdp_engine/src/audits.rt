@@ -13,7 +13,7 @@ ghost use Rattle.mdp_engine.specs.Spreads.{AreSpreadsOf, IsUnder};
 use crate::spreads::Spread;
 use mdp_books::EventEnd;
 use mdp_desks::{Desk, Marked};
-use mdp_print::put_audit;
+use mdp_print::{EventText, put_audit, put_audit_under};
 use mdp_quotes::{Best, audit};
 use mdp_templates::{Memory, Name};
 use std::alloc::Allocator;
@@ -38,6 +38,27 @@ pub fn put_verdicts<A: Allocator>(
         }
         _ => Ok(()),
     }
+}
+
+/// Appends the verdicts of a spread against its legs as [`put_verdicts`] does, of what all lines of the event end have in
+/// common.
+pub fn put_verdicts_under<A: Allocator>(
+    out: &mut Vec<u8, A>,
+    event: &EventText,
+    name: &Name,
+    spread: Option<Best>,
+    leg1: Option<Best>,
+    leg2: Option<Best>,
+) -> Result<(), Memory>
+    ensures ok { OnOk result (out.new.items ≡ out.old.items
+        ++ verdicts_text event.now name.now spread leg1 leg2) }
+    ensures err { OnErr result (BeginsWith out.new.items out.old.items) }
+{
+    let (Some(spread), Some(leg1), Some(leg2)) = (spread, leg1, leg2) else {
+        return Ok(());
+    };
+    let [bid, offer] = audit(&spread, &leg1, &leg2);
+    put_audit_under(out, event, name, bid, offer)
 }
 
 /// Tells whether one of the marks of a spread and its legs is set.
@@ -72,7 +93,7 @@ fn are_current(packet: u32, spread: &Desk, leg1: &Desk, leg2: &Desk) -> bool
 // bases of all three. `is_one_marked` tells whether it prints one; the desks are looked at only then.
 fn put_spread<A: Allocator>(
     out: &mut Vec<u8, A>,
-    end: EventEnd,
+    event: &EventText,
     spread: &Desk,
     leg1: &Desk,
     leg2: &Desk,
@@ -80,19 +101,19 @@ fn put_spread<A: Allocator>(
 ) -> Result<(), Memory>
     requires { is_one_marked ≡ (spread.now.marked || leg1.now.marked || leg2.now.marked) }
     ensures ok { OnOk result (out.new.items ≡ out.old.items
-        ++ spread_text end (desk_standing end.packet spread.now)
-        (desk_standing end.packet leg1.now) (desk_standing end.packet leg2.now)) }
+        ++ spread_text event.now (desk_standing event.now.packet spread.now)
+        (desk_standing event.now.packet leg1.now) (desk_standing event.now.packet leg2.now)) }
     ensures err { OnErr result (BeginsWith out.new.items out.old.items) }
 {
     if !is_one_marked {
         return Ok(());
     }
-    if !are_current(end.packet, spread, leg1, leg2) {
+    if !are_current(event.end().packet, spread, leg1, leg2) {
         return Ok(());
     }
-    put_verdicts(
+    put_verdicts_under(
         out,
-        end,
+        event,
         &spread.instrument.name,
         Best::of(spread.book.book()),
         Best::of(leg1.book.book()),
@@ -103,7 +124,7 @@ fn put_spread<A: Allocator>(
 // Appends the line of the spread at these places.
 fn put_audit_at<A: Allocator>(
     out: &mut Vec<u8, A>,
-    end: EventEnd,
+    event: &EventText,
     desks: &[Desk],
     marked: &Marked<A>,
     spread: &Spread,
@@ -111,12 +132,12 @@ fn put_audit_at<A: Allocator>(
     requires marks { marked.now ≡ marks_of desks.now }
     requires under { IsUnder (length desks.now) spread.now }
     ensures ok { OnOk result (out.new.items ≡ out.old.items
-        ++ spread_line end desks.now spread.now) }
+        ++ spread_line event.now desks.now spread.now) }
     ensures err { OnErr result (BeginsWith out.new.items out.old.items) }
 {
     put_spread(
         out,
-        end,
+        event,
         &desks[spread.slot],
         &desks[spread.leg1],
         &desks[spread.leg2],
@@ -132,7 +153,7 @@ fn put_audit_at<A: Allocator>(
 /// marked in `due` are looked at, and their marks go.
 pub(crate) fn put_audits<A: Allocator>(
     out: &mut Vec<u8, A>,
-    end: EventEnd,
+    event: &EventText,
     desks: &[Desk],
     marked: &Marked<A>,
     spreads: &[Spread],
@@ -141,17 +162,17 @@ pub(crate) fn put_audits<A: Allocator>(
     requires marks { marked.now ≡ marks_of desks.now }
     requires spreads { AreSpreadsOf (listed_in desks.now) spreads.now }
     requires many { length due.old ≡ length spreads.now }
-    requires silent { AreSilent (spread_line end desks.now) spreads.now due.old }
+    requires silent { AreSilent (spread_line event.now desks.now) spreads.now due.old }
     ensures long { length due.new ≡ length due.old }
     ensures text { OnOk result (out.new.items ≡ out.old.items
-        ++ flat_map (audit_text end (map (desk_standing end.packet) desks.now))
-        (map (desk_standing end.packet) desks.now)) }
+        ++ flat_map (audit_text event.now (map (desk_standing event.now.packet) desks.now))
+        (map (desk_standing event.now.packet) desks.now)) }
     ensures err { OnErr result (BeginsWith out.new.items out.old.items) }
 {
     let mut from = 0;
     while let Some(n) = due.next_from(from) {
         due.put(n, false);
-        put_audit_at(out, end, desks, marked, &spreads[n])?;
+        put_audit_at(out, event, desks, marked, &spreads[n])?;
         from = n + 1;
     }
     Ok(())

@@ -25,5 +25,5 @@ pub use event::EventText;
 pub use head::Head;
 pub use mdp_books::ShortText;
 pub use status_lines::{put_fault, put_jump, put_last, put_refusal};
-pub use verdict_lines::put_audit;
+pub use verdict_lines::{put_audit, put_audit_under};
 pub use writing::{CountedWrite, write_all_counted, written_since};

@@ -30,7 +30,7 @@ loop-n-preserved g c =
       marks = λ k from.
           let other : k ≢ n = λ same. omega (arith, same, from) in
           ap (λ ms. get_or ms k false) c.put.ensures ∙ get_or-set_other due n k false false other ∙ was.marks k (omega (arith, from, first.behind));
-      text = line_more (spread_line c.args.end c.args.desks.now) c.args.spreads.now c.args.due.now due c.loop-n.from n _ c.loop-n.out.items c.put_audit_at.new.out.items _ c.requires.silent was.marks first.behind less first.before c.in_ok-put_audit_at.ensures.ok was.text;
+      text = line_more (spread_line c.args.event.now c.args.desks.now) c.args.spreads.now c.args.due.now due c.loop-n.from n _ c.loop-n.out.items c.put_audit_at.new.out.items _ c.requires.silent was.marks first.behind less first.before c.in_ok-put_audit_at.ensures.ok was.text;
       front = subst (λ (ys : List ℕ). BeginsWith ys c.args.out.now.items) (sym c.in_ok-put_audit_at.ensures.ok) (begins_more c.args.out.now.items c.loop-n.out.items _ was.front);
     }
 
@@ -38,11 +38,11 @@ pub returns-clause-text : goal.returns-clause-text
 returns-clause-text g c =
     let ds = c.args.desks.now in
     let spreads = c.args.spreads.now in
-    let line = spread_line c.args.end ds in
+    let line = spread_line c.args.event.now ds in
     let was = c.loop-n.invariant in
     let long = was.long in
     let none = c.in_default.ensures.none in
-    let whole = audits_are c.args.end ds spreads c.requires.spreads.differ c.requires.spreads.spreads_are in
+    let whole = audits_are c.args.event.now ds spreads c.requires.spreads.differ c.requires.spreads.spreads_are in
     line_end line spreads c.args.due.now c.loop-n.due c.loop-n.from c.loop-n.out.items (c.args.out.now.items ++ flat_map line spreads) c.requires.silent was.marks was.inside
     (λ i from under. none i from (omega (arith, under, long, c.requires.many))) was.text
     ∙ ap (λ (t : List ℕ). c.args.out.now.items ++ t) (sym whole)

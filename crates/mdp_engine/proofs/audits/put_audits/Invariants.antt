@@ -10,7 +10,7 @@ invariant-loop-n g l = record {
   inside : l.from ≤ length l.spreads;
   long : length l.due ≡ length l.initial.due;
   marks : (k : ℕ) → l.from ≤ k → get_or l.due k false ≡ get_or l.initial.due k false;
-  text : l.out.items ++ flat_map (spread_line l.end l.desks) (drop l.from l.spreads) ≡ l.initial.out.items ++ flat_map (spread_line l.end l.desks) l.spreads;
+  text : l.out.items ++ flat_map (spread_line l.event l.desks) (drop l.from l.spreads) ≡ l.initial.out.items ++ flat_map (spread_line l.event l.desks) l.spreads;
   front : BeginsWith l.out.items l.initial.out.items;
 }
 
