@@ -162,8 +162,8 @@ fn ripen_one<A: Allocator>(
     until.min(u64::from(base) + 1)
 }
 
-// Sets the marks of the desks that are due at a packet, of those that are marked, and tells the first packet that one of
-// the others waits for; 0 where none waits.
+// Sets the marks of the desks that are due at a packet, of those that are marked, and tells the first packet that one
+// of the others waits for; 0 where none waits.
 #[inline(never)]
 fn ripen_all<A: Allocator>(
     desks: &[Desk],
@@ -186,8 +186,8 @@ fn ripen_all<A: Allocator>(
     if until == u64::MAX { 0 } else { until }
 }
 
-// Forgets the marks where an event ended, while desks wait for packet `until`, and tells up to which packet the marks of
-// `due` will do then. From `until` on, where `ripen` was not asked first, all that are marked are looked at.
+// Forgets the marks where an event ended, while desks wait for packet `until`, and tells up to which packet the marks
+// of `due` will do then. From `until` on, where `ripen` was not asked first, all that are marked are looked at.
 #[cold]
 fn settle_waiting<A: Allocator>(
     desks: &mut [Desk],

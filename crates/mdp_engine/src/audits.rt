@@ -40,8 +40,8 @@ pub fn put_verdicts<A: Allocator>(
     }
 }
 
-/// Appends the verdicts of a spread against its legs as [`put_verdicts`] does, of what all lines of the event end have in
-/// common.
+/// Appends the verdicts of a spread against its legs as [`put_verdicts`] does, of what all lines of the event end have
+/// in common.
 pub fn put_verdicts_under<A: Allocator>(
     out: &mut Vec<u8, A>,
     event: &EventText,

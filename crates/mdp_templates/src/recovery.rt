@@ -23,8 +23,8 @@ const SNAPSHOT: u16 = 52;
 /// The length of the fields of a snapshot message's root block, in bytes.
 const ROOT_LENGTH: u16 = 16;
 
-// Appends a snapshot. Most datagrams have one, so for the first one room is taken for itself alone: a block of four would be
-// more than the C library keeps at hand.
+// Appends a snapshot. Most datagrams have one, so for the first one room is taken for itself alone: a block of four
+// would be more than the C library keeps at hand.
 fn add<A: Allocator>(list: &mut Vec<Snapshot, A>, snapshot: Snapshot) -> Result<(), Fault>
     ensures ok { OnOk result (list.new.items ≡ list.old.items ++ snapshot ∷ []) }
     ensures memory { IfErr result (λ fault. fault ≡ faults.Memory) }
