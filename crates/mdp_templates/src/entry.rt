@@ -56,17 +56,20 @@ const NULL_PRICE: i64 = 9223372036854775807;
 /// The null size, which no level has.
 const NULL_SIZE: i32 = 2147483647;
 
+/// The sides by bits 5 and 0 of their entry types, in which the ASCII characters `0`, `1`, `E` and `F` differ. Sides
+/// follow one another in no order, so a jump that depends on the side is guessed wrongly half of the time; to look the
+/// side up takes none.
+const KINDS: [Kind; 4] = [Kind::ImpliedOffer, Kind::ImpliedBid, Kind::Bid, Kind::Offer];
+
 /// Reads the side that an entry type names, an ASCII character.
 pub(crate) fn read_kind(byte: u8) -> Result<Kind, Refusal>
     ensures { result ≡ kind_of byte }
 {
-    match byte {
-        b'0' => Ok(Kind::Bid),
-        b'1' => Ok(Kind::Offer),
-        b'E' => Ok(Kind::ImpliedBid),
-        b'F' => Ok(Kind::ImpliedOffer),
-        _ => Err(Refusal::EntryType),
+    if byte != b'0' && byte != b'1' && byte != b'E' && byte != b'F' {
+        return Err(Refusal::EntryType);
     }
+    let code = (byte >> 4 & 2) | (byte & 1);
+    Ok(KINDS[usize::from(code)])
 }
 
 // Reads the update action that a byte says, or answers its refusal.
@@ -108,10 +111,14 @@ pub(crate) fn read_level(price: i64, size: i32) -> Result<Level, Refusal>
     Ok(Level { price, size })
 }
 
-// With a delete the price and the size are not looked at.
+// With a delete the price and the size are not looked at. Few of them are such as no level has, so that mostly nothing
+// depends on the action.
 fn read_quoted(action: Action, price: i64, size: i32) -> Result<Level, Refusal>
     ensures { result ≡ action_quote action price size }
 {
+    if price != NULL_PRICE && size != NULL_SIZE && size >= 0 {
+        return Ok(Level { price, size });
+    }
     match action {
         Action::New | Action::Change => read_level(price, size),
         Action::Delete => Ok(Level { price, size }),
