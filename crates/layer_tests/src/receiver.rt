@@ -226,3 +226,50 @@ fn a_handler_lends_the_books_as_they_stand(rt: HostRuntime) -> Result<(), Fail> 
     recovers(&rt, alloc, &mut handler, &capture)?;
     books_stand(&rt, &handler)
 }
+
+/// Fills a text with one message that is stepped over, behind the header of a packet of this number.
+fn fill_with_one_message(text: &mut [u8], number: u8) {
+    let size = text.len().saturating_sub(12);
+    for n in 0..text.len() {
+        text[n] = match n {
+            0 => number,
+            12 => (size % 256) as u8,
+            13 => (size / 256 % 256) as u8,
+            16 => 255,
+            18 => 1,
+            _ => 0,
+        };
+    }
+}
+
+/// Pushes packets of these lengths, numbered from 1, and tells how many of them pass.
+fn pass_all<A: Allocator + Copy>(
+    alloc: A,
+    handler: &mut Handler<A>,
+    lengths: &[usize],
+) -> Result<usize, Memory> {
+    let mut passed = 0usize;
+    let mut number = 0u8;
+    for length in lengths {
+        number = number.saturating_add(1);
+        let mut text = vec![in alloc; 0u8; *length]?;
+        fill_with_one_message(text.as_mut_slice(), number);
+        let taken = handler.datagram(alloc, Feed::A, text.as_slice())?;
+        if taken == Taken::Packet(PacketFate::First) && handler.next() == u64::from(number) + 1 {
+            passed = passed.saturating_add(1);
+        }
+    }
+    Ok(passed)
+}
+
+#[test]
+fn a_packet_passes_however_long_its_datagram_is(rt: HostRuntime) -> Result<(), Fail> {
+    let alloc = rt.alloc();
+    let Some(capture) = recovery(alloc) else {
+        return Err("no capture".into());
+    };
+    let mut handler = Handler::new(alloc, capture.instruments(), 4, Start::FromOne)?;
+    let lengths = [22, 2047, 2048, 2049, 22, 4096, 2048, 2049];
+    assert_eq!(rt; pass_all(alloc, &mut handler, &lengths)?, lengths.len());
+    Ok(())
+}

@@ -191,6 +191,31 @@ impl<A: Allocator + Copy, W: Window<Packet<A>> + Drop> Engine<A, W> {
         Ok(())
     }
 
+    /// Takes in a packet that is lent, where it passes at once, and holds the lines that it owes, as [`on`](Engine::on)
+    /// does of its event. Tells whether it passed; where not, all is as before.
+    ///
+    /// # Errors
+    ///
+    /// Memory ran out, now or in an earlier call.
+    pub fn on_next(&mut self, packet: &Packet<A>) -> Result<bool, Memory>
+        ensures passed { IfOk result (λ passed. passed ≡ true
+            → (listed : List Instrument) (es : List Accepted) (drained : List ℕ)
+            → Stands listed es drained self.old → Stands listed (es ++ came packet.now ∷ []) drained self.new) }
+        ensures kept { IfOk result (λ passed. passed ≡ false → self.new ≡ self.old) }
+        ensures channel { OnOk result (self.new.arbiter.channel ≡ self.old.arbiter.channel) }
+        ensures sound { OnOk result (self.new.has_failed ≡ false) }
+        ensures fails { IfErr result (λ _. self.new.has_failed ≡ true) }
+        ensures front { BeginsWith self.new.held self.old.held }
+        ensures stays { self.old.has_failed ≡ true → IsErr result }
+    {
+        self.still_sound()?;
+        let Ok(passed) = self.pass_packet(packet) else {
+            self.has_failed = true;
+            return Err(Memory);
+        };
+        Ok(passed)
+    }
+
     /// Appends the lines that are held, and holds none from then on.
     ///
     /// # Errors
@@ -296,9 +321,22 @@ impl<A: Allocator + Copy, W: Window<Packet<A>> + Drop> Engine<A, W> {
         ensures sound { OnOk result (self.new.has_failed ≡ self.old.has_failed) }
         ensures front { BeginsWith self.new.held self.old.held }
     {
-        let Event::Packet(packet) = event else {
-            return Ok(false);
-        };
+        match event {
+            Event::Packet(packet) => self.pass_packet(packet),
+            _ => Ok(false),
+        }
+    }
+
+    // Takes in a packet that passes at once and shows it, and tells whether it does.
+    fn pass_packet(&mut self, packet: &Packet<A>) -> Result<bool, Memory>
+        ensures passed { IfOk result (λ passed. passed ≡ true
+            → (listed : List Instrument) (es : List Accepted) (drained : List ℕ)
+            → Stands listed es drained self.old → Stands listed (es ++ came packet.now ∷ []) drained self.new) }
+        ensures kept { IfOk result (λ passed. passed ≡ false → self.new ≡ self.old) }
+        ensures channel { OnOk result (self.new.arbiter.channel ≡ self.old.arbiter.channel) }
+        ensures sound { OnOk result (self.new.has_failed ≡ self.old.has_failed) }
+        ensures front { BeginsWith self.new.held self.old.held }
+    {
         if !self.arbiter.pass_at_once(packet) {
             return Ok(false);
         }

@@ -2,3 +2,4 @@ pub mod Copying
 pub mod Going
 pub mod Counting
 pub mod Complete
+mod NextPackets

@@ -2,7 +2,10 @@
 
 ghost use Rattle.std.specs.Prelude.{◌≡◌, ◌≤◌, ◌++◌, [], ◌∷◌, ℕ, List, true, false, map, slice_get, option_copied, IfOk, IfErr, IsErr, OnErr, OnOk, IfSome};
 ghost use Rattle.std.specs.Option.{option_map};
+ghost use Rattle.mdp_sbe.specs.Framing.{IsHeader};
+ghost use Rattle.mdp_templates.specs.Incremental.{IsPacket};
 ghost use Rattle.mdp_templates.specs.Instrument.{AreFit};
+ghost use Rattle.mdp_templates.specs.Refused.FeedKind.{incremental};
 ghost use Rattle.mdp_print.specs.Pieces.{Appends, BeginsWith};
 ghost use Rattle.mdp_print.specs.Texts.{last_line};
 ghost use Rattle.mdp_quotes.specs.Consolidation.{consolidation_of, quotes_of};
@@ -26,10 +29,12 @@ use mdp_desks::Desk;
 use mdp_engine::{Engine, Event};
 use mdp_print::put_last;
 use mdp_quotes::{Consolidated, TopOfBook, are_in_order, merged_top};
-use mdp_templates::{Feed, Instrument, Memory, Packet, Snapshot};
+use mdp_sbe::Header;
+use mdp_templates::{Fault, Feed, Instrument, Memory, Packet, Snapshot, read_packet_into};
 use mdp_window::RingWindow;
 use std::alloc::Allocator;
 use std::marker::Model;
+use std::mem;
 
 /// Where a channel stands.
 #[derive(Clone, Copy, Debug, PartialEq, Eq)]
@@ -46,6 +51,9 @@ pub struct ChannelState {
     /// includes all packets that are given up.
     pub stale: Option<usize>,
 }
+
+/// How long a datagram is at most that is read into the room of the one before, in bytes, so that this room stays small.
+const LONGEST_IN_ROOM: usize = 2048;
 
 // Gives the best level of each consolidated side of a good book. Where each of its sides is in order, these levels
 // tell, and no side is added up.
@@ -78,6 +86,8 @@ fn best_of(book: &Book) -> Option<TopOfBook>
 pub struct Handler<A: Allocator + Copy> {
     engine: Engine<A, RingWindow<Packet<A>, A>>,
     last: LastPacket<A>,
+    /// The packet that was read last of those that were next, whose room the next one takes.
+    room: Packet<A>,
 }
 
 impl<A: Allocator + Copy> Model for Handler<A> {
@@ -115,6 +125,7 @@ impl<A: Allocator + Copy> Handler<A> {
         Ok(Handler {
             engine: Engine::new(alloc, instruments, ring, start)?,
             last: LastPacket::new(alloc),
+            room: Packet::new(alloc, 0),
         })
     }
 
@@ -304,6 +315,9 @@ impl<A: Allocator + Copy> Handler<A> {
         if let Some(number) = self.copied(feed, bytes) {
             return Ok(Taken::Packet(self.engine.arbiter().fate_of(number)));
         }
+        if self.is_next(feed, bytes) {
+            return self.take_next(alloc, bytes);
+        }
         let decoded = decode(alloc, feed, bytes)?;
         self.keep(feed, bytes, &decoded)?;
         self.take_in(decoded)
@@ -340,6 +354,51 @@ impl<A: Allocator + Copy> Handler<A> {
             return Some(number);
         }
         None
+    }
+
+    // Tells whether a datagram of this feed bears the number of the packet that comes next.
+    fn is_next(&self, feed: Feed, bytes: &[u8]) -> bool
+        ensures { result ≡ true → kind_of feed ≡ incremental }
+    {
+        match feed {
+            Feed::A => self.has_next_number(bytes),
+            Feed::B => self.has_next_number(bytes),
+            Feed::S => false,
+        }
+    }
+
+    // Tells whether a datagram begins with the number of the packet that comes next, and is no longer than datagrams are.
+    fn has_next_number(&self, bytes: &[u8]) -> bool
+        ensures { result ≡ true → (header : Header) × IsHeader bytes.now header
+            × (header.number ≡ self.now.arbiter.next) }
+    {
+        match Header::read(bytes) {
+            Ok(header) => {
+                u64::from(header.number) == self.engine.next() && bytes.len() <= LONGEST_IN_ROOM
+            }
+            Err(_) => false,
+        }
+    }
+
+    // Takes a datagram of feed A or B that bears the number of the packet that comes next. Such a packet mostly passes
+    // at once, and is read into the room of the one before; one that doesn't takes the room along.
+    fn take_next(&mut self, alloc: A, bytes: &[u8]) -> Result<Taken, Memory>
+        ensures taken { IfOk result (λ taken. TakesDatagram Feed.A bytes.now taken self.old self.new) }
+        ensures front { BeginsWith self.new.held self.old.held }
+    {
+        match read_packet_into(alloc, bytes, &mut self.room) {
+            Ok(()) => {}
+            Err(Fault::Refused(refusal)) => return Ok(Taken::Refused(refusal)),
+            Err(Fault::Memory) => return Err(Memory),
+        }
+        let number = self.room.number();
+        self.last.keep(bytes, number)?;
+        let fate = self.engine.arbiter().fate_of(number);
+        if self.engine.on_next(&self.room)? {
+            return Ok(Taken::Packet(fate));
+        }
+        let packet = mem::replace(&mut self.room, Packet::new(alloc, 0));
+        self.pass(packet)
     }
 
     // Keeps the bytes of a datagram that was decoded as a packet.

@@ -37,6 +37,10 @@ pub refused_packet : (text : List ℕ) (header : Header) (fault : Fault) → IsH
 refused_packet text header (faults.Refused r) begins positive bad = in_messages header begins positive bad
 refused_packet text header faults.Memory begins positive bad = tt
 
+pub refused_packet_result : {V : Type 0} (text : List ℕ) (header : Header) (result : Result V Fault) → IsHeader text header → 0 < header.number → IfErr result (OnRefusal (AreRefused IsIncremental IsRefusedIncremental (drop 12 text))) → IfErr result (OnRefusal (IsRefusedPacket text))
+refused_packet_result text header (Ok v) begins positive bad = tt
+refused_packet_result text header (Err fault) begins positive bad = refused_packet text header fault begins positive bad
+
 -- ---- the recovery feed
 
 abbrev itself : Option SnapshotContent → Option SnapshotContent

@@ -1,11 +1,11 @@
 //! Reading a datagram of the incremental feeds.
 
-ghost use Rattle.std.specs.Prelude.{◌≡◌, [], IfOk, IfErr, ◌<◌, ◌≤◌, length};
-ghost use Rattle.mdp_sbe.specs.Framing.{parts, AreMessages, AreRefused};
+ghost use Rattle.std.specs.Prelude.{◌≡◌, [], IfOk, IfErr, OnOk, ◌<◌, ◌≤◌, length};
+ghost use Rattle.mdp_sbe.specs.Framing.{IsHeader, parts, AreMessages, AreRefused};
 ghost use Rattle.mdp_templates.specs.Answer.{OnRefusal};
-ghost use Rattle.mdp_templates.specs.Incremental.{IsBook, book_refresh, IsCarrier, IsIncremental, IsRefusedIncremental, IsPacket, EndsEvent};
+ghost use Rattle.mdp_templates.specs.Incremental.{IsBook, book_refresh, IsCarrier, IsIncremental, IsRefusedIncremental, IsPacket, IsRefusedPacket, EndsEvent};
 ghost use Rattle.mdp_templates.specs.Layout.{IsRefusedLayout};
-ghost use Rattle.mdp_templates.specs.Spans.{AddsMessage};
+ghost use Rattle.mdp_templates.specs.Spans.{AddsMessage, AreWithin, messages_at};
 ghost use Rattle.mdp_templates.specs.Refused.{IsRefusedAs};
 ghost use Rattle.mdp_templates.specs.Refused.FeedKind.{incremental};
 ghost use Rattle.mdp_sbe.specs.Framing.{IsRefusedRoot};
@@ -90,26 +90,43 @@ fn read_message<A: Allocator + Copy>(
     }
 }
 
-// Reads all messages into a packet of this number, or answers the first refusal in reading order.
+// Reads the header at the front of a packet's text, whose number is 1 or more.
+fn read_header(text: &[u8]) -> Result<Header, Refusal>
+    ensures header { IfOk result (IsHeader text.now) }
+    ensures positive { IfOk result (λ header. 0 < header.number) }
+    ensures long { IfOk result (λ _. 12 ≤ length text.now) }
+    ensures refused { IfErr result (IsRefusedPacket text.now) }
+{
+    let header = Header::read(text)?;
+    if header.number == 0 {
+        return Err(Refusal::NumberZero);
+    }
+    Ok(header)
+}
+
+// Reads all messages into lists of entries and of their places, whatever these held, or answers the first refusal in
+// reading order.
 fn read_messages<A: Allocator + Copy>(
     alloc: A,
-    number: u32,
     rest: &[u8],
-) -> Result<Packet<A>, Fault>
-    ensures number { IfOk result (λ p. p.number ≡ number) }
-    ensures ok { IfOk result (λ p. AreMessages IsIncremental rest.now p.messages []) }
+    entries: &mut Vec<Entry, A>,
+    spans: &mut Spans<A>,
+) -> Result<(), Fault>
+    ensures within { OnOk result (AreWithin (length entries.new.items) spans.new) }
+    ensures ok { OnOk result (AreMessages IsIncremental rest.now
+        (messages_at entries.new.items spans.new) []) }
     ensures refused { IfErr result (OnRefusal
         (AreRefused IsIncremental IsRefusedIncremental rest.now)) }
 {
-    let mut entries = Vec::with_capacity(alloc, USUAL_ENTRIES)?;
-    let mut spans = Spans::new();
+    entries.clear();
+    spans.clear();
     let mut cursor = Messages::new(rest);
     while let Some(next) = cursor.next() {
         let message = next?;
-        let span = read_message(&message, &mut entries)?;
+        let span = read_message(&message, entries)?;
         spans.push(alloc, span)?;
     }
-    Ok(Packet::of_spans(number, entries, spans))
+    Ok(())
 }
 
 /// Reads a packet of an incremental feed, or answers the first refusal in reading order. A packet with
@@ -118,10 +135,33 @@ pub fn read_packet<A: Allocator + Copy>(alloc: A, text: &[u8]) -> Result<Packet<
     ensures ok { IfOk result (IsPacket text.now) }
     ensures refused { IfErr result (OnRefusal (IsRefusedAs incremental text.now)) }
 {
-    let header = Header::read(text)?;
-    if header.number == 0 {
-        return Err(Fault::Refused(Refusal::NumberZero));
+    let header = read_header(text)?;
+    let mut entries = Vec::with_capacity(alloc, USUAL_ENTRIES)?;
+    let mut spans = Spans::new();
+    read_messages(alloc, &text[Header::LENGTH..], &mut entries, &mut spans)?;
+    Ok(Packet::of_spans(header.number, entries, spans))
+}
+
+/// Reads a packet of an incremental feed as [`read_packet`] does, in the place of another, whose room it takes: it asks
+/// for memory only where it has more entries or messages than that had room for.
+///
+/// # Errors
+///
+/// Those of [`read_packet`]. Then nothing is known of the packet but that it is one.
+pub fn read_packet_into<A: Allocator + Copy>(
+    alloc: A,
+    text: &[u8],
+    packet: &mut Packet<A>,
+) -> Result<(), Fault>
+    ensures ok { OnOk result (IsPacket text.now packet.new) }
+    ensures refused { IfErr result (OnRefusal (IsRefusedAs incremental text.now)) }
+{
+    let header = read_header(text)?;
+    packet.number = header.number;
+    let rest = &text[Header::LENGTH..];
+    let outcome = read_messages(alloc, rest, &mut packet.entries, &mut packet.spans);
+    if outcome.is_err() {
+        packet.spans.clear();
     }
-    let packet = read_messages(alloc, header.number, &text[Header::LENGTH..])?;
-    Ok(packet)
+    outcome
 }

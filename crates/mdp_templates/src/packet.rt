@@ -49,9 +49,9 @@ impl<'a> Message<'a> {
 /// A packet of the incremental feed, seen as its number and its messages. The entries of all messages lie in one list.
 #[derive(Drop)]
 pub struct Packet<A: Allocator> {
-    number: u32,
-    entries: Vec<Entry, A>,
-    spans: Spans<A>,
+    pub(crate) number: u32,
+    pub(crate) entries: Vec<Entry, A>,
+    pub(crate) spans: Spans<A>,
 }
 
 impl<A: Allocator> Model for Packet<A> {

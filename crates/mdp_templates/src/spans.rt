@@ -50,6 +50,16 @@ impl<A: Allocator> Spans<A> {
         Spans { held }
     }
 
+    /// Forgets all places, and keeps the room that they took.
+    pub fn clear(&mut self)
+        ensures { self.new ≡ [] }
+    {
+        match &mut self.held {
+            Held::Few(few) => few.clear(),
+            Held::Many(many) => many.clear(),
+        }
+    }
+
     /// Lends the places, in the order of the messages.
     pub fn as_slice(&self) -> &[Span]
         ensures { result.now ≡ self.now }

@@ -1,0 +1,13 @@
+use Rattle.std.proofs.Common.{sym, subst}
+use Rattle.mdp_engine.specs.Engine.{View, Stands}
+use Rattle.mdp_engine.proofs.Moving.{stands_passed}
+use Rattle.mdp_engine.proofs.engine.Engine.pass_packet.Goals as goal
+
+pub returns-clause-passed : goal.returns-clause-passed
+returns-clause-passed g c = λ passed listed es drained stands.
+    let old : View = record { arbiter = c.self.inside.arbiter; desks = c.self.inside.desks; held = c.self.inside.held.items; has_failed = c.self.inside.has_failed } in
+    let new : View = record { arbiter = c.pass_at_once.new.self; desks = c.pass.new.self; held = c.pass.new.out.items; has_failed = c.self.inside.has_failed } in
+    let stood : Stands listed es drained old = subst (Stands listed es drained) (sym c.self.view_is) stands in
+    stands_passed listed es c.args.packet.now drained old new
+    (c.pass_at_once.ensures.passes c.if-not-pass_at_once.false es stood.settled.stands) c.pass_at_once.ensures.channel
+    c.in_ok-pass.ensures.desks c.in_ok-pass.ensures.text stood
