@@ -6,9 +6,8 @@ ghost use Rattle.mdp_desks.specs.Desks.{desk_at_start, desk_entered, desk_jumped
 ghost use Rattle.mdp_desks.specs.Lines.{text_of};
 ghost use Rattle.mdp_print.specs.Pieces.{BeginsWith};
 
-use crate::lines::{put_book, put_book_under};
+use crate::lines::put_book;
 use mdp_books::{EventEnd, Place};
-use mdp_print::EventText;
 use mdp_quotes::Live;
 use mdp_templates::{Entry, Instrument, Memory, Snapshot};
 use std::alloc::Allocator;
@@ -85,23 +84,6 @@ impl Desk {
     {
         if end.packet > self.base && self.marked {
             put_book(out, end, &self.instrument.name, &self.book)?;
-        }
-        Ok(())
-    }
-
-    /// Appends the lines that are owed where an event ends as `put` does, of what all lines of the event end have in
-    /// common.
-    pub fn put_under<A: Allocator>(
-        &self,
-        out: &mut Vec<u8, A>,
-        event: &EventText,
-    ) -> Result<(), Memory>
-        ensures ok { OnOk result (out.new.items ≡ out.old.items
-            ++ text_of event.now (desk_standing event.now.packet self.now)) }
-        ensures err { OnErr result (BeginsWith out.new.items out.old.items) }
-    {
-        if event.end().packet > self.base && self.marked {
-            put_book_under(out, event, &self.instrument.name, &self.book)?;
         }
         Ok(())
     }

@@ -11,7 +11,6 @@ ghost use Rattle.mdp_print.specs.Pieces.{BeginsWith};
 use crate::desk::Desk;
 use crate::marked::Marked;
 use mdp_books::{EventEnd, Place};
-use mdp_print::EventText;
 use mdp_templates::{Entry, Instrument, Memory, Slots, Snapshot};
 use std::alloc::Allocator;
 use std::marker::Model;
@@ -76,18 +75,18 @@ fn mark_due<A: Allocator>(due: &mut Marked<A>, until: u64, slot: usize, desk: &D
 // Appends the lines of the desks that are due.
 fn put_marked<A: Allocator>(
     out: &mut Vec<u8, A>,
-    event: &EventText,
+    end: EventEnd,
     desks: &[Desk],
     marked: &Marked<A>,
 ) -> Result<(), Memory>
-    requires { AreDueAt event.now.packet marked.now desks.now }
+    requires { AreDueAt end.packet marked.now desks.now }
     ensures ok { OnOk result (out.new.items ≡ out.old.items
-        ++ flat_map (text_of event.now) (map (desk_standing event.now.packet) desks.now)) }
+        ++ flat_map (text_of end) (map (desk_standing end.packet) desks.now)) }
     ensures err { OnErr result (BeginsWith out.new.items out.old.items) }
 {
     let mut from = 0;
     while let Some(n) = marked.next_from(from) {
-        desks[n].put_under(out, event)?;
+        desks[n].put(out, end)?;
         from = n + 1;
     }
     Ok(())
@@ -364,17 +363,7 @@ impl<A: Allocator + Copy> Desks<A> {
             ++ flat_map (text_of end) (map (desk_standing end.packet) self.now)) }
         ensures err { OnErr result (BeginsWith out.new.items out.old.items) }
     {
-        self.put_books_under(out, &EventText::new(end))
-    }
-
-    /// Appends the lines of the books that an event end prints as `put_books` does, of what all lines of the event end
-    /// have in common.
-    pub fn put_books_under(&self, out: &mut Vec<u8, A>, event: &EventText) -> Result<(), Memory>
-        ensures ok { OnOk result (out.new.items ≡ out.old.items
-            ++ flat_map (text_of event.now) (map (desk_standing event.now.packet) self.now)) }
-        ensures err { OnErr result (BeginsWith out.new.items out.old.items) }
-    {
-        put_marked(out, event, &self.desks, self.due_at(event.end().packet))
+        put_marked(out, end, &self.desks, self.due_at(end.packet))
     }
 
     /// Forgets the marks where an event ended in packet `packet`.

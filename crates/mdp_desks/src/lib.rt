@@ -11,5 +11,5 @@ mod marked;
 pub use desk::Desk;
 pub use desks::Desks;
 pub use laws::law_of_shares;
-pub use lines::{put_book, put_book_under};
+pub use lines::put_book;
 pub use marked::Marked;

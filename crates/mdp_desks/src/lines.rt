@@ -1,16 +1,14 @@
 //! The lines of a book where an event ends.
 
-ghost use Rattle.std.specs.Prelude.{◌≡◌, ◌++◌, IfOk, OnErr, OnOk, Some};
+ghost use Rattle.std.specs.Prelude.{◌≡◌, ◌++◌, IfOk, OnErr, OnOk};
 ghost use Rattle.mdp_quotes.specs.Consolidation.{quotes_of};
 ghost use Rattle.mdp_quotes.specs.Top.{top_of_book, top_of_quotes};
 ghost use Rattle.mdp_print.specs.Pieces.{BeginsWith};
 ghost use Rattle.mdp_print.specs.Texts.{consolidated_line};
-ghost use Rattle.mdp_desks.specs.Lines.{book_lines, sides_lines};
+ghost use Rattle.mdp_desks.specs.Lines.{book_lines};
 
 use mdp_books::{Book, EventEnd, Sides};
-use mdp_print::{
-    EventText, Head, put_consolidated, put_direct, put_fault, put_implied, put_merged,
-};
+use mdp_print::{Head, put_consolidated, put_direct, put_fault, put_implied, put_merged};
 use mdp_quotes::{Consolidated, Live, TopOfBook, are_in_order, merged_top};
 use mdp_templates::{Memory, Name};
 use std::alloc::Allocator;
@@ -35,23 +33,6 @@ fn put_totals<A: Allocator>(
     Ok(quotes.top())
 }
 
-// Appends the lines of a good book's sides, and hands back the top of what is consolidated.
-fn put_good<A: Allocator>(
-    out: &mut Vec<u8, A>,
-    head: &Head,
-    sides: &Sides,
-) -> Result<Option<TopOfBook>, Memory>
-    ensures lines { OnOk result (out.new.items ≡ out.old.items
-        ++ sides_lines head.now sides.now) }
-    ensures err { OnErr result (BeginsWith out.new.items out.old.items) }
-    ensures top { IfOk result (λ top. top ≡ Some (top_of_quotes (quotes_of sides.now))) }
-{
-    put_direct(out, head, sides)?;
-    put_implied(out, head, sides)?;
-    let top = put_totals(out, head, sides)?;
-    Ok(Some(top))
-}
-
 /// Appends the lines of a book where an event ends: its direct, implied and consolidated sides, or the
 /// place of its first impossible entry. Hands back the top of the consolidated sides; none of a faulty
 /// book. Where memory runs out, what was there stays in front.
@@ -69,34 +50,13 @@ pub fn put_book<A: Allocator>(
     match live.book() {
         Book::Good(sides) => {
             let head = Head::new(end, name);
-            put_good(out, &head, sides)
+            put_direct(out, &head, sides)?;
+            put_implied(out, &head, sides)?;
+            let top = put_totals(out, &head, sides)?;
+            Ok(Some(top))
         }
         Book::Fault(place) => {
             put_fault(out, end, name, place)?;
-            Ok(None)
-        }
-    }
-}
-
-/// Appends the lines of a book as [`put_book`] does, of what all lines of the event end have in common.
-pub fn put_book_under<A: Allocator>(
-    out: &mut Vec<u8, A>,
-    event: &EventText,
-    name: &Name,
-    live: &Live,
-) -> Result<Option<TopOfBook>, Memory>
-    ensures ok { OnOk result (out.new.items ≡ out.old.items
-        ++ book_lines event.now name.now live.now) }
-    ensures err { OnErr result (BeginsWith out.new.items out.old.items) }
-    ensures top { IfOk result (λ top. top ≡ top_of_book live.now) }
-{
-    match live.book() {
-        Book::Good(sides) => {
-            let head = Head::under(event, name);
-            put_good(out, &head, sides)
-        }
-        Book::Fault(place) => {
-            put_fault(out, event.end(), name, place)?;
             Ok(None)
         }
     }

@@ -107,7 +107,7 @@ impl<A: Allocator + Copy> AuditedDesks<A> {
             ++ lines_as event.now (map (desk_standing event.now.packet) self.old)) }
         ensures err { OnErr result (BeginsWith out.new.items out.old.items) }
     {
-        self.desks.put_books_under(out, event)?;
+        self.desks.put_books(out, event.end())?;
         self.put_spreads(out, event)
     }
 

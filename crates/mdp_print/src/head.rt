@@ -3,8 +3,7 @@
 ghost use Rattle.std.specs.Prelude.{◌≡◌, ◌++◌, codes};
 ghost use Rattle.mdp_print.specs.Texts.{head_text};
 
-use crate::event::EventText;
-use crate::pieces::{put_event, put_event_under};
+use crate::pieces::put_event;
 use mdp_books::{EventEnd, TextFromEnd};
 use mdp_templates::Name;
 use std::marker::Model;
@@ -38,20 +37,6 @@ impl Head {
         let mut text = HeadText::new();
         text.put_bytes(b" B");
         put_event(&mut text, end, name);
-        text.put_byte(b' ');
-        text.put_byte(b'D');
-        Head { text }
-    }
-
-    /// Puts together what the lines of a book have behind their letter, of what all lines of the event end have in
-    /// common.
-    pub fn under(event: &EventText, name: &Name) -> Head
-        ensures { result ≡ head_text event.now name.now }
-    {
-        let mut text = HeadText::new();
-        text.put_byte(b'B');
-        text.put_byte(b' ');
-        put_event_under(&mut text, event, name);
         text.put_byte(b' ');
         text.put_byte(b'D');
         Head { text }

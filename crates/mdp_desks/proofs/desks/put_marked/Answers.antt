@@ -13,11 +13,11 @@ loop-n-preserved g c =
     let long = c.requires.many in
     let first = c.in-Some.ensures.some in
     let less : n < length ds = omega (arith, first.inside, long) in
-    let clear = clear_due c.args.event.now.packet ds _ c.loop-n.from n c.requires first.before in
+    let clear = clear_due c.args.end.packet ds _ c.loop-n.from n c.requires first.before in
     record {
       inside = omega (arith, less);
-      text = lines_more c.args.event.now ds c.loop-n.from n _ c.loop-n.out.items c.put_under.new.out.items _ first.behind less clear c.index-desks-n.is c.in_ok-put_under.ensures.ok c.loop-n.invariant.text;
-      front = subst (λ (ys : List ℕ). BeginsWith ys c.args.out.now.items) (sym c.in_ok-put_under.ensures.ok) (begins_more c.args.out.now.items c.loop-n.out.items _ c.loop-n.invariant.front);
+      text = lines_more c.args.end ds c.loop-n.from n _ c.loop-n.out.items c.put.new.out.items _ first.behind less clear c.index-desks-n.is c.in_ok-put.ensures.ok c.loop-n.invariant.text;
+      front = subst (λ (ys : List ℕ). BeginsWith ys c.args.out.now.items) (sym c.in_ok-put.ensures.ok) (begins_more c.args.out.now.items c.loop-n.out.items _ c.loop-n.invariant.front);
     }
 
 pub returns-clause-ok : goal.returns-clause-ok
@@ -25,10 +25,10 @@ returns-clause-ok g c =
     let ds = c.args.desks.now in
     let long = c.requires.many in
     let none = c.in_default.ensures.none in
-    let clear = clear_due c.args.event.now.packet ds _ c.loop-n.from (length ds) c.requires (λ i from under. none i from (omega (arith, under, long))) in
-    lines_end c.args.event.now ds c.loop-n.from c.loop-n.out.items _ c.loop-n.invariant.inside clear c.loop-n.invariant.text
+    let clear = clear_due c.args.end.packet ds _ c.loop-n.from (length ds) c.requires (λ i from under. none i from (omega (arith, under, long))) in
+    lines_end c.args.end ds c.loop-n.from c.loop-n.out.items _ c.loop-n.invariant.inside clear c.loop-n.invariant.text
 
-pub returns-in_err-put_under-clause-err : goal.returns-in_err-put_under-clause-err
-returns-in_err-put_under-clause-err g c =
-    let front : BeginsWith c.put_under.new.out.items c.args.out.now.items = begins_first c.args.out.now.items c.loop-n.out.items c.put_under.new.out.items c.loop-n.invariant.front c.in_err-put_under.ensures.err in
+pub returns-in_err-put-clause-err : goal.returns-in_err-put-clause-err
+returns-in_err-put-clause-err g c =
+    let front : BeginsWith c.put.new.out.items c.args.out.now.items = begins_first c.args.out.now.items c.loop-n.out.items c.put.new.out.items c.loop-n.invariant.front c.in_err-put.ensures.err in
     search rules

@@ -9,7 +9,7 @@ use Rattle.mdp_desks.proofs.desks.put_marked.Given as goal
 abbrev pub invariant-loop-n : goal.invariant-loop-n
 invariant-loop-n g l = record {
   inside : l.from ≤ length l.desks;
-  text : l.out.items ++ flat_map (text_of l.event) (map (desk_standing l.event.packet) (drop l.from l.desks)) ≡ l.initial.out.items ++ flat_map (text_of l.event) (map (desk_standing l.event.packet) l.desks);
+  text : l.out.items ++ flat_map (text_of l.end) (map (desk_standing l.end.packet) (drop l.from l.desks)) ≡ l.initial.out.items ++ flat_map (text_of l.end) (map (desk_standing l.end.packet) l.desks);
   front : BeginsWith l.out.items l.initial.out.items;
 }
 
