@@ -1,26 +1,29 @@
 -- How many packets wait, as calls change it.
-use Rattle.std.proofs.Common.{◌≡◌, ℕ, zero, suc, ◌+◌, ◌-◌, ◌≤◌, ◌<◌, Bool, true, false, cond, eqb, refl, arith, inl, inr, ap, sym, ◌∙◌}
+use Rattle.std.proofs.Common.{◌≡◌, ℕ, zero, suc, ◌+◌, ◌-◌, ◌≤◌, ◌<◌, Bool, true, false, cond, refl, arith, inl, inr, ap, sym, ◌∙◌}
 use Rattle.std.specs.Prelude.{max, min, Some, None}
 use Rattle.std.specs.Ordering.{nat_cmp}
 use Rattle.std.specs.FinMap.{FinMap, get, contains_key}
 use Rattle.std.proofs.lemmas.Grind.{common_steps}
 use Rattle.std.proofs.lemmas.Bool.{le-ltb}
-use Rattle.std.proofs.lemmas.Bool.Decides.{eqb_tells, leb_tells}
-use Rattle.mdp_window.specs.Window.{HoldsFrom, HoldsAlso}
+use Rattle.std.proofs.lemmas.Bool.Decides.{leb_tells}
+use Rattle.mdp_window.specs.Window.{HoldsFrom, HoldsAlso, count_held}
+use Rattle.mdp_window.proofs.Counts.{count_same, count_past, count_more}
 use Rattle.mdp_arbiter.specs.Fates.{held_among}
 
 one_at_most : (b : Bool) → cond b 1 0 ≤ 1
 one_at_most true = omega arith
 one_at_most false = omega arith
 
-unlike : (k n : ℕ) → k < n → eqb k n ≡ false
-unlike k n below = grind (arith, common_steps, below)
-
 module _ {T : Type 0} where
   -- at most as many as numbers
   pub few_held : (held : FinMap nat_cmp T) (first n : ℕ) → held_among held first n ≤ n
   few_held held first zero = omega arith
   few_held held first (suc n) = omega (arith, few_held held first n, one_at_most (contains_key held (first + n)))
+
+  -- what a window counts below a number
+  pub window_counts : (held : FinMap nat_cmp T) (first n : ℕ) → count_held held first n ≡ held_among held first n
+  window_counts held first zero = refl
+  window_counts held first (suc n) = ap (λ m. m + cond (contains_key held (first + n)) 1 0) (window_counts held first n)
 
   -- those of some numbers, and then those of the numbers behind them
   held_on : (held : FinMap nat_cmp T) (first m n all : ℕ) → all ≡ m + n → held_among held first all ≡ held_among held first m + held_among held (first + m) n
@@ -31,47 +34,22 @@ module _ {T : Type 0} where
       rw place (omega (arith, held_on held first m n all (omega (arith, is))))
 
   same_held : (old new : FinMap nat_cmp T) (first n : ℕ) → ((k : ℕ) → first ≤ k → k < first + n → get new k ≡ get old k) → held_among new first n ≡ held_among old first n
-  same_held old new first zero same = refl
-  same_held old new first (suc n) same =
-      let here : get new (first + n) ≡ get old (first + n) = same (first + n) (omega arith) (omega arith) in
-      let before : held_among new first n ≡ held_among old first n = same_held old new first n (λ k from below. same k from (omega (arith, below))) in
-      rw (here, before) refl
-
-  none_held : (held : FinMap nat_cmp T) (first n : ℕ) → ((k : ℕ) → first ≤ k → get held k ≡ None) → held_among held first n ≡ 0
-  none_held held first zero none = refl
-  none_held held first (suc n) none = rw (none (first + n) (omega arith), none_held held first n none) refl
+  same_held old new first n same = sym (window_counts new first n) ∙ count_same old new first n same ∙ window_counts old first n
 
   -- numbers of which none is held count nothing
   none_past : (held : FinMap nat_cmp T) (first few many : ℕ) → few ≤ many → ((k : ℕ) → first + few ≤ k → get held k ≡ None) → held_among held first many ≡ held_among held first few
-  none_past held first few many more none =
-      omega (arith, held_on held first few (many - few) many (omega (arith, more)), none_held held (first + few) (many - few) none)
+  none_past held first few many more none = sym (window_counts held first many) ∙ count_past held first few many more none ∙ window_counts held first few
 
   -- none below a number where there is none at all
   none_below : (held : FinMap nat_cmp T) (first few many : ℕ) → few ≤ many → held_among held first many ≡ 0 → held_among held first few ≡ 0
   none_below held first few many more none = omega (arith, none, held_on held first few (many - few) many (omega (arith, more)))
 
-  also_apart : (old new : FinMap nat_cmp T) (first number : ℕ) (item : T) → HoldsAlso first number item old new → (k : ℕ) → first ≤ k → eqb k number ≡ false → get new k ≡ get old k
-  also_apart old new first number item also k from apart = rw (also k, le-ltb k first from, apart) refl
-
-  also_here : (old new : FinMap nat_cmp T) (first number : ℕ) (item : T) → HoldsAlso first number item old new → first ≤ number → get new number ≡ Some item
-  also_here old new first number item also from = let same : eqb number number ≡ true = grind (arith, common_steps) in rw (also number, le-ltb number first from, same) refl
-
   -- one more is held among the numbers
   one_more : (old new : FinMap nat_cmp T) (first n number : ℕ) (item : T) → first ≤ number → number < first + n → get old number ≡ None → HoldsAlso first number item old new
       → held_among new first n ≡ held_among old first n + 1
-  one_more old new first zero number item from below absent also = absurd (omega (arith, from, below))
-  one_more old new first (suc n) number item from below absent also = elim (eqb_tells (first + n) number) [
-    | inl here ↦
-        let before : held_among new first n ≡ held_among old first n =
-        same_held old new first n (λ k least under. also_apart old new first number item also k least (unlike k number (omega (arith, under, here.1)))) in
-        let now : get new (first + n) ≡ Some item = rw here.1 (also_here old new first number item also from) in
-        let gone : get old (first + n) ≡ None = rw here.1 absent in
-        rw (now, gone, before) (omega arith)
-    | inr apart ↦
-        let other : get new (first + n) ≡ get old (first + n) = also_apart old new first number item also (first + n) (omega arith) apart.0 in
-        let under : number < first + n = omega (arith, below, apart.1) in
-        rw other (omega (arith, one_more old new first n number item from under absent also))
-  ]
+  one_more old new first n number item from below absent also =
+      let more = count_more old new first n number item from below absent (λ k least. rw (also k, le-ltb k first least) refl) in
+      sym (window_counts new first n) ∙ more ∙ ap (λ m. m + 1) (window_counts old first n)
 
   -- what is held from a number on
   later_held : (old new : FinMap nat_cmp T) (first n : ℕ) → HoldsFrom first old new → held_among new first n ≡ held_among old first n

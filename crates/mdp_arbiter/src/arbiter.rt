@@ -2,7 +2,6 @@
 
 ghost use Rattle.std.specs.Prelude.{◌≡◌, ◌≤◌, ◌<◌, ℕ, List, [], ◌∷◌, ◌++◌, ◌-◌, length, true, false, IfOk, IfSome, IfNone, Some, None, slice_get, option_copied, if◌then◌else◌};
 ghost use Rattle.std.specs.FinMap as map;
-ghost use Rattle.std.specs.FinMap.{contains_key};
 ghost use Rattle.mdp_templates.specs.Instrument.{AreFit};
 ghost use Rattle.mdp_arbiter.specs.Channel.{channel_of};
 ghost use Rattle.mdp_arbiter.specs.Accepted.{Event};
@@ -319,13 +318,6 @@ impl<A: Allocator + Copy, W: Window<Packet<A>> + Drop> Arbiter<A, W> {
         self.next.max((self.top + 1).saturating_sub(self.room))
     }
 
-    // Counts the packet of a number, where one is held.
-    fn held_at(&self, number: u64) -> u64
-        ensures { result ≡ (if contains_key self.now.held number then 1 else 0) }
-    {
-        if self.window.holds(number) { 1 } else { 0 }
-    }
-
     // Counts the packets that are held below a number: those that a window which moves up to it drops. Most often it
     // doesn't move.
     fn held_below(&self, number: u64) -> u64
@@ -338,7 +330,7 @@ impl<A: Allocator + Copy, W: Window<Packet<A>> + Drop> Arbiter<A, W> {
         self.count_below(number)
     }
 
-    // Counts them one by one, if any is held.
+    // Counts them, if any is held. None has a number past the top.
     #[inline(never)]
     fn count_below(&self, number: u64) -> u64
         ensures { result ≡ held_among self.now.held (least_held self.now)
@@ -347,12 +339,7 @@ impl<A: Allocator + Copy, W: Window<Packet<A>> + Drop> Arbiter<A, W> {
         if self.held_count == 0 {
             return 0;
         }
-        let first = self.least_held();
-        let mut count = 0;
-        for n in 0..number.min(self.top + 1).saturating_sub(first) {
-            count += self.held_at(first + n);
-        }
-        count
+        self.window.count_below(number.min(self.top + 1))
     }
 
     // Tells whether a packet of this number passes at once.

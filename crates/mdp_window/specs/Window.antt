@@ -1,8 +1,8 @@
 -- What a window holds ahead of the next number, and what its calls do to it.
-use Rattle.std.specs.Prelude.{◌≡◌, ℕ, ◌+◌, ◌-◌, ◌<◌, ◌≤◌, ◌⊎◌, Bool, true, max, nat_lt, ◌==◌, if◌then◌else◌, Option, Some, None, IsSome, refl}
+use Rattle.std.specs.Prelude.{◌≡◌, ℕ, zero, suc, ◌+◌, ◌-◌, ◌<◌, ◌≤◌, ◌⊎◌, Bool, true, max, nat_lt, ◌==◌, if◌then◌else◌, Option, Some, None, IsSome, refl}
 use Rattle.std.specs.Coded.{Coded, code_by, coded×, coded_ℕ}
 use Rattle.std.specs.Ordering.{nat_cmp}
-use Rattle.std.specs.FinMap.{FinMap, get, code}
+use Rattle.std.specs.FinMap.{FinMap, get, contains_key, code}
 use Rattle.mdp_window.specs.declared.window.Put.{Put}
 use Rattle.mdp_window.specs.declared.window.Put.TheVariants.{Kept, Back, Memory}
 
@@ -60,3 +60,12 @@ module _ {T : Type 0} where
   abbrev pub DropsBelow : ℕ → View T → View T → Type 0
   DropsBelow number old new = (new.first ≡ max old.first number) × (new.room ≡ old.room)
       × HoldsFrom new.first old.held new.held
+
+  -- under how many of so many numbers, from one on, an item is held
+  abbrev pub count_held : FinMap nat_cmp T → ℕ → ℕ → ℕ
+  count_held held first zero = 0
+  count_held held first (suc n) = count_held held first n + (if contains_key held (first + n) then 1 else 0)
+
+  -- how many items a window holds below a number
+  abbrev pub held_below : ℕ → View T → ℕ
+  held_below number v = count_held v.held v.first (number - v.first)

@@ -116,4 +116,16 @@ impl<T: Numbered + Drop, A: Allocator + Copy> Window<T> for MapWindow<T, A> {
             drop_lower(&mut self.items, number);
         }
     }
+
+    // Takes a step for each item that is held below the number, and one more.
+    fn count_below(&self, number: u64) -> u64 {
+        let mut count = 0;
+        for (key, _) in &self.items {
+            if u64::from(*key) >= number {
+                break;
+            }
+            count += 1;
+        }
+        count
+    }
 }

@@ -15,8 +15,8 @@ use std::marker::Model;
 /// to 65536, and a place is empty or holds an item.
 ///
 /// To put an item at the first number and to take it out takes constant time, with no search. A call that moves the
-/// window up takes a step for each number that it moves by, and at most as many steps as the room; where nothing is
-/// held, it takes one.
+/// window up, or counts what that drops, takes a step for each number that it moves by, and at most as many steps as
+/// the room; where nothing is held, it takes one.
 #[derive(Drop)]
 pub struct RingWindow<T: Drop, A: Allocator> {
     first: u64,
@@ -153,5 +153,14 @@ impl<T: Numbered + Drop, A: Allocator + Copy> Window<T> for RingWindow<T, A> {
             push_empty(&mut self.places, steps as usize);
         }
         self.first = number;
+    }
+
+    // Takes a step for each number from the first one on, as far as items may be held.
+    fn count_below(&self, number: u64) -> u64 {
+        let mut count = 0;
+        for n in self.first..number.min(self.end) {
+            count += u64::from(self.holds(n));
+        }
+        count
     }
 }

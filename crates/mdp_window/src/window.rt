@@ -1,8 +1,8 @@
 //! What holds the packets that came ahead of the next number.
 
-ghost use Rattle.std.specs.Prelude.{◌≡◌, ◌≤◌, ℕ, Bool};
+ghost use Rattle.std.specs.Prelude.{◌≡◌, ◌≤◌, ◌+◌, ℕ, Bool};
 ghost use Rattle.std.specs.FinMap.{contains_key};
-ghost use Rattle.mdp_window.specs.Window.{View, IsInRange, Puts, Takes, DropsBelow};
+ghost use Rattle.mdp_window.specs.Window.{View, IsInRange, Puts, Takes, DropsBelow, held_below};
 
 use mdp_templates::Packet;
 use std::alloc::Allocator;
@@ -67,4 +67,17 @@ pub trait Window<T: Numbered> {
     fn drop_below(&mut self, number: u64)
         requires { number ≤ 4294967296 }
         ensures { DropsBelow number (view self.old) (view self.new) };
+
+    /// Counts the items that are held below a number, at most one past the window's last: those that a move up to it
+    /// drops. This body asks for as many numbers as the room; an `impl` that reaches its items faster has its own.
+    fn count_below(&self, number: u64) -> u64
+        requires { number ≤ (view self.now).first + (view self.now).room }
+        ensures { result ≡ held_below number (view self.now) }
+    {
+        let mut count = 0;
+        for n in number.saturating_sub(self.capacity())..number {
+            count += u64::from(self.holds(n));
+        }
+        count
+    }
 }
