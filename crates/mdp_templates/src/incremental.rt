@@ -143,7 +143,7 @@ pub fn read_packet<A: Allocator + Copy>(alloc: A, text: &[u8]) -> Result<Packet<
 }
 
 /// Reads a packet of an incremental feed as [`read_packet`] does, in the place of another, whose room it takes: it asks
-/// for memory only where it has more entries or messages than that had room for.
+/// for memory only where that had no room yet, or has more entries or messages than that had room for.
 ///
 /// # Errors
 ///
@@ -157,6 +157,9 @@ pub fn read_packet_into<A: Allocator + Copy>(
     ensures refused { IfErr result (OnRefusal (IsRefusedAs incremental text.now)) }
 {
     let header = read_header(text)?;
+    if packet.entries.capacity() == 0 {
+        packet.entries.reserve_exact(USUAL_ENTRIES)?;
+    }
     packet.number = header.number;
     let rest = &text[Header::LENGTH..];
     let outcome = read_messages(alloc, rest, &mut packet.entries, &mut packet.spans);
