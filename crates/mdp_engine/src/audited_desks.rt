@@ -10,12 +10,12 @@ ghost use Rattle.mdp_desks.specs.Desks.{desk_at_start, desk_settled, desk_standi
 ghost use Rattle.mdp_desks.specs.Lines.{audit_text, lines_as};
 ghost use Rattle.mdp_desks.specs.Moments.{text_of_moments};
 
-use crate::audits::put_audits;
+use crate::audits::put_due_audits;
 use crate::parts::{mark_spreads, parts_of};
 use crate::spreads::{Spread, spreads_of};
 use mdp_books::EventEnd;
 use mdp_desks::{Desk, Desks, Marked};
-use mdp_print::{EventText, put_jump};
+use mdp_print::put_jump;
 use mdp_templates::{Entry, Instrument, Memory, Message, Packet, Snapshot};
 use std::alloc::Allocator;
 use std::marker::Model;
@@ -77,21 +77,17 @@ impl<A: Allocator + Copy> AuditedDesks<A> {
     }
 
     // Appends the lines of the calendar spreads that an event end audits.
-    fn put_spreads(&mut self, out: &mut Vec<u8, A>, event: &EventText) -> Result<(), Memory>
+    fn put_spreads(&mut self, out: &mut Vec<u8, A>, end: EventEnd) -> Result<(), Memory>
         ensures same { self.new ≡ self.old }
         ensures text { OnOk result (out.new.items ≡ out.old.items
-            ++ flat_map (audit_text event.now (map (desk_standing event.now.packet) self.old))
-            (map (desk_standing event.now.packet) self.old)) }
+            ++ flat_map (audit_text end (map (desk_standing end.packet) self.old))
+            (map (desk_standing end.packet) self.old)) }
         ensures err { OnErr result (BeginsWith out.new.items out.old.items) }
     {
-        mark_spreads(
-            &mut self.due,
-            self.desks.due_at(event.end().packet),
-            &self.parts,
-        );
-        put_audits(
+        mark_spreads(&mut self.due, self.desks.due_at(end.packet), &self.parts);
+        put_due_audits(
             out,
-            event,
+            end,
             self.desks.as_slice(),
             self.desks.marked(),
             &self.spreads,
@@ -101,25 +97,14 @@ impl<A: Allocator + Copy> AuditedDesks<A> {
 
     // Appends the lines that an event end owes.
     #[tactic(auto, unfolding(mdp_desks::specs::Lines::lines_as))]
-    fn put_under(&mut self, out: &mut Vec<u8, A>, event: &EventText) -> Result<(), Memory>
-        ensures same { self.new ≡ self.old }
-        ensures text { OnOk result (out.new.items ≡ out.old.items
-            ++ lines_as event.now (map (desk_standing event.now.packet) self.old)) }
-        ensures err { OnErr result (BeginsWith out.new.items out.old.items) }
-    {
-        self.desks.put_books(out, event.end())?;
-        self.put_spreads(out, event)
-    }
-
-    // Appends the lines that an event end owes, whose packet and message are put together once for all of them.
     fn put(&mut self, out: &mut Vec<u8, A>, end: EventEnd) -> Result<(), Memory>
         ensures same { self.new ≡ self.old }
         ensures text { OnOk result (out.new.items ≡ out.old.items
             ++ lines_as end (map (desk_standing end.packet) self.old)) }
         ensures err { OnErr result (BeginsWith out.new.items out.old.items) }
     {
-        self.put_under(out, &EventText::new(end))?;
-        Ok(())
+        self.desks.put_books(out, end)?;
+        self.put_spreads(out, end)
     }
 
     // Finds the desks that an event end in this packet has lines of, where some waited for it.

@@ -150,8 +150,33 @@ fn put_audit_at<A: Allocator>(
 }
 
 /// Appends the lines that an event end owes of the calendar spreads among these securities. Only spreads that are
-/// marked in `due` are looked at, and their marks go.
-pub(crate) fn put_audits<A: Allocator>(
+/// marked in `due` are looked at, and their marks go. Where none is, the event end isn't put together as text.
+pub(crate) fn put_due_audits<A: Allocator>(
+    out: &mut Vec<u8, A>,
+    end: EventEnd,
+    desks: &[Desk],
+    marked: &Marked<A>,
+    spreads: &[Spread],
+    due: &mut Marked<A>,
+) -> Result<(), Memory>
+    requires marks { marked.now ≡ marks_of desks.now }
+    requires spreads { AreSpreadsOf (listed_in desks.now) spreads.now }
+    requires many { length due.old ≡ length spreads.now }
+    requires silent { AreSilent (spread_line end desks.now) spreads.now due.old }
+    ensures long { length due.new ≡ length due.old }
+    ensures text { OnOk result (out.new.items ≡ out.old.items
+        ++ flat_map (audit_text end (map (desk_standing end.packet) desks.now))
+        (map (desk_standing end.packet) desks.now)) }
+    ensures err { OnErr result (BeginsWith out.new.items out.old.items) }
+{
+    match due.next_from(0) {
+        Some(_) => put_audits(out, &EventText::new(end), desks, marked, spreads, due),
+        None => Ok(()),
+    }
+}
+
+// Appends these lines, of what all of them have in common.
+fn put_audits<A: Allocator>(
     out: &mut Vec<u8, A>,
     event: &EventText,
     desks: &[Desk],

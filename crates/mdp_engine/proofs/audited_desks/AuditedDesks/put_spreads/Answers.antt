@@ -1,5 +1,4 @@
 use Rattle.std.proofs.Common.{List, sym, subst, arith}
-use Rattle.mdp_books.specs.declared.event_end.EventEnd.{EventEnd}
 use Rattle.mdp_desks.specs.declared.desk.Desk.{Desk}
 use Rattle.mdp_desks.specs.Beside.{AreDueAt}
 use Rattle.mdp_engine.specs.Parts.{AreDue, AreSilent, IsPart, lists_in}
@@ -12,14 +11,14 @@ mark_spreads-requires-clause-within g c slot n part =
     let below = c.self.invariant.parts_are.within slot n (subst (λ ls. IsPart (lists_in ls) slot n) c.deref.ensures.value part) in
     omega (arith, below, c.self.invariant.many)
 
-pub put_audits-requires-clause-silent : goal.put_audits-requires-clause-silent
-put_audits-requires-clause-silent g c =
+pub put_due_audits-requires-clause-silent : goal.put_due_audits-requires-clause-silent
+put_due_audits-requires-clause-silent g c =
     let inside = c.self.inside in
     let ds = c.as_slice.result.now in
-    let line = spread_line c.args.event.now ds in
+    let line = spread_line c.args.end ds in
     let marks = c.due_at.result.now in
     let due = c.mark_spreads.new.due in
-    let at = subst (λ (xs : List Desk). AreDueAt c.args.event.now.packet marks xs) (sym c.as_slice.ensures) (subst (λ (e : EventEnd). AreDueAt e.packet marks c.self.inside.desks) c.end.ensures c.due_at.ensures) in
+    let at = subst (λ (xs : List Desk). AreDueAt c.args.end.packet marks xs) (sym c.as_slice.ensures) c.due_at.ensures in
     let marked = subst (λ ls. AreDue marks (lists_in ls) due) c.deref.ensures.value c.mark_spreads.ensures.due in
     let quiet = quiet_of marks _ inside.spreads.items (lists_in inside.parts.items) due c.self.invariant.parts_are marked in
-    subst (λ ss. AreSilent line ss due) (sym c.deref-2.ensures.value) (all_silent line inside.spreads.items marks due (desks_silent c.args.event.now ds marks at) quiet)
+    subst (λ ss. AreSilent line ss due) (sym c.deref-2.ensures.value) (all_silent line inside.spreads.items marks due (desks_silent c.args.end ds marks at) quiet)
