@@ -23,7 +23,7 @@ pub struct Desks<A: Allocator> {
     marked: Marked<A>,
     // Behind a jump a desk stays marked for long, if its base lies far ahead. So that no event end before it need look
     // at it, `due` marks the desks of which an event end in a packet before `until` has lines: all others that are
-    // marked wait for `until`, or for a later packet. Where none waits `until` is 0, and no mark in `due` is kept.
+    // marked wait for `until`, or for a later packet. Where none waits `until` is 0, and `due` tells nothing.
     due: Marked<A>,
     until: u64,
 }
@@ -291,8 +291,8 @@ impl<A: Allocator + Copy> Desks<A> {
         &self.marked
     }
 
-    /// Lends a mark for each desk, in listed order. It is set for each that is marked and whose base packet `packet`
-    /// stands behind, since an event end in that packet has lines of these alone, and for none that isn't marked.
+    /// Lends a mark for each desk, in listed order. It is set for each that is marked and whose base lies before
+    /// `packet`, since an event end in that packet has lines of these alone, and for none that isn't marked.
     pub fn due_at(&self, packet: u32) -> &Marked<A>
         ensures { AreDueAt packet result.now self.now }
     {

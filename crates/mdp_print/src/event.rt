@@ -9,8 +9,8 @@ use std::marker::Model;
 // Two numbers of at most 20 digits, a dot and a space.
 type FrontText = TextFromEnd<42>;
 
-/// An event end, with its packet and message as text. It is put together once for all lines that are printed there, and
-/// takes no memory.
+/// An event end, with its packet and message as text. It is put together once for all audit lines that are printed
+/// there, and takes no memory.
 #[derive(Drop)]
 pub struct EventText {
     end: EventEnd,

@@ -52,7 +52,7 @@ pub struct ChannelState {
     pub stale: Option<usize>,
 }
 
-/// How long a datagram is at most that is read into the room of the one before, in bytes, so that this room stays small.
+/// How many bytes a datagram has at most that is read into the room of the packet before, so that the room stays small.
 const LONGEST_IN_ROOM: usize = 2048;
 
 // Gives the best level of each consolidated side of a good book. Where each of its sides is in order, these levels
@@ -367,7 +367,7 @@ impl<A: Allocator + Copy> Handler<A> {
         }
     }
 
-    // Tells whether a datagram begins with the number of the packet that comes next, and is no longer than datagrams are.
+    // Tells whether a datagram begins with the number of the packet that comes next, and may be read into the room.
     fn has_next_number(&self, bytes: &[u8]) -> bool
         ensures { result ≡ true → (header : Header) × IsHeader bytes.now header
             × (header.number ≡ self.now.arbiter.next) }
