@@ -124,7 +124,7 @@ fn look<W: Window<Packet<Global>>>(
     assert_eq!(rt; answer_to(alloc, window, Call::TakeFirst), Answer::Nothing);
 }
 
-/// Makes the first calls of the table on a new window, and sees what it then holds.
+/// Makes the first calls of the table on a new window, and sees how many items it then holds, and which.
 fn follow_and_look<W: Window<Packet<Global>>>(
     rt: &impl Abort,
     alloc: Global,
@@ -133,6 +133,9 @@ fn follow_and_look<W: Window<Packet<Global>>>(
 ) {
     assert_eq!(rt; window.capacity(), 2);
     let (first, held) = follow(rt, alloc, window, calls);
+    let [lower, upper] = held;
+    let count = u64::from(lower.is_some()) + u64::from(upper.is_some());
+    assert_eq!(rt; window.count(), Some(count));
     look(rt, alloc, window, first, held);
 }
 

@@ -1,14 +1,15 @@
 //! The arbiter of a channel's feeds.
 
-ghost use Rattle.std.specs.Prelude.{◌≡◌, ◌≤◌, ◌<◌, ℕ, List, [], ◌∷◌, ◌++◌, ◌-◌, length, true, false, IfOk, IfSome, IfNone, Some, None, slice_get, option_copied, if◌then◌else◌};
+ghost use Rattle.std.specs.Prelude.{◌≡◌, ◌≤◌, ◌<◌, ℕ, List, [], ◌∷◌, ◌++◌, length, true, false, IfOk, IfSome, IfNone, Some, None, slice_get, option_copied, if◌then◌else◌};
 ghost use Rattle.std.specs.FinMap as map;
+ghost use Rattle.std.specs.FinMap.{contains_key};
 ghost use Rattle.mdp_templates.specs.Instrument.{AreFit};
 ghost use Rattle.mdp_arbiter.specs.Channel.{channel_of};
 ghost use Rattle.mdp_arbiter.specs.Accepted.{Event};
 ghost use Rattle.mdp_arbiter.specs.Accepted.Event.{came, recovered, closed};
 ghost use Rattle.mdp_arbiter.specs.Machine.{first_state, is_lost};
 ghost use Rattle.mdp_arbiter.specs.Arbiter.{is_lost_now, least_held, state, steps_left};
-ghost use Rattle.mdp_arbiter.specs.Fates.{fate_of, fate_of_snapshot, first_stale, held_among, packet_fate, snapshot_fate, waiting};
+ghost use Rattle.mdp_arbiter.specs.Fates.{fate_of, fate_of_snapshot, first_stale, packet_fate, snapshot_fate, waiting};
 ghost use Rattle.mdp_arbiter.specs.Packets.{LetsPass, Receives, is_taken_in, passes_at_once};
 ghost use Rattle.mdp_arbiter.specs.Snapshots.{IsNewsAt, IsNotTaken, Renews};
 ghost use Rattle.mdp_arbiter.specs.Moves.{Answers, Moves, seen_move};
@@ -41,8 +42,6 @@ pub struct Standing {
 #[derive(Drop)]
 pub struct Arbiter<A: Allocator, W: Window<Packet<A>> + Drop> {
     window: W,
-    /// How many packets the window holds.
-    held_count: u64,
     room: u64,
     slots: Slots<A>,
     start: Start,
@@ -61,7 +60,6 @@ impl<A: Allocator, W: Window<Packet<A>> + Drop> Model for Arbiter<A, W> {
     ghost use Rattle.mdp_arbiter.specs.Arbiter.{View};
     ghost use Rattle.mdp_arbiter.specs.Bases.{bases_of};
     ghost use Rattle.mdp_arbiter.specs.Codes.{view_code};
-    ghost use Rattle.mdp_arbiter.specs.Fates.{held_among};
     ghost use Rattle.mdp_arbiter.specs.Fronts.{Leads};
 
     ghost Value = { View };
@@ -85,9 +83,7 @@ impl<A: Allocator, W: Window<Packet<A>> + Drop> Model for Arbiter<A, W> {
         × ((k : ℕ) → a.top < k → map.get (W.view a.window).held k ≡ None)
         × (length a.newest.items ≡ length a.slots) × (length a.bases.items ≡ length a.slots)
         × (a.joined ≡ false → a.next ≡ 1)
-        × Leads a.front a.newest.items
-        × (a.held_count ≡ held_among (W.view a.window).held (W.view a.window).first
-        (a.top + 1 - (W.view a.window).first)) };
+        × Leads a.front a.newest.items };
 }
 
 impl<A: Allocator + Copy, W: Window<Packet<A>> + Drop> Arbiter<A, W> {
@@ -113,7 +109,6 @@ impl<A: Allocator + Copy, W: Window<Packet<A>> + Drop> Arbiter<A, W> {
         let room = window.capacity();
         Ok(Arbiter {
             window,
-            held_count: 0,
             room,
             slots,
             start,
@@ -204,7 +199,10 @@ impl<A: Allocator + Copy, W: Window<Packet<A>> + Drop> Arbiter<A, W> {
     pub fn waiting(&self) -> u64
         ensures { result ≡ waiting self.now }
     {
-        self.held_count
+        match self.window.count() {
+            Some(count) => count,
+            None => self.count_one_by_one(),
+        }
     }
 
     /// Tells the first listed place, from 0, whose newest snapshot is missing, or leaves out a packet that is given up.
@@ -318,28 +316,23 @@ impl<A: Allocator + Copy, W: Window<Packet<A>> + Drop> Arbiter<A, W> {
         self.next.max((self.top + 1).saturating_sub(self.room))
     }
 
-    // Counts the packets that are held below a number: those that a window which moves up to it drops. Most often it
-    // doesn't move.
-    fn held_below(&self, number: u64) -> u64
-        ensures { result ≡ held_among self.now.held (least_held self.now)
-            (number - least_held self.now) }
+    // Counts the packet of a number, where one is held.
+    fn held_at(&self, number: u64) -> u64
+        ensures { result ≡ (if contains_key self.now.held number then 1 else 0) }
     {
-        if number <= self.next {
-            return 0;
-        }
-        self.count_below(number)
+        if self.window.holds(number) { 1 } else { 0 }
     }
 
-    // Counts them, if any is held. None has a number past the top.
-    #[inline(never)]
-    fn count_below(&self, number: u64) -> u64
-        ensures { result ≡ held_among self.now.held (least_held self.now)
-            (number - least_held self.now) }
+    // Counts the packets that wait, in a window that doesn't.
+    fn count_one_by_one(&self) -> u64
+        ensures { result ≡ waiting self.now }
     {
-        if self.held_count == 0 {
-            return 0;
+        let first = self.least_held();
+        let mut count = 0;
+        for n in 0..(self.top + 1).saturating_sub(first) {
+            count += self.held_at(first + n);
         }
-        self.window.count_below(number.min(self.top + 1))
+        count
     }
 
     // Tells whether a packet of this number passes at once.
@@ -369,11 +362,9 @@ impl<A: Allocator + Copy, W: Window<Packet<A>> + Drop> Arbiter<A, W> {
             return Put::Back(packet);
         }
         let number = u64::from(packet.number());
-        let dropped = self.held_below((number + 1).saturating_sub(self.room));
         let answer = self.window.put(packet);
         if let Put::Kept = answer {
             self.top = self.top.max(number);
-            self.held_count = self.held_count - dropped + 1;
         }
         answer
     }
@@ -425,7 +416,6 @@ impl<A: Allocator + Copy, W: Window<Packet<A>> + Drop> Arbiter<A, W> {
         }
         if !self.lost() {
             let packet = self.window.take_first()?;
-            self.held_count -= 1;
             self.next += 1;
             return Some(Step::Pass(packet));
         }
@@ -434,7 +424,6 @@ impl<A: Allocator + Copy, W: Window<Packet<A>> + Drop> Arbiter<A, W> {
         }
         let last = u64::from(least_number(&self.newest)?);
         let old = self.next;
-        self.held_count -= self.held_below(last + 1);
         self.next = last + 1;
         self.joined = true;
         self.top = self.top.max(last);

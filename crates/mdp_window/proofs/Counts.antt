@@ -1,18 +1,16 @@
--- How many items are held below a number.
-use Rattle.std.proofs.Common.{◌≡◌, ℕ, zero, suc, ◌+◌, ◌-◌, ◌≤◌, ◌<◌, true, false, cond, eqb, Less, List, [], ◌∷◌, ltb, refl, arith, inl, inr, ap, sym, ◌∙◌}
+-- How many items are held.
+use Rattle.std.proofs.Common.{◌≡◌, ℕ, zero, suc, ◌+◌, ◌≤◌, ◌<◌, Bool, true, false, cond, eqb, List, [], ◌∷◌, length, refl, arith, inl, inr, ap, sym, ◌∙◌}
 use Rattle.std.proofs.lemmas.Grind.{common_steps}
 use Rattle.std.proofs.lemmas.Bool.Decides.{eqb_tells, leb_tells}
 use Rattle.std.proofs.lemmas.Map.{lookup-none}
-use Rattle.std.proofs.lemmas.Map.Entries.{none_past_head, none_below_head}
+use Rattle.std.proofs.lemmas.Map.Entries.{none_past_head}
 use Rattle.std.proofs.lemmas.Map.Keys.{IsDistinct-from_sorted, sorted_tail}
-use Rattle.std.proofs.lemmas.List.Elements.{All-head, All-tail}
-use Rattle.std.specs.Prelude.{Some, None, min, slice_index_or}
+use Rattle.std.specs.Prelude.{Option, Some, None}
 use Rattle.std.specs.Cmp.{nat_cmp_total, eq_by_cmp_equiv}
 use Rattle.std.specs.List.Sorted.{IsStrictlySortedBy}
-use Rattle.std.specs.List.{All}
-use Rattle.std.specs.Map.{keys_of, lookup}
+use Rattle.std.specs.Map.{keys_of}
 use Rattle.std.specs.Ordering.{nat_cmp, is_eq}
-use Rattle.std.specs.FinMap.{FinMap, get, from_entries, get-empty, get-insert}
+use Rattle.std.specs.FinMap.{FinMap, get, contains_key, from_entries, get-empty, get-insert}
 use Rattle.mdp_window.specs.Window.{count_held}
 use Rattle.mdp_window.proofs.Lookups.{get-tree, is_eq-nat_cmp}
 
@@ -21,9 +19,6 @@ same_number n = grind (arith, common_steps)
 
 unlike : (k n : ℕ) → k < n → eqb k n ≡ false
 unlike k n below = grind (arith, common_steps, below)
-
-told_less : (k n : ℕ) → k < n → nat_cmp k n ≡ Less
-told_less k n below = let told : ltb k n ≡ true = grind (arith, below) in rw told refl
 
 module _ {T : Type 0} where
   -- ---- of any finite map
@@ -40,6 +35,14 @@ module _ {T : Type 0} where
   count_none held first zero none = refl
   count_none held first (suc n) none =
       rw (none (first + n) (omega arith), count_none held first n (λ k below. none k (omega (arith, below)))) refl
+
+  -- the first number, and then those behind it
+  pub count_front : (held : FinMap nat_cmp T) (first n : ℕ) → count_held held first (suc n) ≡ cond (contains_key held first) 1 0 + count_held held (first + 1) n
+  count_front held first zero = let place : first + 0 ≡ first = omega arith in rw place (omega arith)
+  count_front held first (suc n) =
+      let place : first + suc n ≡ first + 1 + n = omega arith in
+      let before = count_front held first n in
+      rw place (omega (arith, before))
 
   -- numbers of which none is held count nothing
   pub count_past : (held : FinMap nat_cmp T) (first few many : ℕ) → few ≤ many → ((k : ℕ) → first + few ≤ k → get held k ≡ None)
@@ -71,42 +74,16 @@ module _ {T : Type 0} where
             rw other (omega (arith, count_more old new first n number item from under absent also))
       ]
 
-  -- ---- of a ring's numbers, one after another
-
-  -- none is held from an end on, so the count may end there
-  pub counts_to_end : (held : FinMap nat_cmp T) (first end number n : ℕ) → ((k : ℕ) → end ≤ k → get held k ≡ None) → n - first ≡ min number end - first
-      → count_held held first (n - first) ≡ count_held held first (number - first)
-  counts_to_end held first end number n none is = elim (leb_tells number end) [
-    | inl within ↦ let same : n - first ≡ number - first = omega (arith, is, within.1) in ap (count_held held first) same
-    | inr past ↦ sym (count_past held first (n - first) (number - first) (omega (arith, is)) (λ k far. none k (omega (arith, far, is, past.1))))
-  ]
-
-  -- ---- of a tree's items, one after another
+  -- ---- of a tree's items
 
   abbrev map_of : List (ℕ × T) → FinMap nat_cmp T
   map_of es = from_entries {R = nat_cmp} es
 
-  -- how many of these items lie below a number
-  abbrev pub items_below : List (ℕ × T) → ℕ → ℕ → ℕ
-  items_below es first number = count_held (from_entries {R = nat_cmp} es) first (number - first)
-
-  -- their keys rise, from a first number on
-  abbrev pub Rises : ℕ → List (ℕ × T) → Type 0
-  Rises first es = IsStrictlySortedBy nat_cmp (keys_of es) × All (λ e. first ≤ e.0) es
-
-  -- a tree's do, where it has none below that number
-  pub rises : (es : List (ℕ × T)) (first : ℕ) → IsStrictlySortedBy nat_cmp (keys_of es) → All (λ e. lookup (λ k. is_eq (nat_cmp e.0 k)) es ≡ Some e.1) es
-      → ((k : ℕ) → k < first → get (map_of es) k ≡ None) → Rises first es
-  rises es first sorted found none =
-      let least : All (λ e. first ≤ e.0) es =
-      λ k d within. let e = slice_index_or es k d in elim (leb_tells first e.0) [
-        | inl from ↦ from.1
-        | inr below ↦ absurd (let both : Some e.1 ≡ None = sym (found k d within) ∙ sym (get-tree es e.0) ∙ none e.0 below.1 in cc)
-      ] in
-      (sorted, least)
-
   item_at : (e : ℕ × T) (es : List (ℕ × T)) (k : ℕ) → get (map_of (e ∷ es)) k ≡ cond (eqb k e.0) (Some e.1) (get (map_of es) k)
   item_at e es k = get-insert nat_cmp_total (map_of es) e.0 e.1 k ∙ ap (λ b. cond b (Some e.1) (get (map_of es) k)) (is_eq-nat_cmp k e.0)
+
+  item_here : (e : ℕ × T) (es : List (ℕ × T)) → get (map_of (e ∷ es)) e.0 ≡ Some e.1
+  item_here e es = item_at e es e.0 ∙ ap (λ b. cond b (Some e.1) (get (map_of es) e.0)) (same_number e.0)
 
   absent_after : (e : ℕ × T) (es : List (ℕ × T)) → IsStrictlySortedBy nat_cmp (keys_of (e ∷ es)) → get (map_of es) e.0 ≡ None
   absent_after e es sorted =
@@ -114,32 +91,25 @@ module _ {T : Type 0} where
       let here : is_eq (nat_cmp e.0 e.0) ≡ true = is_eq-nat_cmp e.0 e.0 ∙ same_number e.0 in
       get-tree es e.0 ∙ lookup-none _ es (none_past_head (eq_by_cmp_equiv nat_cmp_total) e.0 e es distinct here)
 
-  absent_before : (e : ℕ × T) (es : List (ℕ × T)) (k : ℕ) → IsStrictlySortedBy nat_cmp (keys_of (e ∷ es)) → k < e.0 → get (map_of (e ∷ es)) k ≡ None
-  absent_before e es k sorted below =
-      get-tree (e ∷ es) k ∙ lookup-none _ (e ∷ es) (none_below_head nat_cmp_total k e es sorted (told_less k e.0 below))
+  case_absent : (b : Bool) (item : T) (x : Option T) → cond b (Some item) x ≡ None → x ≡ None
+  case_absent true item x none = absurd (let both : Some item ≡ None = none in cc)
+  case_absent false item x none = none
 
-  -- the least item lies below the number
-  pub counts_least : (es rest : List (ℕ × T)) (e : ℕ × T) (first number : ℕ) → es ≡ e ∷ rest → Rises first es → e.0 < number
-      → (items_below es first number ≡ items_below rest first number + 1) × Rises first rest
-  counts_least es rest e first number is up below =
-      let both : Rises first (e ∷ rest) = rw is at up in
-      let from : first ≤ e.0 = All-head (λ e. first ≤ e.0) e rest both.1 in
-      let under : e.0 < first + (number - first) = omega (arith, from, below) in
-      let more : items_below (e ∷ rest) first number ≡ items_below rest first number + 1 =
-      count_more (map_of rest) (map_of (e ∷ rest)) first (number - first) e.0 e.1 from under (absent_after e rest both.0) (λ k _. item_at e rest k) in (
-        ap (λ es. items_below es first number) is ∙ more,
-        (sorted_tail nat_cmp e.0 (keys_of rest) both.0, All-tail (λ e. first ≤ e.0) e rest both.1),
-      )
+  absent_too : (e : ℕ × T) (es : List (ℕ × T)) (k : ℕ) → get (map_of (e ∷ es)) k ≡ None → get (map_of es) k ≡ None
+  absent_too e es k none = case_absent (eqb k e.0) e.1 (get (map_of es) k) (sym (item_at e es k) ∙ none)
 
-  -- it doesn't, and so none does
-  pub counts_no_more : (es rest : List (ℕ × T)) (e : ℕ × T) (first number : ℕ) → es ≡ e ∷ rest → Rises first es → number ≤ e.0
-      → items_below es first number ≡ 0
-  counts_no_more es rest e first number is up past =
-      let both : Rises first (e ∷ rest) = rw is at up in
-      let from : first ≤ e.0 = All-head (λ e. first ≤ e.0) e rest both.1 in
-      ap (λ es. items_below es first number) is
-      ∙ count_none (map_of (e ∷ rest)) first (number - first) (λ k below. absent_before e rest k both.0 (omega (arith, below, from, past)))
+  not_absent : (e : ℕ × T) (es : List (ℕ × T)) → get (map_of (e ∷ es)) e.0 ≡ None → ⊥
+  not_absent e es none = let both : Some e.1 ≡ None = sym (item_here e es) ∙ none in cc
 
-  -- no item is left
-  pub counts_nothing : (es : List (ℕ × T)) (first number : ℕ) → es ≡ [] → items_below es first number ≡ 0
-  counts_nothing es first number is = ap (λ es. items_below es first number) is ∙ count_none (map_of []) first (number - first) (λ k _. get-empty nat_cmp k)
+  -- a tree has as many items as are held, where all its keys lie among the numbers
+  pub count_items : (es : List (ℕ × T)) (first n : ℕ) → IsStrictlySortedBy nat_cmp (keys_of es) → ((k : ℕ) → k < first → get (map_of es) k ≡ None)
+      → ((k : ℕ) → first + n ≤ k → get (map_of es) k ≡ None) → length es ≡ count_held (map_of es) first n
+  count_items [] first n sorted below past = sym (count_none (map_of []) first n (λ k _. get-empty nat_cmp k))
+  count_items (e ∷ es) first n sorted below past =
+      let from : first ≤ e.0 = elim (leb_tells first e.0) [ inl up ↦ up.1 | inr less ↦ absurd (not_absent e es (below e.0 less.1)) ] in
+      let under : e.0 < first + n = elim (leb_tells (first + n) e.0) [ inl far ↦ absurd (not_absent e es (past e.0 far.1)) | inr less ↦ less.1 ] in
+      let rest : length es ≡ count_held (map_of es) first n =
+      count_items es first n (sorted_tail nat_cmp e.0 (keys_of es) sorted) (λ k less. absent_too e es k (below k less)) (λ k far. absent_too e es k (past k far)) in
+      let more : count_held (map_of (e ∷ es)) first n ≡ count_held (map_of es) first n + 1 =
+      count_more (map_of es) (map_of (e ∷ es)) first n e.0 e.1 from under (absent_after e es sorted) (λ k _. item_at e es k) in
+      omega (arith, rest, more)

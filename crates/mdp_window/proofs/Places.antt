@@ -57,7 +57,7 @@ module _ {T : Type 0} where
   case_none true x e = refl
   case_none false x e = e
 
-  next_place : (place : Option T) (places : List (Option T)) (first k : ℕ) → first < k → get_or (place ∷ places) (k - first) None ≡ get_or places (k - (first + 1)) None
+  pub next_place : (place : Option T) (places : List (Option T)) (first k : ℕ) → first < k → get_or (place ∷ places) (k - first) None ≡ get_or places (k - (first + 1)) None
   next_place place places first k above = let at : k - first - 1 ≡ k - (first + 1) = omega arith in
       get_or_tail place places (k - first) None (omega arith) ∙ ap (λ j. get_or places j None) at
 
@@ -68,7 +68,7 @@ module _ {T : Type 0} where
       → (k ≡ first → z ≡ Some item) → (first < k → z ≡ y) → w ≡ cond (ltb k first) None z
   case_item k first item w x y z f e at above = grind (arith, common_steps, is_eq-nat_cmp k first)
 
-  first_place : (place : Option T) (places : List (Option T)) (first k : ℕ) → k ≡ first → get_or (place ∷ places) (k - first) None ≡ place
+  pub first_place : (place : Option T) (places : List (Option T)) (first k : ℕ) → k ≡ first → get_or (place ∷ places) (k - first) None ≡ place
   first_place place places first k is = let at : k - first ≡ 0 = omega arith in ap (λ j. get_or (place ∷ places) j None) at
 
   -- what is held at a number stands at its place
@@ -86,6 +86,10 @@ module _ {T : Type 0} where
   -- what is held at a number from the first on
   pub held_at : (first : ℕ) (places : List (Option T)) (k : ℕ) → first ≤ k → get (held_from first places) k ≡ get_or places (k - first) None
   held_at first places k from = case_at k first _ _ (get-held_from first places k) from
+
+  -- the first number's item stands at the first place
+  pub held_first : (first : ℕ) (places : List (Option T)) → get (held_from first places) first ≡ get_or places 0 None
+  held_first first places = let at : first - first ≡ 0 = omega arith in held_at first places first (omega arith) ∙ ap (λ k. get_or places k None) at
 
   -- what a look at a place tells
   pub tells_held : (first number : ℕ) (places : List (Option T)) (seen : Option (Option T)) (answer : Bool) → first ≤ number → seen ≡ slice_get places (number - first)

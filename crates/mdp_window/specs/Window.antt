@@ -65,7 +65,3 @@ module _ {T : Type 0} where
   abbrev pub count_held : FinMap nat_cmp T → ℕ → ℕ → ℕ
   count_held held first zero = 0
   count_held held first (suc n) = count_held held first n + (if contains_key held (first + n) then 1 else 0)
-
-  -- how many items a window holds below a number
-  abbrev pub held_below : ℕ → View T → ℕ
-  held_below number v = count_held v.held v.first (number - v.first)

@@ -117,15 +117,7 @@ impl<T: Numbered + Drop, A: Allocator + Copy> Window<T> for MapWindow<T, A> {
         }
     }
 
-    // Takes a step for each item that is held below the number, and one more.
-    fn count_below(&self, number: u64) -> u64 {
-        let mut count = 0;
-        for (key, _) in &self.items {
-            if u64::from(*key) >= number {
-                break;
-            }
-            count += 1;
-        }
-        count
+    fn count(&self) -> Option<u64> {
+        Some(self.items.len() as u64)
     }
 }

@@ -1,8 +1,9 @@
 //! A window over a ring of places.
 
-ghost use Rattle.std.specs.Prelude.{◌≡◌, ◌≤◌, ◌<◌, ◌↔◌, ◌++◌, None, Some, false, length, replicate, slice_set, IfOk, IsTrue, IsSome};
+ghost use Rattle.std.specs.Prelude.{◌≡◌, ◌≤◌, ◌<◌, ◌+◌, ◌↔◌, ◌++◌, None, Some, false, length, replicate, slice_set, IfOk, IsTrue, IsSome};
 ghost use Rattle.std.specs.FinMap as map;
 ghost use Rattle.circular_buffer.specs.Buffer.{buffer, keep_last};
+ghost use Rattle.mdp_window.specs.Ring.{count_filled};
 ghost use Rattle.mdp_window.specs.Window.{View};
 
 use crate::window::{Numbered, Put, Window};
@@ -15,13 +16,15 @@ use std::marker::Model;
 /// to 65536, and a place is empty or holds an item.
 ///
 /// To put an item at the first number and to take it out takes constant time, with no search. A call that moves the
-/// window up, or counts what that drops, takes a step for each number that it moves by, and at most as many steps as
-/// the room; where nothing is held, it takes one.
+/// window up takes a step for each number that it moves by, and at most as many steps as the room; where nothing is
+/// held, it takes one.
 #[derive(Drop)]
 pub struct RingWindow<T: Drop, A: Allocator> {
     first: u64,
     /// No item stands at this number or a later one.
     end: u64,
+    /// How many items are held.
+    count: u64,
     places: HeapCircularBuffer<Option<T>, A>,
 }
 
@@ -29,7 +32,7 @@ impl<T: Drop, A: Allocator> Model for RingWindow<T, A> {
     ghost use Rattle.std.specs.Prelude.{◌≡◌, ◌≤◌, ℕ, None, length};
     ghost use Rattle.std.specs.FinMap as map;
     ghost use Rattle.mdp_window.specs.Window.{View, IsInRange, view_code};
-    ghost use Rattle.mdp_window.specs.Ring.{held_from};
+    ghost use Rattle.mdp_window.specs.Ring.{count_filled, held_from};
 
     ghost Value = { View T };
 
@@ -44,18 +47,27 @@ impl<T: Drop, A: Allocator> Model for RingWindow<T, A> {
     ghost invariant = { λ w.
         (length w.places.items ≡ w.places.capacity)
         × IsInRange (record { first = w.first; room = w.places.capacity; held = held_from w.first w.places.items })
-        × ((k : ℕ) → w.end ≤ k → map.get (held_from w.first w.places.items) k ≡ None) };
+        × ((k : ℕ) → w.end ≤ k → map.get (held_from w.first w.places.items) k ≡ None)
+        × (w.count ≡ count_filled w.places.items) };
 }
 
-// Puts this many empty places behind the others. Each takes the place of the first one, where the ring is full.
-fn push_empty<T: Drop, A: Allocator>(places: &mut HeapCircularBuffer<Option<T>, A>, count: usize)
+// Puts this many empty places behind the others. Each takes the place of the first one, where the ring is full. Tells
+// how many items fell out.
+fn push_empty<T: Drop, A: Allocator>(
+    places: &mut HeapCircularBuffer<Option<T>, A>,
+    count: usize,
+) -> u64
     requires { length places.old.items ≤ places.old.capacity }
-    ensures { places.new ≡ buffer (keep_last places.old.capacity
+    ensures moves { places.new ≡ buffer (keep_last places.old.capacity
         (places.old.items ++ replicate count None)) places.old.capacity }
+    ensures counts { result + count_filled places.new.items ≡ count_filled places.old.items }
 {
+    let mut fallen = 0;
     for _ in 0..count {
-        places.push_back(None);
+        let item = places.push_back(None).flatten();
+        fallen += u64::from(item.is_some());
     }
+    fallen
 }
 
 // Fills a place with an item, whatever it held.
@@ -87,6 +99,7 @@ impl<T: Drop, A: Allocator + Copy> RingWindow<T, A> {
         Ok(RingWindow {
             first: 1,
             end: 1,
+            count: 0,
             places,
         })
     }
@@ -132,6 +145,7 @@ impl<T: Numbered + Drop, A: Allocator + Copy> Window<T> for RingWindow<T, A> {
         let index = (number - self.first) as usize;
         fill_place(&mut self.places, index, item);
         self.end = self.end.max(number + 1);
+        self.count += 1;
         Put::Kept
     }
 
@@ -140,6 +154,7 @@ impl<T: Numbered + Drop, A: Allocator + Copy> Window<T> for RingWindow<T, A> {
             return None;
         }
         self.first += 1;
+        self.count -= 1;
         self.places.push_back(None).flatten()
     }
 
@@ -150,17 +165,12 @@ impl<T: Numbered + Drop, A: Allocator + Copy> Window<T> for RingWindow<T, A> {
         if self.first < self.end {
             let room = self.places.capacity() as u64;
             let steps = (number - self.first).min(room);
-            push_empty(&mut self.places, steps as usize);
+            self.count -= push_empty(&mut self.places, steps as usize);
         }
         self.first = number;
     }
 
-    // Takes a step for each number from the first one on, as far as items may be held.
-    fn count_below(&self, number: u64) -> u64 {
-        let mut count = 0;
-        for n in self.first..number.min(self.end) {
-            count += u64::from(self.holds(n));
-        }
-        count
+    fn count(&self) -> Option<u64> {
+        Some(self.count)
     }
 }

@@ -1,8 +1,8 @@
 //! What holds the packets that came ahead of the next number.
 
-ghost use Rattle.std.specs.Prelude.{◌≡◌, ◌≤◌, ◌+◌, ℕ, Bool};
+ghost use Rattle.std.specs.Prelude.{◌≡◌, ◌≤◌, ℕ, Bool, IfSome};
 ghost use Rattle.std.specs.FinMap.{contains_key};
-ghost use Rattle.mdp_window.specs.Window.{View, IsInRange, Puts, Takes, DropsBelow, held_below};
+ghost use Rattle.mdp_window.specs.Window.{View, IsInRange, Puts, Takes, DropsBelow, count_held};
 
 use mdp_templates::Packet;
 use std::alloc::Allocator;
@@ -68,16 +68,11 @@ pub trait Window<T: Numbered> {
         requires { number ≤ 4294967296 }
         ensures { DropsBelow number (view self.old) (view self.new) };
 
-    /// Counts the items that are held below a number, at most one past the window's last: those that a move up to it
-    /// drops. This body asks for as many numbers as the room; an `impl` that reaches its items faster has its own.
-    fn count_below(&self, number: u64) -> u64
-        requires { number ≤ (view self.now).first + (view self.now).room }
-        ensures { result ≡ held_below number (view self.now) }
+    /// Tells how many items are held, where the window keeps count of them; None where it doesn't.
+    fn count(&self) -> Option<u64>
+        ensures { IfSome result (λ n. n ≡ count_held (view self.now).held
+            (view self.now).first (view self.now).room) }
     {
-        let mut count = 0;
-        for n in number.saturating_sub(self.capacity())..number {
-            count += u64::from(self.holds(n));
-        }
-        count
+        None
     }
 }

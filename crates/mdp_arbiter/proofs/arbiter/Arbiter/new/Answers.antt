@@ -2,7 +2,6 @@ use Rattle.std.proofs.Common.{arith, refl, sym}
 use Rattle.std.specs.Ordering.{nat_cmp}
 use Rattle.std.specs.FinMap.{get-empty}
 use Rattle.mdp_arbiter.proofs.Bases.{as_many, none_at_first}
-use Rattle.mdp_arbiter.proofs.Counted.{count_none}
 use Rattle.mdp_arbiter.proofs.Renewals.{none_listed, none_each, none_either}
 use Rattle.mdp_arbiter.proofs.arbiter.Arbiter.new.Goals as goal
 
@@ -20,7 +19,6 @@ invariant_of-result g c = (
   as_many _ _ _ c.in_ok-slots.ensures c.in_ok-bases.ensures,
   λ waits. refl,
   (omega arith, refl),
-  sym (count_none _ _ _ (omega (arith, c.requires.first))),
 )
 
 pub returns-clause-stands : goal.returns-clause-stands

@@ -47,7 +47,6 @@ invariant_of-self g c =
       length-set inside.bases.items slot c.keep.new.self ∙ c.self.invariant.9,
       c.self.invariant.10,
       rw c.replace-before.ensures.after (leads_renewed inside.front slot inside.newest.items c.replace-before.result c.args.snapshot was newer c.self.invariant.11),
-      c.self.invariant.12,
     )
 
 pub returns : goal.returns
