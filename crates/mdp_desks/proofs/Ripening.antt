@@ -3,10 +3,10 @@ use Rattle.std.proofs.Common.{◌≡◌, ◌≢◌, ◌<◌, ◌≤◌, ℕ, zer
 use Rattle.std.specs.Prelude.{◌&&◌, nat_lt}
 use Rattle.std.proofs.lemmas.Bool.{cases_eq, cases_lt}
 use Rattle.std.proofs.lemmas.Bool.Decides.{nat_tests}
-use Rattle.std.proofs.lemmas.List.{length-map, length-set, get_or-map, get_or-set_same, get_or-set_other}
+use Rattle.std.proofs.lemmas.List.{length-map, get_or-map, get_or-set_same, get_or-set_other}
 use Rattle.mdp_desks.specs.declared.desk.Desk.{Desk}
 use Rattle.mdp_desks.specs.Beside.{AreAmong, AreClear, AreDueBefore, all_due_at, is_due_at, marks_of}
-use Rattle.mdp_desks.proofs.Waiting.{marked_due}
+use Rattle.mdp_desks.proofs.Waiting.{marked_due, past}
 
 -- the marks below a place are those of all desks there that are due at some packet before `until`
 abbrev pub AreFound : ℕ → ℕ → List Bool → List Desk → Type 0
@@ -19,14 +19,9 @@ opposite b set clear = cc (set, clear)
 not_due : (k i : ℕ) (ds : List Desk) → get_or (marks_of ds) i false ≡ false → get_or (all_due_at k ds) i false ≡ true → ⊥
 not_due k i ds off is = opposite (get_or (marks_of ds) i false) (marked_due k ds i is) off
 
-past : (bs : List Bool) (n : ℕ) → length bs ≤ n → get_or bs n false ≡ false
-past [] n up = refl
-past (b ∷ bs) zero up = absurd (omega (arith, up))
-past (b ∷ bs) (suc n) up = past bs n (omega (arith, up))
-
 -- one marked desk more
 pub found_more : (packet from until n base : ℕ) (marks new : List Bool) (later : ℕ) (ds : List Desk) (here : Desk) → AreClear from n (marks_of ds) → n < length ds → length marks ≡ length ds → here ≡ get_or ds n here → base ≡ here.base
-    → new ≡ cond (nat_lt base packet) (set marks n true) marks → later ≡ cond (nat_lt base packet) until (min until (base + 1)) → AreFound from until marks ds → AreFound (n + 1) later new ds
+    → new ≡ set marks n (nat_lt base packet) → later ≡ cond (nat_lt base packet) until (min until (base + 1)) → AreFound from until marks ds → AreFound (n + 1) later new ds
 found_more packet from until n base marks new later ds here clear less long at same is then found k i under inside due = by_base (nat_lt base packet) is then
   where
     here_due : i ≡ n → (k : ℕ) → get_or (all_due_at k ds) i false ≡ true → is_due_at k here ≡ true
@@ -42,30 +37,22 @@ found_more packet from until n base marks new later ds here clear less long at s
       | inr after ↦ absurd (not_due k i ds (clear i after (omega (arith, inside, other))) due)
     ]
 
-    by_base : (b : Bool) → new ≡ cond b (set marks n true) marks → later ≡ cond b until (min until (base + 1)) → get_or new i false ≡ true
+    by_base : (b : Bool) → new ≡ set marks n b → later ≡ cond b until (min until (base + 1)) → get_or new i false ≡ true
     by_base true is then = ap (λ (ms : List Bool). get_or ms i false) is ∙ elim (cases_eq i n) [
       | inl one ↦ ap (λ (j : ℕ). get_or (set marks n true) j false) one ∙ get_or-set_same marks n true false (omega (arith, less, long))
       | inr other ↦ get_or-set_other marks n i true false other ∙ below (omega (arith, under, then)) other
     ]
     by_base false is then = ap (λ (ms : List Bool). get_or ms i false) is ∙ elim (cases_eq i n) [
       | inl one ↦ absurd (not_before here.marked k here.base (here_due one k due) (omega (arith, under, then, same)))
-      | inr other ↦ below (omega (arith, under, then)) other
+      | inr other ↦ get_or-set_other marks n i false false other ∙ below (omega (arith, under, then)) other
     ]
 
--- it is a marked one's mark that was set
-pub only_more : (b : Bool) (n : ℕ) (marks new : List Bool) (ds : List Desk) → length marks ≡ length ds → n < length ds → get_or (marks_of ds) n false ≡ true → new ≡ cond b (set marks n true) marks → AreAmong marks (marks_of ds) → AreAmong new (marks_of ds)
-only_more b n marks new ds long less marked is only i on = by_set b is
-  where
-    by_set : (b : Bool) → new ≡ cond b (set marks n true) marks → get_or (marks_of ds) i false ≡ true
-    by_set false is = only i (sym (ap (λ (ms : List Bool). get_or ms i false) is) ∙ on)
-    by_set true is = elim (cases_eq i n) [
-      | inl one ↦ ap (λ (j : ℕ). get_or (marks_of ds) j false) one ∙ marked
-      | inr other ↦ only i (sym (ap (λ (ms : List Bool). get_or ms i false) is ∙ get_or-set_other marks n i true false other) ∙ on)
-    ]
-
-pub long_more : (b : Bool) (n : ℕ) (marks new : List Bool) → new ≡ cond b (set marks n true) marks → length new ≡ length marks
-long_more true n marks new is = ap length is ∙ length-set marks n true
-long_more false n marks new is = ap length is
+-- it is a marked one's mark that was put
+pub only_more : (b : Bool) (n : ℕ) (marks new : List Bool) (ds : List Desk) → get_or (marks_of ds) n false ≡ true → new ≡ set marks n b → AreAmong marks (marks_of ds) → AreAmong new (marks_of ds)
+only_more b n marks new ds marked is only i on = elim (cases_eq i n) [
+  | inl one ↦ ap (λ (j : ℕ). get_or (marks_of ds) j false) one ∙ marked
+  | inr other ↦ only i (sym (ap (λ (ms : List Bool). get_or ms i false) is ∙ get_or-set_other marks n i b false other) ∙ on)
+]
 
 -- no other waits for this packet
 pub later_more : (b : Bool) (packet until base later : ℕ) → nat_lt base packet ≡ b → later ≡ cond b until (min until (base + 1)) → packet < until → packet < later
@@ -73,10 +60,11 @@ later_more true packet until base later under is before = omega (arith, is, befo
 later_more false packet until base later under is before = grind (arith, nat_tests, under, is, before)
 
 -- and none is left
-pub found_all : (from until : ℕ) (marks : List Bool) (ds : List Desk) → length marks ≡ length ds → AreAmong marks (marks_of ds) → AreClear from (length ds) (marks_of ds) → AreFound from until marks ds → AreDueBefore until marks ds
-found_all from until marks ds long only clear found = record {
+pub found_all : (packet from until : ℕ) (marks : List Bool) (ds : List Desk) → packet < until → length marks ≡ length ds → AreAmong marks (marks_of ds) → AreClear from (length ds) (marks_of ds) → AreFound from until marks ds → AreDueBefore until marks ds
+found_all packet from until marks ds later long only clear found = record {
   many = long;
   due = λ k under. record { many = long; only = only; all = λ n is. all k n under is };
+  none = λ no. absurd (omega (arith, later, no));
 }
   where
     all : (k n : ℕ) → k < until → get_or (all_due_at k ds) n false ≡ true → get_or marks n false ≡ true

@@ -1,13 +1,15 @@
 -- Of which desks an event end has lines, and the marks that are set for these.
 use Rattle.std.proofs.Common.{◌≡◌, ◌≢◌, ◌<◌, ◌≤◌, ℕ, zero, suc, Bool, true, false, List, [], ◌∷◌, cond, length, map, get_or, set, refl, sym, ap, subst, ◌∙◌, arith, inl, inr}
-use Rattle.std.specs.Prelude.{◌&&◌, nat_lt}
-use Rattle.std.proofs.lemmas.Bool.{cases_eq}
+use Rattle.std.specs.Prelude.{Option, Some, None, ◌&&◌, nat_lt}
+use Rattle.std.proofs.lemmas.Bool.{cases_eq, cases_lt}
 use Rattle.std.proofs.lemmas.Bool.Decides.{nat_tests}
 use Rattle.std.proofs.lemmas.List.{map-set, length-map, length-set, get_or-map, get_or-set_same, get_or-set_other}
 use Rattle.mdp_desks.specs.declared.desk.Desk.{Desk}
 use Rattle.mdp_templates.specs.declared.entry.Entry.{Entry}
 use Rattle.mdp_books.specs.declared.book.Place.{Place}
-use Rattle.mdp_desks.specs.Desks.{desk_entered}
+use Rattle.mdp_templates.specs.Snapshot.{SnapshotContent}
+use Rattle.mdp_desks.specs.Desks.{desk_entered, desk_jumped, rebased_desks}
+use Rattle.mdp_desks.proofs.Hearing.{length_rebased}
 use Rattle.mdp_desks.specs.Beside.{AreAmong, AreClear, AreDueAt, AreDueBefore, all_due_at, is_due_at, marks_of}
 
 -- ---- one desk
@@ -97,6 +99,7 @@ pub due_entered : (until : ℕ) (place : Place) (entry : Entry) (ds : List Desk)
 due_entered until place entry ds marks new n here before less at is = record {
   many = long (nat_lt 0 until && nat_lt (desk_entered place entry here).base place.packet) is ∙ before.many ∙ sym (length-set ds n (desk_entered place entry here));
   due = λ k under. by_base k (before.due k under) (some k under) (nat_lt here.base place.packet) refl is;
+  none = λ no. subst (λ (ms : List Bool). AreClear 0 (length ms) ms) (sym (is ∙ rw no refl)) (before.none no);
 }
   where
     long : (b : Bool) → new ≡ cond b (set marks n true) marks → length new ≡ length marks
@@ -129,8 +132,27 @@ due_entered until place entry ds marks new n here before less at is = record {
 
 -- ---- the desks that wait
 
-pub none_waits : (ds : List Desk) (marks : List Bool) → length marks ≡ length ds → AreDueBefore 0 marks ds
-none_waits ds marks long = record { many = long; due = λ k under. absurd (omega (arith, under)) }
+pub past : (bs : List Bool) (n : ℕ) → length bs ≤ n → get_or bs n false ≡ false
+past [] n up = refl
+past (b ∷ bs) zero up = absurd (omega (arith, up))
+past (b ∷ bs) (suc n) up = past bs n (omega (arith, up))
+
+pub cleared : (marks : List Bool) (n : ℕ) → get_or (map (λ _. false) marks) n false ≡ false
+cleared [] n = refl
+cleared (b ∷ marks) zero = refl
+cleared (b ∷ marks) (suc n) = cleared marks n
+
+-- none waits, and no mark is set
+pub none_waits : (ds : List Desk) (marks : List Bool) → length marks ≡ length ds → AreClear 0 (length marks) marks → AreDueBefore 0 marks ds
+none_waits ds marks long clear = record { many = long; due = λ k under. absurd (omega (arith, under)); none = λ _. clear }
+
+-- the marks are those of marked desks
+among : (until : ℕ) (marks : List Bool) (ds : List Desk) → AreDueBefore until marks ds → AreAmong marks (marks_of ds)
+among zero marks ds before n is = absurd (cc (is, off))
+  where
+    off : get_or marks n false ≡ false
+    off = elim (cases_lt n (length marks)) [ inl inside ↦ before.none refl n (omega arith) inside | inr outside ↦ past marks n outside ]
+among (suc until) marks ds before n is = (before.due 0 (omega arith)).only n is
 
 -- at packet 0 none is due
 none_at_first : (k n : ℕ) (ds : List Desk) → k < 1 → get_or (all_due_at k ds) n false ≡ true → ⊥
@@ -142,27 +164,28 @@ none_at_first k zero (d ∷ ds) first is = by_mark d.marked is
     by_mark false is = cc is
 none_at_first k (suc n) (d ∷ ds) first is = none_at_first k n ds first is
 
--- where none is due no mark is needed
-none_due : (until : ℕ) (ds : List Desk) (marks old : List Bool) → marks ≡ map (λ _. false) old → length old ≡ length ds → ((k n : ℕ) → k < until → get_or (all_due_at k ds) n false ≡ true → ⊥) → AreDueBefore until marks ds
-none_due until ds marks old are long none = record {
+-- a jump takes no mark away
+jumped_marked : (base : Option SnapshotContent) (d : Desk) → d.marked ≡ true → (desk_jumped base d).marked ≡ true
+jumped_marked None d is = is
+jumped_marked (Some s) d is = refl
+
+marks_rebased : (bases : List (Option SnapshotContent)) (ds : List Desk) → AreAmong (marks_of ds) (marks_of (rebased_desks bases ds))
+marks_rebased bases [] n is = is
+marks_rebased [] (d ∷ ds) n is = is
+marks_rebased (base ∷ bases) (d ∷ ds) zero is = jumped_marked base d is
+marks_rebased (base ∷ bases) (d ∷ ds) (suc n) is = marks_rebased bases ds n is
+
+-- so the marks of before it will do up to the first packet
+pub due_rebased : (until : ℕ) (marks : List Bool) (bases : List (Option SnapshotContent)) (ds : List Desk) → AreDueBefore until marks ds → AreDueBefore 1 marks (rebased_desks bases ds)
+due_rebased until marks bases ds before = record {
   many = many;
   due = λ k under. record {
     many = many;
-    only = λ n is. absurd (opposite (get_or marks n false) is (ap (λ (ms : List Bool). get_or ms n false) are ∙ cleared old n));
-    all = λ n is. absurd (none k n under is);
+    only = λ n is. marks_rebased bases ds n (among until marks ds before n is);
+    all = λ n is. absurd (none_at_first k n (rebased_desks bases ds) under is);
   };
+  none = λ no. absurd (omega (arith, no));
 }
   where
-    many : length marks ≡ length ds
-    many = ap length are ∙ length-map old (λ (b : Bool). false) ∙ long
-
-    opposite : (b : Bool) → b ≡ true → b ≡ false → ⊥
-    opposite b set clear = cc (set, clear)
-
-    cleared : (marks : List Bool) (n : ℕ) → get_or (map (λ _. false) marks) n false ≡ false
-    cleared [] n = refl
-    cleared (b ∷ marks) zero = refl
-    cleared (b ∷ marks) (suc n) = cleared marks n
-
-pub due_at_first : (ds : List Desk) (marks old : List Bool) → marks ≡ map (λ _. false) old → length old ≡ length ds → AreDueBefore 1 marks ds
-due_at_first ds marks old are long = none_due 1 ds marks old are long (λ k n under. none_at_first k n ds under)
+    many : length marks ≡ length (rebased_desks bases ds)
+    many = before.many ∙ sym (length_rebased bases ds)

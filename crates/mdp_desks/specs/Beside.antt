@@ -59,7 +59,8 @@ pub record AreDueAt (packet : ℕ) (marks : List Bool) (desks : List Desk) : Typ
   pub only : AreAmong marks (marks_of desks)
   pub all : AreAmong (all_due_at packet desks) marks
 
--- these will do at each packet before this one
+-- these will do at each packet before this one, and where there is none before it, no mark is set
 pub record AreDueBefore (until : ℕ) (marks : List Bool) (desks : List Desk) : Type 0 where
   pub many : length marks ≡ length desks
   pub due : (k : ℕ) → k < until → AreDueAt k marks desks
+  pub none : until ≡ 0 → AreClear 0 (length marks) marks

@@ -23,7 +23,7 @@ pub struct Desks<A: Allocator> {
     marked: Marked<A>,
     // Behind a jump a desk stays marked for long, if its base lies far ahead. So that no event end before it need look
     // at it, `due` marks the desks of which an event end in a packet before `until` has lines: all others that are
-    // marked wait for `until`, or for a later packet. Where none waits `until` is 0, and `due` tells nothing.
+    // marked wait for `until`, or for a later packet. Where none waits `until` is 0, and `due` marks none.
     due: Marked<A>,
     until: u64,
 }
@@ -141,8 +141,8 @@ fn clear_all<A: Allocator>(marks: &mut Marked<A>, count: usize)
     }
 }
 
-// Sets the mark of a desk whose base the packet stands behind. Another one waits for the packet behind its base; tells
-// the least of that and of those that others wait for.
+// Sets the mark of a desk whose base the packet stands behind, and takes away that of another one, which waits for the
+// packet behind its base; tells the least of that and of those that others wait for.
 fn ripen_one<A: Allocator>(
     due: &mut Marked<A>,
     at: usize,
@@ -151,18 +151,19 @@ fn ripen_one<A: Allocator>(
     until: u64,
 ) -> u64
     requires { at < length due.old }
-    ensures due { due.new ≡ if nat_lt base packet then set due.old at true else due.old }
+    ensures due { due.new ≡ set due.old at (nat_lt base packet) }
     ensures until { result ≡ if nat_lt base packet then until else min until (base + 1) }
 {
     if packet > base {
         due.put(at, true);
         return until;
     }
+    due.put(at, false);
     until.min(u64::from(base) + 1)
 }
 
 // Sets the marks of the desks that are due at a packet, of those that are marked, and tells the first packet that one
-// of the others waits for; 0 where none waits.
+// of the others waits for. Where none waits it tells 0, and takes the marks away.
 #[inline(never)]
 fn ripen_all<A: Allocator>(
     desks: &[Desk],
@@ -182,11 +183,36 @@ fn ripen_all<A: Allocator>(
         until = ripen_one(due, n, desks[n].base, packet, until);
         from = n + 1;
     }
-    if until == u64::MAX { 0 } else { until }
+    if until < u64::MAX {
+        return until;
+    }
+    clear_all(due, desks.len());
+    0
 }
 
-// Forgets the marks where an event ended, while desks wait for packet `until`, and tells up to which packet the marks
-// of `due` will do then. From `until` on, where `ripen` was not asked first, all that are marked are looked at.
+// Finds the desks that are due at a packet, where desks have waited for packet `until`, and tells the first packet that
+// one waits for then; 0 where none waits any more. Before `until` the marks of before will do.
+fn ripened<A: Allocator>(
+    desks: &[Desk],
+    marked: &Marked<A>,
+    due: &mut Marked<A>,
+    until: u64,
+    packet: u32,
+) -> u64
+    requires marks { marked.now ≡ marks_of desks.now }
+    requires some { 0 < until }
+    requires due { AreDueBefore until due.old desks.now }
+    ensures due { AreDueBefore result due.new desks.now }
+    ensures later { 0 < result → packet < result }
+{
+    if u64::from(packet) < until {
+        return until;
+    }
+    ripen_all(desks, marked, due, packet)
+}
+
+// Forgets the marks where an event ended, while desks wait for packet `until` or a later one, and tells the first
+// packet that one waits for then; 0 where none waits any more.
 #[cold]
 fn settle_waiting<A: Allocator>(
     desks: &mut [Desk],
@@ -196,19 +222,19 @@ fn settle_waiting<A: Allocator>(
     packet: u32,
 ) -> u64
     requires marks { marked.old ≡ marks_of desks.old }
+    requires some { 0 < until }
     requires due { AreDueBefore until due.old desks.old }
     ensures desks { desks.new ≡ map (desk_settled packet) desks.old }
     ensures marks { marked.new ≡ marks_of desks.new }
-    ensures until { result ≡ if nat_lt packet until then until else 1 }
     ensures due { AreDueBefore result due.new desks.new }
 {
-    if u64::from(packet) < until {
+    let until = ripened(desks, marked, due, until, packet);
+    if until == 0 {
+        settle_all(desks, marked, packet);
+    } else {
         settle_due(desks, marked, due, packet);
-        return until;
     }
-    clear_all(due, desks.len());
-    settle_all(desks, marked, packet);
-    1
+    until
 }
 
 // Replaces each desk's book by the snapshot beside it, where there is one, and marks it.
@@ -308,8 +334,8 @@ impl<A: Allocator + Copy> Desks<A> {
     pub fn ripen(&mut self, packet: u32)
         ensures { self.new ≡ self.old }
     {
-        if self.until > 0 && u64::from(packet) >= self.until {
-            self.until = ripen_all(&self.desks, &self.marked, &mut self.due, packet);
+        if self.until > 0 {
+            self.until = ripened(&self.desks, &self.marked, &mut self.due, self.until, packet);
         }
     }
 
@@ -387,7 +413,6 @@ impl<A: Allocator + Copy> Desks<A> {
     pub fn rebase(&mut self, bases: &[Option<Snapshot>])
         ensures { self.new ≡ rebased_desks bases.now self.old }
     {
-        clear_all(&mut self.due, self.desks.len());
         self.until = 1;
         rebase_all(&mut self.desks, &mut self.marked, bases);
     }
@@ -396,7 +421,6 @@ impl<A: Allocator + Copy> Desks<A> {
     pub fn rebase_from(&mut self, slots: &[u16], snapshots: &[Snapshot])
         ensures { self.new ≡ rebased_desks (snapshots_at slots.now snapshots.now) self.old }
     {
-        clear_all(&mut self.due, self.desks.len());
         self.until = 1;
         rebase_at(&mut self.desks, &mut self.marked, slots, snapshots);
     }

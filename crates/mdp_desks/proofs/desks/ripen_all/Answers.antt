@@ -1,9 +1,9 @@
 use Rattle.std.proofs.Common.{rules, ◌≡◌, ◌<◌, true, false, nat_lt, List, Bool, Fits, w32, length, get_or, ap, subst, sym, ◌∙◌, refl, arith}
-use Rattle.std.proofs.lemmas.List.{length-map}
+use Rattle.std.proofs.lemmas.List.{length-map, length-set}
 use Rattle.mdp_desks.specs.declared.desk.Desk.{Desk}
 use Rattle.mdp_desks.specs.Beside.{AreClear}
-use Rattle.mdp_desks.proofs.Waiting.{none_waits}
-use Rattle.mdp_desks.proofs.Ripening.{found_all, found_more, later_more, long_more, only_more}
+use Rattle.mdp_desks.proofs.Waiting.{cleared, none_waits}
+use Rattle.mdp_desks.proofs.Ripening.{found_all, found_more, later_more, only_more}
 use Rattle.mdp_desks.proofs.desks.ripen_all.Goals as goal
 
 pub loop-n-init : goal.loop-n-init
@@ -39,23 +39,23 @@ loop-n-preserved g c =
     let put = c.ripen_one-until.ensures.due in
     record {
       inside = omega (arith, less);
-      many = long_more (nat_lt base c.args.packet) n c.loop-n.due _ put ∙ was.many;
-      only = only_more (nat_lt base c.args.packet) n c.loop-n.due _ ds was.many less marked put was.only;
+      many = ap length put ∙ length-set c.loop-n.due n (nat_lt base c.args.packet) ∙ was.many;
+      only = only_more (nat_lt base c.args.packet) n c.loop-n.due _ ds marked put was.only;
       found = found_more c.args.packet c.loop-n.from c.loop-n.until n base c.loop-n.due _ _ ds here clear less was.many c.index-desks-n.is same put c.ripen_one-until.ensures.until was.found;
       later = later_more (nat_lt base c.args.packet) c.args.packet c.loop-n.until base _ refl c.ripen_one-until.ensures.until was.later;
     }
 
-pub returns-then-until-clause-due : goal.returns-then-until-clause-due
-returns-then-until-clause-due g c = none_waits c.args.desks.now c.loop-n.due c.loop-n.invariant.many
-
-pub returns-else-until-clause-due : goal.returns-else-until-clause-due
-returns-else-until-clause-due g c =
+pub returns-then-until-lt18446744073709551615-clause-due : goal.returns-then-until-lt18446744073709551615-clause-due
+returns-then-until-lt18446744073709551615-clause-due g c =
     let ds = c.args.desks.now in
     let was = c.loop-n.invariant in
     let long : length c.args.marked.now ≡ length ds = ap length c.requires.marks ∙ simp length-map refl in
     let none = c.in_default.ensures.none in
     let clear = subst (λ (ms : List Bool). AreClear c.loop-n.from (length ds) ms) c.requires.marks (λ i from under. none i from (omega (arith, under, long))) in
-    found_all c.loop-n.from c.loop-n.until c.loop-n.due ds was.many was.only clear was.found
+    found_all c.args.packet c.loop-n.from c.loop-n.until c.loop-n.due ds was.later was.many was.only clear was.found
 
-pub returns-else-until-clause-later : goal.returns-else-until-clause-later
-returns-else-until-clause-later g c = λ _. c.loop-n.invariant.later
+pub returns-clause-due : goal.returns-clause-due
+returns-clause-due g c =
+    let is = c.clear_all.ensures in
+    let many : length c.clear_all.new.marks ≡ length c.args.desks.now = ap length is ∙ length-map c.loop-n.due (λ _. false) ∙ c.loop-n.invariant.many in
+    none_waits c.args.desks.now c.clear_all.new.marks many (λ n from under. ap (λ (ms : List Bool). get_or ms n false) is ∙ cleared c.loop-n.due n)

@@ -5,7 +5,7 @@ use Rattle.mdp_desks.specs.declared.desk.Desk.{Desk}
 use Rattle.mdp_desks.specs.Desks.{rebased_desks}
 use Rattle.mdp_desks.specs.Beside.{listed_in, AreBeside, AreDueBefore}
 use Rattle.mdp_desks.proofs.Hearing.{length_rebased}
-use Rattle.mdp_desks.proofs.Waiting.{due_at_first}
+use Rattle.mdp_desks.proofs.Waiting.{due_rebased}
 use Rattle.mdp_desks.proofs.Passing.{depths_kept}
 use Rattle.mdp_desks.proofs.Showing.{listed_rebased}
 use Rattle.mdp_desks.proofs.desks.Desks.rebase.Goals as goal
@@ -19,8 +19,8 @@ invariant_of-self g c =
     let long : length after ≡ inside.desks.len = ap length c.rebase_all.ensures.desks ∙ length_rebased bases _ ∙ c.deref_mut.ensures.len in
     let kept = take_at after (drop (length after) inside.desks.items) inside.desks.len long in
     let listed : listed_in after ≡ listed_in inside.desks.items = ap listed_in is ∙ listed_rebased bases inside.desks.items in
-    let due = due_at_first after c.clear_all.new.marks inside.due c.clear_all.ensures (c.self.invariant.1.many ∙ sym (ap length is ∙ length_rebased bases inside.desks.items)) in
-    subst (λ (ds : List Desk). AreBeside ds inside.slots c.rebase_all.new.marked × AreDueBefore 1 c.clear_all.new.marks ds) (sym kept)
+    let due = subst (λ (ds : List Desk). AreDueBefore 1 inside.due ds) (sym is) (due_rebased inside.until inside.due bases inside.desks.items c.self.invariant.1) in
+    subst (λ (ds : List Desk). AreBeside ds inside.slots c.rebase_all.new.marked × AreDueBefore 1 inside.due ds) (sym kept)
     (record { same = c.self.invariant.0.same ∙ ap ids_of (sym listed); differ = c.self.invariant.0.differ; marks_are = c.rebase_all.ensures.marks; depths = depths_kept _ _ listed c.self.invariant.0.depths }, due)
 
 pub rebase_all-requires-clause-depths : goal.rebase_all-requires-clause-depths

@@ -19,7 +19,7 @@ invariant_of-self g c =
     let kept = take_at after (drop (length after) inside.desks.items) inside.desks.len long in
     let listed : listed_in after ≡ listed_in inside.desks.items = ap listed_in is ∙ listed_settled c.args.packet inside.desks.items in
     let none : 0 ≡ inside.until = omega (arith, c.if-self-eq0.true) in
-    let due = subst (λ (n : ℕ). AreDueBefore n inside.due after) none (none_waits after inside.due (c.self.invariant.1.many ∙ sym many)) in
+    let due = subst (λ (n : ℕ). AreDueBefore n inside.due after) none (none_waits after inside.due (c.self.invariant.1.many ∙ sym many) (c.self.invariant.1.none (sym none))) in
     subst (λ (ds : List Desk). AreBeside ds inside.slots c.settle_all.new.marked × AreDueBefore inside.until inside.due ds) (sym kept)
     (record { same = c.self.invariant.0.same ∙ ap ids_of (sym listed); differ = c.self.invariant.0.differ; marks_are = c.settle_all.ensures.marks; depths = depths_kept _ _ listed c.self.invariant.0.depths }, due)
 
