@@ -4,6 +4,7 @@ ghost use Rattle.std.specs.Prelude.{◌≡◌, IfOk, length};
 ghost use Rattle.std.specs.FinMap as map;
 ghost use Rattle.mdp_templates.specs.Instrument.{AreFit};
 
+use crate::uncounted::Uncounted;
 use arrayvec::{ArrayString, ArrayVec};
 use mdp_arbiter::{Arbiter, PacketFate, Start, Step};
 use mdp_templates::{Instrument, InstrumentKind, Name, Packet, Snapshot, are_fit};
@@ -376,6 +377,13 @@ fn follow_three<W: Window<Packet<Global>> + Drop>(
     Ok(())
 }
 
+/// The same over each window, and over one that keeps no count of what it holds.
+fn follow_three_over_all(rt: &impl Abort, alloc: Global, table: &[KeptRow]) -> Result<(), Fail> {
+    follow_three(rt, alloc, MapWindow::new(alloc, 4), table)?;
+    follow_three(rt, alloc, RingWindow::new(alloc, 4)?, table)?;
+    follow_three(rt, alloc, Uncounted::new(alloc, 4), table)
+}
+
 #[test]
 fn a_snapshot_is_fresh_up_to_the_packet_as_far_ahead_as_the_room(
     rt: HostRuntime,
@@ -399,8 +407,7 @@ fn a_snapshot_is_fresh_up_to_the_packet_as_far_ahead_as_the_room(
         (Call::Snapshot(1, 29), Some(2), 11, 1),
         (Call::Snapshot(3, 28), None, 29, 1),
     ];
-    follow_three(&rt, rt.alloc(), MapWindow::new(rt.alloc(), 4), &table)?;
-    follow_three(&rt, rt.alloc(), RingWindow::new(rt.alloc(), 4)?, &table)
+    follow_three_over_all(&rt, rt.alloc(), &table)
 }
 
 #[test]
@@ -425,8 +432,7 @@ fn packets_that_wait_are_counted(rt: HostRuntime) -> Result<(), Fail> {
         (Call::Packet(46, 1), None, 48, 0),
         (Call::Packet(48, 1), None, 49, 0),
     ];
-    follow_three(&rt, rt.alloc(), MapWindow::new(rt.alloc(), 4), &table)?;
-    follow_three(&rt, rt.alloc(), RingWindow::new(rt.alloc(), 4)?, &table)
+    follow_three_over_all(&rt, rt.alloc(), &table)
 }
 
 #[test]

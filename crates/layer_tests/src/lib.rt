@@ -14,4 +14,6 @@ mod receiver;
 #[cfg(test)]
 mod reports;
 #[cfg(test)]
+mod uncounted;
+#[cfg(test)]
 mod window;
