@@ -63,7 +63,8 @@ impl FreshFront {
     // these are fresh. Else nothing is known.
     fn while_fresh(&self, top: u64, room: u64) -> FreshFront
         requires { room ≤ 65536 }
-        ensures { result ≡ (if nat_le top (self.now.least + room) then self.now else nothing_known) }
+        ensures { result
+            ≡ (if nat_le top (self.now.least + room) then self.now else nothing_known) }
     {
         if top <= u64::from(self.least) + room {
             return *self;

@@ -77,8 +77,8 @@ fn best_of(book: &Book) -> Option<TopOfBook>
 }
 
 /// A handler of one channel. It takes the datagrams of the channel's feeds as they come, keeps the books of the listed
-/// securities, and holds the lines of the event ends until they are cleared; nothing else of it grows. A slot is a
-/// security's place among the instruments, from 0.
+/// securities, and holds the lines of the event ends until they are cleared; nothing else of it grows, but for room for
+/// a packet of some 10 KB. A slot is a security's place among the instruments, from 0.
 ///
 /// Once memory has run out the handler has failed: it takes no more datagrams, and the lines that it holds may break
 /// off anywhere. All else is answered as before.
@@ -383,7 +383,8 @@ impl<A: Allocator + Copy> Handler<A> {
     // Takes a datagram of feed A or B that bears the number of the packet that comes next. Such a packet mostly passes
     // at once, and is read into the room of the one before; one that doesn't takes the room along.
     fn take_next(&mut self, alloc: A, bytes: &[u8]) -> Result<Taken, Memory>
-        ensures taken { IfOk result (λ taken. TakesDatagram Feed.A bytes.now taken self.old self.new) }
+        ensures taken { IfOk result
+            (λ taken. TakesDatagram Feed.A bytes.now taken self.old self.new) }
         ensures front { BeginsWith self.new.held self.old.held }
     {
         match read_packet_into(alloc, bytes, &mut self.room) {
