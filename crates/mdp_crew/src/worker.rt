@@ -14,7 +14,7 @@ use crate::order::Order;
 use crate::share::Share;
 use mdp_arbiter::Turn;
 use mdp_lanes::{LaneReceiver, LaneSender};
-use mdp_reports::{Answer, Reports, Room, Worker};
+use mdp_reports::{Answer, RecentRoom, Reports, Worker};
 use mdp_templates::Memory;
 use std::alloc::Allocator;
 use std::sync::Wait;
@@ -35,8 +35,8 @@ pub struct Working<A: Allocator + Copy> {
     number: u16,
     // how many steps it made
     step: u64,
-    // for as much as was reported last
-    room: Room,
+    // how much was reported lately
+    room: RecentRoom,
 }
 
 // Takes orders up to the last.
@@ -70,13 +70,13 @@ impl<A: Allocator + Copy> Working<A> {
             (map move_of turns.now) self.old.worker.desks) }
         ensures ends { self.new.ends ≡ self.old.ends }
     {
-        let mut reports = Reports::with_room(alloc, self.room)?;
+        let mut reports = Reports::with_room(alloc, self.room.room_for(turns.len()))?;
         for turn in turns {
             self.step = self.step.saturating_add(1);
             gate.arrive(usize::from(self.number), self.step);
             self.worker.report_turn(turn, &mut reports)?;
         }
-        self.room = reports.room();
+        self.room.count(turns.len(), reports.room());
         Ok(reports)
     }
 
@@ -134,7 +134,7 @@ pub fn work<R: Wait, G: Gate, A: Allocator + Copy>(
         ends,
         number,
         step: 0,
-        room: Room::none(),
+        room: RecentRoom::none(),
     };
     for _ in rt.forever() {
         if !working.answer_one(rt, gate, alloc) {

@@ -13,6 +13,7 @@ mod merge;
 mod reporting;
 mod reports;
 mod rest;
+mod room;
 mod row;
 mod worker;
 
@@ -26,5 +27,6 @@ pub use laws::{
 };
 pub use reports::{Reports, Room};
 pub use rest::Rest;
+pub use room::RecentRoom;
 pub use row::{Heading, Line};
 pub use worker::Worker;

@@ -18,9 +18,9 @@ use std::marker::Model;
 /// How much reports hold, so that the next ones can be made with room for as much.
 #[derive(Clone, Copy)]
 pub struct Room {
-    bytes: usize,
-    rows: usize,
-    marks: usize,
+    pub(crate) bytes: usize,
+    pub(crate) rows: usize,
+    pub(crate) marks: usize,
 }
 
 impl Room {
@@ -126,7 +126,7 @@ fn rows_between(rows: &[Row], from: usize, to: usize) -> &[Row]
 }
 
 impl<A: Allocator + Copy> Reports<A> {
-    /// Makes a list with no reports, with room for as much as others held, and a quarter more of bytes.
+    /// Makes a list with no reports, with room for as much as others held, and a quarter more.
     ///
     /// # Errors
     ///
@@ -136,8 +136,8 @@ impl<A: Allocator + Copy> Reports<A> {
     {
         Ok(Reports {
             bytes: Vec::with_capacity(alloc, room.bytes.saturating_add(room.bytes / 4))?,
-            rows: Vec::with_capacity(alloc, room.rows)?,
-            marks: Vec::with_capacity(alloc, room.marks)?,
+            rows: Vec::with_capacity(alloc, room.rows.saturating_add(room.rows / 4))?,
+            marks: Vec::with_capacity(alloc, room.marks.saturating_add(room.marks / 4))?,
         })
     }
 
