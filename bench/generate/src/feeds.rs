@@ -2,7 +2,8 @@
 
 use crate::packets::Packets;
 use crate::random::Random;
-use crate::shape::{BURST_LENGTH, MOST_PLACES_LATE, Shape};
+use crate::shape::{BURST_LENGTH, Gaps, MOST_PLACES_LATE, Shape};
+use crate::snapshots::SnapshotFeed;
 use std::cmp::Reverse;
 use std::collections::{BTreeSet, BinaryHeap};
 
@@ -50,15 +51,15 @@ pub struct Feeds {
     lost: BTreeSet<u32>,
     waiting: BinaryHeap<Reverse<Arrival>>,
     serial: u64,
-    /// The security whose snapshot comes next.
-    turn: usize,
+    snapshots: SnapshotFeed,
 }
 
 impl Feeds {
     pub fn new(packets: Packets, shape: Shape, seed: u64) -> Feeds {
         let mut random = Random::new(seed, "feeds");
-        let lost = bursts(&shape, &mut random);
-        Feeds { packets, shape, random, next: Some(1), lost, waiting: BinaryHeap::new(), serial: 0, turn: 0 }
+        let lost = lost_on_both(&shape, &mut random);
+        let snapshots = SnapshotFeed::new(shape.snapshots);
+        Feeds { packets, shape, random, next: Some(1), lost, waiting: BinaryHeap::new(), serial: 0, snapshots }
     }
 
     fn put(&mut self, time: u64, feed: Feed, bytes: Vec<u8>) {
@@ -66,7 +67,7 @@ impl Feeds {
         self.waiting.push(Reverse(Arrival { time, serial: self.serial, feed, bytes }));
     }
 
-    /// Sends a packet on both feeds, and a snapshot where it is time for one.
+    /// Sends a packet on both feeds, and the snapshots that follow it.
     fn send(&mut self, number: u32) {
         let bytes = self.packets.packet(number);
         let now = u64::from(number) * PLACE;
@@ -81,12 +82,9 @@ impl Feeds {
                 }
             }
         }
-        // No number but 0 is a multiple of 0.
-        if number.is_multiple_of(self.shape.snapshot_every) {
-            let snapshot = self.packets.snapshot(self.turn, number);
-            self.turn = (self.turn + 1) % self.packets.market.list.len();
+        for datagram in self.snapshots.after_packet(number, &self.packets, &mut self.random) {
             let time = now + PLACE * 9 / 10 + self.random.below(PLACE as usize) as u64;
-            self.put(time, Feed::S, snapshot);
+            self.put(time, Feed::S, datagram);
         }
     }
 
@@ -114,15 +112,19 @@ impl Feeds {
     }
 }
 
-/// Chooses the packets that are lost on both feeds: so many in a row, evenly spread, with some play.
-fn bursts(shape: &Shape, random: &mut Random) -> BTreeSet<u32> {
-    let span = shape.packets.unwrap_or(0) / (shape.bursts + 1);
-    (1..=shape.bursts)
-        .flat_map(|place| {
-            let first = span * place + random.below(span as usize / 4 + 1) as u32;
-            first..first + BURST_LENGTH
-        })
-        .collect()
+/// Gives the packets that are lost on both feeds.
+fn lost_on_both(shape: &Shape, random: &mut Random) -> BTreeSet<u32> {
+    let packets = shape.packets.unwrap_or(0);
+    let in_a_row = |first: u32| first..first + BURST_LENGTH;
+    match shape.gaps {
+        Gaps::Bursts(count) => {
+            let span = packets / (count + 1);
+            let mut first = |place| span * place + random.below(span as usize / 4 + 1) as u32;
+            (1..=count).flat_map(|place| in_a_row(first(place))).collect()
+        }
+        Gaps::One(number) => BTreeSet::from([number]),
+        Gaps::Spans(span) => (1..packets.div_ceil(span)).flat_map(|place| in_a_row(span * place + 1)).collect(),
+    }
 }
 
 impl Iterator for Feeds {
@@ -172,7 +174,7 @@ mod tests {
     fn a_seed_gives_the_same_packets_whatever_is_lost() {
         let one = arrivals("lossy", |_| {});
         assert!(one == arrivals("lossy", |_| {}));
-        let other = arrivals("lossy", |shape| (shape.lost, shape.late, shape.bursts) = (0, 0, 0));
+        let other = arrivals("lossy", |shape| (shape.lost, shape.late, shape.gaps) = (0, 0, Gaps::Bursts(0)));
         let (one, other) = (first_copies(&one), first_copies(&other));
         assert_eq!(other.len(), 3_000);
         assert_eq!(one.len(), 3_000 - 20 * BURST_LENGTH as usize);

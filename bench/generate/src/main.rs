@@ -7,6 +7,7 @@ mod packets;
 mod pcap;
 mod random;
 mod shape;
+mod snapshots;
 mod text;
 
 use feeds::Feeds;
@@ -21,7 +22,9 @@ use std::process::ExitCode;
 const HELP: &str = "\
 Usage: generate PRESET [options] > file
 
-Presets: small, day, wide, lossy, deep, endless (goes on for as long as it is read)
+Presets: small, day, wide, lossy, deep, endless (goes on for as long as it is read);
+awkward ones: one_leg, silent, snapshots (for a handler run with --window 512),
+spread_bases (for --window 65536)
 
       --form FORM     text (a capture) or pcap [default: text]
       --channel FILE  with pcap: writes the instruments and the feeds' addresses to FILE
@@ -89,10 +92,9 @@ impl Arguments {
 }
 
 /// Writes all that was asked for.
-fn generate(arguments: Arguments) -> io::Result<()> {
+fn generate(arguments: Arguments, mut out: impl Write) -> io::Result<()> {
     let Arguments { shape, form, channel, seed, datagrams } = arguments;
     let market = Market::new(&shape, seed);
-    let mut out = BufWriter::with_capacity(1 << 18, io::stdout().lock());
     if let Some(file) = channel {
         let mut file = BufWriter::new(File::create(file)?);
         pcap::write_channel(&market, &mut file)?;
@@ -115,7 +117,7 @@ fn generate(arguments: Arguments) -> io::Result<()> {
 
 fn main() -> ExitCode {
     let outcome = match Arguments::of(std::env::args().skip(1)) {
-        Ok(Some(arguments)) => generate(arguments),
+        Ok(Some(arguments)) => generate(arguments, BufWriter::with_capacity(1 << 18, io::stdout().lock())),
         Ok(None) => io::stdout().write_all(HELP.as_bytes()),
         Err(why) => {
             eprintln!("{why}\n\n{HELP}");

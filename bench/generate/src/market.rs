@@ -3,6 +3,7 @@
 use crate::datagram::{Action, Entry, Level};
 use crate::random::Random;
 use crate::shape::Shape;
+use std::collections::BTreeSet;
 
 /// A price of one, in units of 10^-9.
 const ONE: i64 = 1_000_000_000;
@@ -10,8 +11,8 @@ const ONE: i64 = 1_000_000_000;
 /// How many expiries of one product there are.
 const EXPIRIES: usize = 8;
 
-/// How many levels a direct side has at most.
-const DEPTH: usize = 10;
+/// How many levels the exchange keeps of a direct side, where an instrument's line says nothing else.
+pub const DEPTH: usize = 10;
 
 /// How many levels an implied side has at most.
 const IMPLIED_DEPTH: usize = 2;
@@ -29,6 +30,8 @@ pub struct Security {
     pub legs: Option<(usize, usize)>,
     /// Bids, offers, implied bids, implied offers.
     pub sides: [Vec<Level>; 4],
+    /// How many levels a direct side has at most.
+    most_levels: usize,
     tick: i64,
     /// Where its prices begin.
     middle: i64,
@@ -37,7 +40,7 @@ pub struct Security {
 }
 
 impl Security {
-    fn outright(place: usize, random: &mut Random) -> Security {
+    fn outright(place: usize, most_levels: usize, random: &mut Random) -> Security {
         const MONTHS: [char; 4] = ['H', 'M', 'U', 'Z'];
         let (product, expiry) = (place / EXPIRIES, place % EXPIRIES);
         let letter = |number: usize| char::from(b'A' + (number % 26) as u8);
@@ -49,19 +52,23 @@ impl Security {
             name,
             legs: None,
             sides: Default::default(),
+            most_levels,
             tick: ONE / 4,
             middle: middle * ONE,
             weight: 1_000_000 / (10 + 15 * expiry as u32 + 4 * product as u32),
         }
     }
 
-    fn spread(place: usize, legs: (usize, usize), list: &[Security], random: &mut Random) -> Security {
+    fn spread(place: usize, legs: (usize, usize), list: &[Security], shape: &Shape, random: &mut Random) -> Security {
         let (bought, sold) = (&list[legs.0], &list[legs.1]);
+        // The spreads of a hub have the same legs, and a number instead.
+        let name = if shape.is_hub { format!("SP{}", place + 1) } else { format!("{}-{}", bought.name, sold.name) };
         Security {
             id: (200_000 + 61 * place + random.below(40)) as i32,
-            name: format!("{}-{}", bought.name, sold.name),
+            name,
             legs: Some(legs),
             sides: Default::default(),
+            most_levels: shape.spread_levels,
             tick: ONE / 20,
             middle: bought.middle - sold.middle,
             weight: 350_000 / (10 + place as u32),
@@ -81,12 +88,34 @@ impl Security {
     fn best(&self, side: usize) -> Option<Level> {
         self.sides[side].first().copied()
     }
+
+    /// Gives how many levels the exchange keeps of a direct side: always ten of a spread's.
+    pub fn depth(&self) -> usize {
+        if self.legs.is_some() { DEPTH } else { self.most_levels }
+    }
+
+    /// Tells whether a new level may come into the middle of a side: there is room, or the exchange drops the last one.
+    fn takes_one_more(&self, side: usize) -> bool {
+        self.sides[side].len() < self.most_levels || self.most_levels == self.depth()
+    }
+}
+
+/// Chooses two expiries of one product, at most three apart, that are no pair yet.
+fn new_pair(outrights: usize, pairs: &mut BTreeSet<(usize, usize)>, random: &mut Random) -> (usize, usize) {
+    loop {
+        let bought = random.below(outrights);
+        let sold = bought + 1 + random.below(3);
+        if sold / EXPIRIES == bought / EXPIRIES && sold < outrights && pairs.insert((bought, sold)) {
+            return (bought, sold);
+        }
+    }
 }
 
 pub struct Market {
     pub list: Vec<Security>,
     random: Random,
     is_deep: bool,
+    is_hub: bool,
     weights: Vec<u32>,
     /// Of each security the spreads of which it is a leg.
     spreads_of: Vec<Vec<usize>>,
@@ -96,23 +125,25 @@ impl Market {
     pub fn new(shape: &Shape, seed: u64) -> Market {
         let mut random = Random::new(seed, "market");
         let mut list: Vec<Security> =
-            (0..shape.outrights).map(|place| Security::outright(place, &mut random)).collect();
+            (0..shape.outrights).map(|place| Security::outright(place, shape.outright_levels, &mut random)).collect();
         let mut spreads_of = vec![Vec::new(); shape.outrights + shape.spreads];
-        let mut pairs = std::collections::BTreeSet::new();
-        while pairs.len() < shape.spreads {
-            // Two expiries of one product, at most three apart.
-            let bought = random.below(shape.outrights);
-            let sold = bought + 1 + random.below(3);
-            if sold / EXPIRIES != bought / EXPIRIES || sold >= shape.outrights || !pairs.insert((bought, sold)) {
-                continue;
-            }
+        let mut pairs = BTreeSet::new();
+        for place in 0..shape.spreads {
+            let (bought, sold) = match shape.is_hub {
+                true => (place % 2, 1 - place % 2),
+                false => new_pair(shape.outrights, &mut pairs, &mut random),
+            };
             spreads_of[bought].push(list.len());
             spreads_of[sold].push(list.len());
-            let spread = Security::spread(pairs.len() - 1, (bought, sold), &list, &mut random);
+            let spread = Security::spread(place, (bought, sold), &list, shape, &mut random);
             list.push(spread);
         }
         let weights = list.iter().map(|security| security.weight).collect();
-        Market { list, random, is_deep: shape.is_deep, weights, spreads_of }
+        Market { list, random, is_deep: shape.is_deep, is_hub: shape.is_hub, weights, spreads_of }
+    }
+
+    pub fn is_hub(&self) -> bool {
+        self.is_hub
     }
 
     pub fn random(&mut self) -> &mut Random {
@@ -120,10 +151,22 @@ impl Market {
     }
 
     /// Gives the sides that are filled before the market moves, each as often as it gets a level, the last one first.
+    /// In a hub the implied sides of all spreads come after the direct ones.
     pub fn opening(&self) -> Vec<(usize, usize)> {
-        let levels = |security: &Security| if security.legs.is_some() && !self.is_deep { DEPTH / 2 } else { DEPTH };
+        let levels = |security: &Security| match security.legs {
+            Some(_) if !self.is_deep => security.most_levels.div_ceil(2),
+            _ => security.most_levels,
+        };
         let sides = |(place, security)| [0, 1].map(|side| std::iter::repeat_n((place, side), levels(security)));
-        self.list.iter().enumerate().rev().flat_map(sides).flatten().collect()
+        let direct = self.list.iter().enumerate().rev().flat_map(sides).flatten();
+        let implied = if self.is_hub { self.spreads_of[0].as_slice() } else { &[] };
+        let implied = implied.iter().rev().flat_map(|&place| [(place, 3), (place, 2)]);
+        implied.chain(direct).collect()
+    }
+
+    /// Makes an entry for a side of the opening.
+    pub fn opening_entry(&mut self, security: usize, side: usize) -> Entry {
+        if side < 2 { self.append(security, side) } else { self.implied_entry(security, side) }
     }
 
     /// Chooses the securities of an event.
@@ -151,7 +194,8 @@ impl Market {
             (false, Some(_)) => 6_000,
         };
         if self.random.happens(implied) {
-            self.implied_entry(security)
+            let side = 2 + self.random.below(2);
+            self.implied_entry(security, side)
         } else if self.is_deep {
             self.deep_entry(security)
         } else {
@@ -159,8 +203,22 @@ impl Market {
         }
     }
 
+    /// Makes the entries of an event in a hub: so many of the first outright, now and then with an implied one of a
+    /// spread that stands on it.
+    pub fn entries_of_hub(&mut self, count: usize) -> Vec<Entry> {
+        const WITH_A_SPREAD: u32 = 2_500;
+        let mut entries: Vec<Entry> = (0..count).map(|_| self.direct_entry(0)).collect();
+        if self.random.happens(WITH_A_SPREAD) {
+            let spreads = &self.spreads_of[0];
+            let spread = spreads[self.random.below(spreads.len())];
+            let side = 2 + self.random.below(2);
+            entries.push(self.implied_entry(spread, side));
+        }
+        entries
+    }
+
     /// Makes a new last level of a direct side.
-    pub fn append(&mut self, security: usize, side: usize) -> Entry {
+    fn append(&mut self, security: usize, side: usize) -> Entry {
         let size = self.size();
         let ticks = if self.random.below(8) == 0 { 2 } else { 1 };
         let this = &self.list[security];
@@ -191,11 +249,12 @@ impl Market {
     /// Applies an entry to the book and gives it.
     fn enter(&mut self, security: usize, side: usize, action: Action, place: usize, level: Level) -> Entry {
         let this = &mut self.list[security];
+        let depth = this.depth();
         let levels = &mut this.sides[side];
         match action {
             Action::New => {
                 levels.insert(place, level);
-                levels.truncate(if side < 2 { DEPTH } else { IMPLIED_DEPTH });
+                levels.truncate(if side < 2 { depth } else { IMPLIED_DEPTH });
             }
             Action::Change => levels[place] = level,
             Action::Delete => _ = levels.remove(place),
@@ -213,7 +272,7 @@ impl Market {
         self.enter(security, side, Action::Delete, place, Level { price: 0, size: 0 })
     }
 
-    /// Makes a new level one tick better than the one at a place, if nothing stands there.
+    /// Makes a new level one tick better than the one at a place, if nothing stands there and the side takes one more.
     fn insert(&mut self, security: usize, side: usize, place: usize) -> Option<Entry> {
         let this = &self.list[security];
         let price = this.sides[side][place].price - this.away(side);
@@ -221,7 +280,7 @@ impl Market {
             0 => this.best(1 - side).is_none_or(|other| Security::is_better(1 - side, price, other.price)),
             _ => Security::is_better(side, this.sides[side][place - 1].price, price),
         };
-        if !is_free {
+        if !is_free || !this.takes_one_more(side) {
             return None;
         }
         let level = Level { price, size: self.size() };
@@ -233,7 +292,8 @@ impl Market {
         if let Some(entry) = self.insert(security, side, place) {
             return entry;
         }
-        if self.list[security].sides[side].len() < DEPTH {
+        let this = &self.list[security];
+        if this.sides[side].len() < this.most_levels {
             self.append(security, side)
         } else {
             self.delete(security, side, place)
@@ -242,10 +302,11 @@ impl Market {
 
     /// Makes a direct entry, more often near the top than below.
     fn direct_entry(&mut self, security: usize) -> Entry {
-        const LEAST_LEVELS: usize = 6;
         let side = self.random.below(2);
         let count = self.list[security].sides[side].len();
-        if count < LEAST_LEVELS {
+        let most = self.list[security].most_levels;
+        // Six tenths of its levels are there at least.
+        if count < (most * 6).div_ceil(10) {
             return self.append(security, side);
         }
         if self.is_wide_open(security)
@@ -262,7 +323,7 @@ impl Market {
             0 => self.change_size(security, side, place),
             1 => self.insert_or_else(security, side, place),
             2 => self.delete(security, side, place),
-            _ if count < DEPTH => self.append(security, side),
+            _ if count < most => self.append(security, side),
             _ => self.change_size(security, side, count - 1),
         }
     }
@@ -310,9 +371,8 @@ impl Market {
         }
     }
 
-    /// Makes an implied entry, near what the legs make.
-    fn implied_entry(&mut self, security: usize) -> Entry {
-        let side = 2 + self.random.below(2);
+    /// Makes an implied entry of a side, near what the legs make.
+    fn implied_entry(&mut self, security: usize, side: usize) -> Entry {
         let mut level = self.implied_level(security, side);
         let away = self.list[security].away(side);
         level.price += [-away, away, 0][self.random.pick(&[1, 2, 7])];

@@ -9,6 +9,12 @@ const FIRST_TIME: u64 = 1_750_000_000_000_000_000;
 /// How far apart packets are sent, in nanoseconds.
 pub const PACKET_TIME: u64 = 25_000;
 
+/// How often a message has one to six entries.
+const ENTRIES: [u32; 6] = [36, 29, 15, 10, 6, 4];
+
+/// How many entries a message has while the market opens.
+const OPENING_ENTRIES: usize = 6;
+
 /// Gives the sending time of a packet in nanoseconds since 1970.
 pub fn time_of(packet: u32) -> u64 {
     FIRST_TIME + u64::from(packet) * PACKET_TIME
@@ -36,6 +42,11 @@ impl Packets {
         const HOW_MANY: [u32; 3] = [60, 27, 13];
         let time = time_of(number);
         let mut datagram = Datagram::new(number, time);
+        if self.market.is_hub() {
+            // An event of one message, and nothing else.
+            datagram.put_book(time, true, &self.entries_of_hub(), false);
+            return datagram.into_bytes();
+        }
         for _ in 0..=self.market.random().pick(&HOW_MANY) {
             self.put_message(&mut datagram, time);
         }
@@ -66,24 +77,34 @@ impl Packets {
 
     /// Makes the entries of a message; the first messages open the market.
     fn entries(&mut self) -> Vec<Entry> {
-        const HOW_MANY: [u32; 6] = [36, 29, 15, 10, 6, 4];
-        const OPENING: usize = 6;
-        let count = if self.opening.is_empty() { 1 + self.market.random().pick(&HOW_MANY) } else { OPENING };
+        let count = if self.opening.is_empty() { 1 + self.market.random().pick(&ENTRIES) } else { OPENING_ENTRIES };
         let mut entries = Vec::with_capacity(count);
         for _ in 0..count {
             entries.push(match self.opening.pop() {
-                Some((security, side)) => self.market.append(security, side),
+                Some((security, side)) => self.market.opening_entry(security, side),
                 None => self.market.entry_for_one_of(&self.securities),
             });
         }
         entries
     }
 
-    /// Makes the datagram of a snapshot of one security as it is after packet `last`.
-    pub fn snapshot(&self, security: usize, last: u32) -> Vec<u8> {
-        let security = &self.market.list[security];
+    /// Makes the entries of an event in a hub; the first events open the market.
+    fn entries_of_hub(&mut self) -> Vec<Entry> {
+        if self.opening.is_empty() {
+            let count = 1 + self.market.random().pick(&ENTRIES);
+            return self.market.entries_of_hub(count);
+        }
+        let sides = (0..OPENING_ENTRIES).map_while(|_| self.opening.pop());
+        sides.map(|(security, side)| self.market.opening_entry(security, side)).collect()
+    }
+
+    /// Makes a datagram with snapshots of some securities as they are after packet `last`.
+    pub fn snapshots(&self, securities: &[usize], last: u32) -> Vec<u8> {
         let mut datagram = Datagram::new(1, 0);
-        datagram.put_snapshot(security.id, last, &security.sides);
+        for security in securities {
+            let security = &self.market.list[*security];
+            datagram.put_snapshot(security.id, last, &security.sides);
+        }
         datagram.into_bytes()
     }
 }

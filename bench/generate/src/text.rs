@@ -1,7 +1,7 @@
 //! A capture: instruments and datagrams as lines of text.
 
 use crate::feeds::Arrival;
-use crate::market::Market;
+use crate::market::{DEPTH, Market};
 use std::io::{self, Write};
 
 /// Writes a line for each instrument.
@@ -9,7 +9,8 @@ pub fn write_instruments(market: &Market, out: &mut impl Write) -> io::Result<()
     for security in &market.list {
         let (id, name) = (security.id, &security.name);
         match security.legs {
-            None => writeln!(out, "I {id} {name} O")?,
+            None if security.depth() == DEPTH => writeln!(out, "I {id} {name} O")?,
+            None => writeln!(out, "I {id} {name} O {}", security.depth())?,
             Some((bought, sold)) => {
                 writeln!(out, "I {id} {name} C {} {}", market.list[bought].id, market.list[sold].id)?;
             }
