@@ -151,6 +151,7 @@ impl Iterator for Feeds {
 mod tests {
     use super::*;
     use crate::market::Market;
+    use crate::shape::Snapshots;
     use std::collections::BTreeMap;
 
     fn arrivals(preset: &str, change: impl FnOnce(&mut Shape)) -> Vec<Arrival> {
@@ -179,6 +180,41 @@ mod tests {
         assert_eq!(other.len(), 3_000);
         assert_eq!(one.len(), 3_000 - 20 * BURST_LENGTH as usize);
         assert!(one.iter().all(|(number, bytes)| other[number] == *bytes));
+    }
+
+    #[test]
+    fn both_feeds_lose_what_the_preset_says() {
+        for (preset, wanted) in [
+            ("one_leg", [].as_slice()),
+            ("silent", &[1_000]),
+            ("spread_bases", &[1_000]),
+            ("snapshots", &[2_801, 2_802, 2_803]),
+        ] {
+            let copies = arrivals(preset, |_| {});
+            let copies = first_copies(&copies);
+            let lost: Vec<u32> = (1..=3_000).filter(|number| !copies.contains_key(number)).collect();
+            assert_eq!(lost, wanted, "{preset}");
+        }
+        let lost = lost_on_both(&Shape::of_preset("snapshots").unwrap(), &mut Random::new(5, "feeds"));
+        assert_eq!(lost.into_iter().step_by(3).collect::<Vec<u32>>(), [2_801, 5_601, 8_401, 11_201, 14_001]);
+    }
+
+    #[test]
+    fn snapshots_come_right_after_their_packet() {
+        let is_soon = |snapshot: &Arrival, number: u32| {
+            let sent = u64::from(number) * PLACE;
+            (sent + PLACE * 9 / 10..sent + PLACE * 2).contains(&snapshot.time)
+        };
+        let snapshots = |arrivals: Vec<Arrival>| arrivals.into_iter().filter(|arrival| arrival.feed == Feed::S);
+        // The number stands behind the headers of the packet and of its first message.
+        let last = |snapshot: &Arrival| u32::from_le_bytes(*snapshot.bytes[22..].first_chunk().unwrap());
+        let silent: Vec<Arrival> = snapshots(arrivals("silent", |_| {})).collect();
+        assert_eq!(silent.len(), 6_000);
+        assert!(silent.iter().all(|snapshot| is_soon(snapshot, last(snapshot))));
+        let at_once = Snapshots::AtOnce { first: 20, apart: 3, after: 2_000 };
+        let at_once: Vec<Arrival> = snapshots(arrivals("spread_bases", |shape| shape.snapshots = at_once)).collect();
+        assert_eq!(at_once.len(), 512);
+        assert!(at_once.iter().all(|snapshot| is_soon(snapshot, 2_000)));
     }
 
     #[test]

@@ -134,3 +134,51 @@ fn main() -> ExitCode {
         }
     }
 }
+
+#[cfg(test)]
+mod tests {
+    use super::*;
+
+    /// Gives what is written for such words, in a form.
+    fn written(words: &str, form: Form) -> Vec<u8> {
+        let arguments = Arguments::of(words.split_whitespace().map(String::from)).unwrap().unwrap();
+        let mut out = Vec::new();
+        generate(Arguments { form, ..arguments }, &mut out).unwrap();
+        out
+    }
+
+    #[test]
+    fn a_seed_gives_the_same_bytes() {
+        for preset in PRESETS {
+            for form in [Form::Text, Form::Pcap] {
+                let of_seed = |seed| written(&format!("{preset} --packets 1100 --seed {seed}"), form.clone());
+                let one = of_seed(3);
+                assert!(one == of_seed(3), "{preset}");
+                assert!(one != of_seed(4), "{preset}");
+                let spoilt = written(&format!("{preset} --packets 1100 --seed 3 --spoilt 500"), form.clone());
+                assert!(one != spoilt && spoilt.len() < one.len(), "{preset}");
+            }
+        }
+    }
+
+    #[test]
+    fn a_preset_is_cut_after_so_many_datagrams() {
+        for preset in PRESETS {
+            let text = String::from_utf8(written(&format!("{preset} --datagrams 900"), Form::Text)).unwrap();
+            let (instruments, datagrams): (Vec<&str>, Vec<&str>) = text.lines().partition(|line| line.starts_with('I'));
+            assert!((1..=512).contains(&instruments.len()), "{preset}");
+            assert_eq!(datagrams.len(), 900, "{preset}");
+            assert!(datagrams.iter().all(|line| line.len() <= 2 + 2 * 2_048), "{preset}");
+        }
+    }
+
+    #[test]
+    fn instruments_say_a_depth_that_is_not_ten() {
+        let outrights = |preset: &str, depth: &str| {
+            let text = String::from_utf8(written(&format!("{preset} --datagrams 0"), Form::Text)).unwrap();
+            text.lines().filter(|line| line.ends_with(depth)).count()
+        };
+        assert_eq!((outrights("wide", " O"), outrights("wide", " O 3")), (400, 0));
+        assert_eq!((outrights("silent", " O"), outrights("silent", " O 3")), (0, 400));
+    }
+}

@@ -61,7 +61,7 @@ impl Security {
 
     fn spread(place: usize, legs: (usize, usize), list: &[Security], shape: &Shape, random: &mut Random) -> Security {
         let (bought, sold) = (&list[legs.0], &list[legs.1]);
-        // The spreads of a hub have the same legs, and a number instead.
+        // The spreads of a hub have the same legs, so that only a number tells them apart.
         let name = if shape.is_hub { format!("SP{}", place + 1) } else { format!("{}-{}", bought.name, sold.name) };
         Security {
             id: (200_000 + 61 * place + random.below(40)) as i32,
@@ -403,5 +403,67 @@ impl Market {
             }
             _ => self.enter(security, side, Action::Change, 0, Level { price: best.price, ..level }),
         }
+    }
+}
+
+#[cfg(test)]
+mod tests {
+    use super::*;
+
+    /// Gives the market of a preset, with its books filled.
+    fn opened(preset: &str) -> Market {
+        let mut market = Market::new(&Shape::of_preset(preset).unwrap(), 5);
+        for (security, side) in market.opening().into_iter().rev() {
+            market.opening_entry(security, side);
+        }
+        market
+    }
+
+    /// Gives the most levels that a side of outrights, of spreads, and an implied side have while a market moves.
+    fn most_levels(preset: &str) -> [usize; 3] {
+        let mut market = opened(preset);
+        let mut most = [0; 3];
+        for _ in 0..20_000 {
+            let securities = market.securities_of_event();
+            market.entry_for_one_of(&securities);
+            for security in securities.into_iter().map(|place| &market.list[place]) {
+                for (side, levels) in security.sides.iter().enumerate() {
+                    let which = if side > 1 { 2 } else { usize::from(security.legs.is_some()) };
+                    most[which] = levels.len().max(most[which]);
+                }
+            }
+        }
+        most
+    }
+
+    #[test]
+    fn books_have_as_many_levels_as_their_shape_says() {
+        assert_eq!(most_levels("day"), [10, 10, 2]);
+        assert_eq!(most_levels("silent"), [3, 3, 2]);
+    }
+
+    #[test]
+    fn all_spreads_of_a_hub_stand_on_two_outrights() {
+        let market = opened("one_leg");
+        let spreads: Vec<&Security> = market.list.iter().filter(|security| security.legs.is_some()).collect();
+        assert_eq!((market.list.len(), spreads.len()), (512, 510));
+        assert!(spreads.iter().all(|spread| matches!(spread.legs, Some((0, 1) | (1, 0)))));
+        let names: BTreeSet<&str> = market.list.iter().map(|security| security.name.as_str()).collect();
+        assert_eq!(names.len(), 512);
+        assert!(spreads.iter().all(|spread| spread.sides.each_ref().map(Vec::len) == [1; 4]));
+    }
+
+    #[test]
+    fn each_event_of_a_hub_changes_the_first_outright() {
+        let mut market = opened("one_leg");
+        let first = market.list[0].id;
+        let mut with_a_spread = 0;
+        for _ in 0..4_000 {
+            let entries = market.entries_of_hub(2);
+            assert!(entries[..2].iter().all(|entry| entry.security == first && entry.side < 2));
+            with_a_spread += entries.len() - 2;
+            assert!(entries[2..].iter().all(|entry| entry.security >= 200_000 && entry.side >= 2));
+        }
+        assert!((900..1_100).contains(&with_a_spread), "{with_a_spread}");
     }
 }

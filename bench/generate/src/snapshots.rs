@@ -82,3 +82,97 @@ impl SnapshotFeed {
         [new, old]
     }
 }
+
+#[cfg(test)]
+mod tests {
+    use super::*;
+    use crate::market::Market;
+    use crate::shape::Shape;
+    use std::collections::BTreeMap;
+
+    /// The securities of a datagram, and after which packet their books are so.
+    type Snapshot = (i32, u32);
+
+    fn read(datagram: &[u8]) -> Vec<Snapshot> {
+        let mut snapshots = Vec::new();
+        let mut rest = &datagram[12..];
+        while let Some((size, _)) = rest.split_first_chunk() {
+            let (message, next) = rest.split_at(u16::from_le_bytes(*size).into());
+            let number = |at: usize| *message[at..].first_chunk().unwrap();
+            snapshots.push((i32::from_le_bytes(number(18)), u32::from_le_bytes(number(10))));
+            rest = next;
+        }
+        snapshots
+    }
+
+    /// Gives the ids of a preset's securities, and what its datagrams bring after each of so many packets, from 1 on.
+    fn sent(preset: &str, packets: u32, change: impl FnOnce(&mut Shape)) -> (Vec<i32>, Vec<Vec<Vec<Snapshot>>>) {
+        let mut shape = Shape::of_preset(preset).unwrap();
+        change(&mut shape);
+        let mut made = Packets::new(Market::new(&shape, 5));
+        let mut feed = SnapshotFeed::new(shape.snapshots);
+        let mut random = Random::new(5, "test");
+        let sent = (1..=packets).map(|number| {
+            made.packet(number);
+            feed.after_packet(number, &made, &mut random).iter().map(|datagram| read(datagram)).collect()
+        });
+        let sent = sent.collect();
+        (made.market.list.iter().map(|security| security.id).collect(), sent)
+    }
+
+    #[test]
+    fn all_securities_but_the_last_one_send_news() {
+        let (ids, sent) = sent("silent", 700, |_| {});
+        let mut turns = ids[..511].iter().cycle();
+        for (number, datagrams) in (1..).zip(sent) {
+            let wanted: Vec<Vec<Snapshot>> = turns.by_ref().take(2).map(|id| vec![(*id, number)]).collect();
+            assert_eq!(datagrams, wanted);
+        }
+    }
+
+    #[test]
+    fn every_other_datagram_is_older_than_what_is_known() {
+        let (_, sent) = sent("snapshots", 1_500, |_| {});
+        let mut known = BTreeMap::new();
+        for (number, datagrams) in (1..).zip(sent) {
+            let [new, old, newer, older] = datagrams.try_into().unwrap();
+            for (new, old) in [(new, old), (newer, older)] {
+                assert!(new.iter().all(|(_, last)| *last == number));
+                known.extend(new);
+                // The first datagrams that come again may be the newest ones of their securities.
+                let most = |id: i32| known[&id] - u32::from(number > 500);
+                assert!(old.iter().all(|&(id, last)| last <= most(id)), "{number}");
+            }
+        }
+        assert_eq!(known.len(), 512);
+    }
+
+    #[test]
+    fn a_slow_security_waits_in_every_other_span() {
+        let (slow, span, pause) = (300, 700, 400);
+        let change = |shape: &mut Shape| shape.snapshots = Snapshots::NewAndOld { slow, span, pause };
+        let (ids, sent) = sent("snapshots", 2 * span, change);
+        let of_security = |place: usize| {
+            let id = ids[place];
+            let lasts = sent.iter().flatten().flatten().filter(|snapshot| snapshot.0 == id).map(|snapshot| snapshot.1);
+            lasts.collect::<Vec<u32>>()
+        };
+        let waits = span + 1..=span + pause;
+        assert!(of_security(slow).iter().all(|last| !waits.contains(last)));
+        assert!(of_security(slow).iter().any(|last| last < waits.start()));
+        assert!(of_security(slow).iter().any(|last| last > waits.end()));
+        assert!(of_security(slow + 1).iter().any(|last| waits.contains(last)));
+    }
+
+    #[test]
+    fn snapshots_of_different_ages_come_at_once() {
+        let (first, apart, after) = (30, 2, 1_100);
+        let change = |shape: &mut Shape| shape.snapshots = Snapshots::AtOnce { first, apart, after };
+        let (ids, sent) = sent("spread_bases", 1_200, change);
+        let wanted: Vec<Vec<Snapshot>> =
+            ids.into_iter().zip((first..).step_by(apart as usize)).map(|snapshot| vec![snapshot]).collect();
+        for (number, datagrams) in (1..).zip(sent) {
+            assert_eq!(datagrams, if number == after { wanted.as_slice() } else { &[] });
+        }
+    }
+}
