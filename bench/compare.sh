@@ -15,7 +15,7 @@ case $preset in
     small | day | deep) lines=40000 ;;
     lossy) lines=30000 ;;
     wide) lines=20000 ;;
-    *) echo "compare.sh: the presets are small, day, wide, lossy and deep" >&2; exit 2 ;;
+    *) echo "compare.sh: it takes the presets small, day, wide, lossy and deep" >&2; exit 2 ;;
 esac
 [ -x "$program" ] || { echo "compare.sh: no program $program; 'make run' builds it" >&2; exit 2; }
 echo "building the bench" >&2

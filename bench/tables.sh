@@ -1,7 +1,7 @@
 #!/bin/bash
 # tables.sh [PROGRAM]
 # Prints the tables of docs/PERFORMANCE.md, of instructions and of seconds and memory, for PROGRAM (mdp_handler, as `make run`
-# built it) and in brackets for the plain handler, on every preset. What the rows are compare.sh says, which also compares the bytes.
+# built it) and in brackets for the plain handler, on some presets. What the rows are compare.sh says, which also compares the bytes.
 #   PRESETS="day wide lossy deep"
 #   RUNS=5          how many timed runs of each, by turns
 #   SEED=1          the seed of the presets
