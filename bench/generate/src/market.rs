@@ -443,7 +443,7 @@ mod tests {
     }
 
     #[test]
-    fn all_spreads_of_a_hub_stand_on_two_outrights() {
+    fn the_spreads_of_a_hub_have_the_same_legs() {
         let market = opened("one_leg");
         let spreads: Vec<&Security> = market.list.iter().filter(|security| security.legs.is_some()).collect();
         assert_eq!((market.list.len(), spreads.len()), (512, 510));
@@ -454,7 +454,7 @@ mod tests {
     }
 
     #[test]
-    fn each_event_of_a_hub_changes_the_first_outright() {
+    fn an_event_of_a_hub_moves_the_first_outright() {
         let mut market = opened("one_leg");
         let first = market.list[0].id;
         let mut with_a_spread = 0;

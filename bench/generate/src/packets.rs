@@ -108,3 +108,22 @@ impl Packets {
         datagram.into_bytes()
     }
 }
+
+#[cfg(test)]
+mod tests {
+    use super::*;
+    use crate::shape::Shape;
+
+    #[test]
+    fn a_packet_of_a_hub_is_one_event_of_one_message() {
+        let mut packets = Packets::new(Market::new(&Shape::of_preset("one_leg").unwrap(), 5));
+        for number in 1..=1_000 {
+            let packet = packets.packet(number);
+            let (header, message) = packet.split_at(12);
+            assert_eq!(header[..4], number.to_le_bytes());
+            assert_eq!(usize::from(u16::from_le_bytes([message[0], message[1]])), message.len());
+            let (template, ending) = (message[4], message[18]);
+            assert_eq!((template, ending), (46, 128));
+        }
+    }
+}

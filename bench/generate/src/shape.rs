@@ -13,7 +13,7 @@ pub struct Shape {
     pub spread_levels: usize,
     /// Only levels 5 to 10 are updated, and nothing is implied.
     pub is_deep: bool,
-    /// All spreads stand on the first two outrights, and each event changes the first of these.
+    /// The first two outrights are the legs of every spread, and no event goes by without an entry of the first one.
     pub is_hub: bool,
     pub snapshots: Snapshots,
     pub gaps: Gaps,
