@@ -112,11 +112,11 @@ impl Shape {
         Shape { packets: Some(30_000), snapshots, gaps, ..self.with_small_books() }
     }
 
-    /// Five losses, after every other one of which a slow security is waited for; for a window of 512.
+    /// Six losses, after every other one of which a slow security is waited for; for a window of 512.
     fn snapshots(self) -> Shape {
         let span = 2_800;
         let snapshots = Snapshots::NewAndOld { slow: 300, span, pause: 900 };
-        Shape { packets: Some(6 * span), snapshots, gaps: Gaps::Spans(span), ..self.with_small_books() }
+        Shape { packets: Some(7 * span), snapshots, gaps: Gaps::Spans(span), ..self.with_small_books() }
     }
 
     /// A loss that is made up for once a window of 65,536 is full, by snapshots of very different ages.
