@@ -9,7 +9,7 @@ use Rattle.mdp_sbe.proofs.Framings.{AreMessages-push}
 use Rattle.mdp_templates.specs.declared.entry.Entry.{Entry}
 use Rattle.mdp_templates.specs.declared.spans.Span.{Span}
 use Rattle.mdp_templates.specs.Packet.{MessageContent}
-use Rattle.mdp_templates.specs.Spans.{message_at, messages_at, AreWithin, Adds, AddsMessage}
+use Rattle.mdp_templates.specs.Spans.{message_at, messages_at, AreWithin, entries_in, Adds, AddsMessage}
 
 abbrev pub span_of : ℕ → ℕ → Bool → Span
 span_of start count end = record { start = start; count = count; end = end }
@@ -85,6 +85,14 @@ messages-read IsValue rest old new spans s here message after within so_far begi
 pub within-read : (IsValue : MessageContent → Type 0) (old new : List Entry) (spans : List Span) (s : Span) → AreWithin (length old) spans → AddsMessage IsValue old new s → AreWithin (length new) (spans ++ s ∷ [])
 within-read IsValue old new spans s within adds =
     within-push (length old) (length new) spans s (omega (arith, ap length adds.grown, length-append old adds.more)) within adds.within
+
+entries_in-push : (spans : List Span) (s : Span) → entries_in (spans ++ s ∷ []) ≡ entries_in spans + s.count
+entries_in-push [] s = omega arith
+entries_in-push (t ∷ spans) s = omega (arith, entries_in-push spans s)
+
+-- all entries are those of the messages so far, with one message more too
+pub counted-read : (old new : ℕ) (spans : List Span) (s : Span) → old ≡ entries_in spans → new ≡ old + s.count → new ≡ entries_in (spans ++ s ∷ [])
+counted-read old new spans s counted grown = omega (arith, counted, grown, entries_in-push spans s)
 
 -- ---- entries
 

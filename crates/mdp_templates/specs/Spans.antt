@@ -15,6 +15,11 @@ messages_at entries spans = map (message_at entries) spans
 abbrev pub AreWithin : ℕ → List Span → Type 0
 AreWithin count spans = All (λ (s : Span). s.start + s.count ≤ count) spans
 
+-- how many entries messages at these places have
+abbrev pub entries_in : List Span → ℕ
+entries_in [] = 0
+entries_in (span ∷ spans) = span.count + entries_in spans
+
 -- a packet with a message more at its end
 abbrev pub packet_with : MessageContent → PacketContent → PacketContent
 packet_with message packet = record { number = packet.number; messages = packet.messages ++ message ∷ [] }

@@ -1,11 +1,11 @@
 //! Reading a datagram of the incremental feeds.
 
-ghost use Rattle.std.specs.Prelude.{◌≡◌, [], IfOk, IfErr, OnOk, ◌<◌, ◌≤◌, length};
+ghost use Rattle.std.specs.Prelude.{◌≡◌, [], IfOk, IfErr, OnOk, ◌<◌, ◌≤◌, ◌+◌, length};
 ghost use Rattle.mdp_sbe.specs.Framing.{IsHeader, parts, AreMessages, AreRefused};
 ghost use Rattle.mdp_templates.specs.Answer.{OnRefusal};
 ghost use Rattle.mdp_templates.specs.Incremental.{IsBook, book_refresh, IsCarrier, IsIncremental, IsRefusedIncremental, IsPacket, IsRefusedPacket, EndsEvent};
 ghost use Rattle.mdp_templates.specs.Layout.{IsRefusedLayout};
-ghost use Rattle.mdp_templates.specs.Spans.{AddsMessage, AreWithin, messages_at};
+ghost use Rattle.mdp_templates.specs.Spans.{AddsMessage, AreWithin, entries_in, messages_at};
 ghost use Rattle.mdp_templates.specs.Refused.{IsRefusedAs};
 ghost use Rattle.mdp_templates.specs.Refused.FeedKind.{incremental};
 ghost use Rattle.mdp_sbe.specs.Framing.{IsRefusedRoot};
@@ -55,6 +55,8 @@ fn read_book<A: Allocator + Copy>(
 ) -> Result<Span, Fault>
     ensures ok { IfOk result (AddsMessage
         (IsBook (parts message.now)) entries.old.items entries.new.items) }
+    ensures count { IfOk result (λ span. length entries.new.items
+        ≡ length entries.old.items + span.count) }
     ensures refused { IfErr result (OnRefusal (IsRefusedLayout book_refresh (parts message.now))) }
 {
     let start = entries.len();
@@ -80,6 +82,8 @@ fn read_message<A: Allocator + Copy>(
 ) -> Result<Span, Fault>
     ensures ok { IfOk result (AddsMessage
         (IsIncremental (parts message.now)) entries.old.items entries.new.items) }
+    ensures count { IfOk result (λ span. length entries.new.items
+        ≡ length entries.old.items + span.count) }
     ensures refused { IfErr result (OnRefusal (IsRefusedIncremental (parts message.now))) }
 {
     match Template::of(message.template) {
@@ -113,6 +117,7 @@ fn read_messages<A: Allocator + Copy>(
     spans: &mut Spans<A>,
 ) -> Result<(), Fault>
     ensures within { OnOk result (AreWithin (length entries.new.items) spans.new) }
+    ensures count { OnOk result (length entries.new.items ≡ entries_in spans.new) }
     ensures ok { OnOk result (AreMessages IsIncremental rest.now
         (messages_at entries.new.items spans.new) []) }
     ensures refused { IfErr result (OnRefusal
