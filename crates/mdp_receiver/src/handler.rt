@@ -132,6 +132,12 @@ impl<A: Allocator + Copy> Handler<A> {
     /// Takes a datagram of a feed, and tells what became of it. What it brings is taken in, all moves that are then
     /// possible are made, and the lines that they owe are held. A datagram that is refused changes nothing.
     ///
+    /// A packet, or a list of snapshots, asks `alloc` for memory. But a packet that is next and has at most 2,048 bytes
+    /// is read into room that is kept from one such packet to another. That room asks the allocator of
+    /// [`new`](Handler::new), or of the last call whose packet was read into it and did not pass at once: such a packet
+    /// takes the room along, and the call makes it anew. Where a packet has more than three messages, the list of their
+    /// places asks the allocator of the first call that needs one, and stays with that room.
+    ///
     /// # Errors
     ///
     /// Memory ran out, now or in an earlier call.

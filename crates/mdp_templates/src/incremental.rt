@@ -148,7 +148,9 @@ pub fn read_packet<A: Allocator + Copy>(alloc: A, text: &[u8]) -> Result<Packet<
 }
 
 /// Reads a packet of an incremental feed as [`read_packet`] does, in the place of another, whose room it takes: it asks
-/// for memory only where that had no room yet, or has more entries or messages than that had room for.
+/// for memory only where that had no room yet, or has more entries or messages than that had room for. For entries it
+/// asks the allocator that the packet was made with. For the places of more than three messages it asks `alloc` the
+/// first time, and that allocator from then on.
 ///
 /// # Errors
 ///
