@@ -23,7 +23,8 @@ pub struct Desks<A: Allocator> {
     marked: Marked<A>,
     // Behind a jump a desk stays marked for long, if its base lies far ahead. So that no event end before it need look
     // at it, `due` marks the desks of which an event end in a packet before `until` has lines: all others that are
-    // marked wait for `until`, or for a later packet. Where none waits `until` is 0, and `due` marks none.
+    // marked wait for `until`, or for a later packet. A jump sets `until` to 1, so that the next event end looks who
+    // waits; where none does it is 0, and `due` marks none.
     due: Marked<A>,
     until: u64,
 }
@@ -115,7 +116,7 @@ fn settle_due<A: Allocator>(
     }
 }
 
-// Forgets all marks where an event ended.
+// Forgets the marks of the desks whose bases lie before a packet in which an event ended.
 fn settle_all<A: Allocator>(desks: &mut [Desk], marked: &mut Marked<A>, packet: u32)
     requires { marked.old ≡ marks_of desks.old }
     ensures desks { desks.new ≡ map (desk_settled packet) desks.old }

@@ -111,8 +111,8 @@ pub(crate) fn read_level(price: i64, size: i32) -> Result<Level, Refusal>
     Ok(Level { price, size })
 }
 
-// With a delete the price and the size are not looked at. Few of them are such as no level has, so that mostly nothing
-// depends on the action.
+// With a delete the price and the size decide nothing. They are looked at first all the same: few are such as no level
+// has, so that mostly nothing depends on the action.
 fn read_quoted(action: Action, price: i64, size: i32) -> Result<Level, Refusal>
     ensures { result ≡ action_quote action price size }
 {

@@ -81,8 +81,8 @@ impl Snapshot {
         }
     }
 
-    // Gathers the sides that these entries give where they will stay, so that no side is moved, and tells whether the
-    // levels of each are good.
+    // Gathers the sides that these entries give in their places in the snapshot, which is moved as a whole from then
+    // on, and tells whether the levels of each are good.
     pub(crate) fn gather(&mut self, quotes: &[Option<Quote>]) -> bool
         requires shallow { AreAllShallow quotes.now }
         requires empty { self.old ≡ empty_snapshot self.old.security self.old.last }

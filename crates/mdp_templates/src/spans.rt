@@ -1,5 +1,5 @@
-//! Where the entries of a packet's messages lie. The places of few messages are kept in the packet itself, so that most
-//! packets take one allocation, and those of more in a list.
+//! Where the entries of a packet's messages lie. The places of few messages are kept in the packet itself, and need no
+//! allocation; those of more are kept in a list.
 
 ghost use Rattle.std.specs.Prelude.{◌≡◌, ◌++◌, ◌∷◌, [], IfOk, OnErr, OnOk};
 
