@@ -1,10 +1,12 @@
--- What the code takes in, and what one step makes of the desks and of the text, as functions.
-use Rattle.std.specs.Prelude.{ℕ, List, Option}
+-- What the code takes in, whether that passes at once, and what a step makes of desks and text, as functions.
+use Rattle.std.specs.Prelude.{ℕ, Bool, false, List, Option}
 use Rattle.mdp_templates.specs.Snapshot.{SnapshotContent}
 use Rattle.mdp_books.specs.Feed.{sent_in}
 use Rattle.mdp_print.specs.Texts.{jump_line}
 use Rattle.mdp_arbiter.specs.Accepted.{Event as Accepted}
 use Rattle.mdp_arbiter.specs.Accepted.Event.{came, recovered, closed}
+use Rattle.mdp_arbiter.specs.Arbiter.{View as ArbiterView}
+use Rattle.mdp_arbiter.specs.Packets.{passes_at_once}
 use Rattle.mdp_arbiter.specs.declared.step.Step.{Step}
 use Rattle.mdp_arbiter.specs.declared.step.Step.TheVariants.{Pass, Jump}
 use Rattle.mdp_desks.specs.declared.desk.Desk.{Desk}
@@ -18,6 +20,12 @@ abbrev pub event_of : {A : Type 0} → Event A → Accepted
 event_of (Packet packet) = came packet
 event_of (Snapshot snapshot) = recovered snapshot.value
 event_of Close = closed
+
+-- whether an event is a packet that passes at once
+abbrev pub passes_now : Accepted → ArbiterView → Bool
+passes_now (came packet) v = passes_at_once packet.number v
+passes_now (recovered snapshot) v = false
+passes_now closed v = false
 
 -- the desks after a step, where a jump took these snapshots
 abbrev pub stepped_desks : {A : Type 0} → Step A → List (Option SnapshotContent) → List Desk → List Desk

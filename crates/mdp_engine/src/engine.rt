@@ -9,13 +9,14 @@ ghost use Rattle.mdp_arbiter.specs.Accepted.{Event as Accepted, came, recovered}
 ghost use Rattle.mdp_arbiter.specs.Machine.{State, is_lost, moves_of, state_at};
 ghost use Rattle.mdp_arbiter.specs.Channel.{channel_of};
 ghost use Rattle.mdp_arbiter.specs.Arbiter.{is_lost_now, state};
+ghost use Rattle.mdp_arbiter.specs.Packets.{passes_at_once};
 ghost use Rattle.mdp_arbiter.specs.Standing.{StandsAt};
 ghost use Rattle.mdp_print.specs.Pieces.{BeginsWith};
 ghost use Rattle.mdp_desks.specs.Moments.{shown_lines};
 ghost use Rattle.mdp_engine.specs.Engine.{Advances, Stands};
 ghost use Rattle.mdp_engine.specs.Honest.{IsHonest};
 ghost use Rattle.mdp_engine.specs.Owed.{lines, steps_of};
-ghost use Rattle.mdp_engine.specs.Steps.{event_of, stepped_desks, stepped_text};
+ghost use Rattle.mdp_engine.specs.Steps.{event_of, passes_now, stepped_desks, stepped_text};
 
 use crate::audited_desks::AuditedDesks;
 use crate::event::Event;
@@ -192,12 +193,15 @@ impl<A: Allocator + Copy, W: Window<Packet<A>> + Drop> Engine<A, W> {
     }
 
     /// Takes in a packet that is lent, where it passes at once, and holds the lines that it owes, as [`on`](Engine::on)
-    /// does of its event. Tells whether it passed; where not, all is as before.
+    /// does of its event. Tells whether it passed, as the arbiter's
+    /// [`pass_at_once`](mdp_arbiter::Arbiter::pass_at_once) does; where not, all is as before.
     ///
     /// # Errors
     ///
     /// Memory ran out, now or in an earlier call.
     pub fn on_next(&mut self, packet: &Packet<A>) -> Result<bool, Memory>
+        ensures tells { IfOk result (λ passed. passed
+            ≡ passes_at_once packet.now.number self.old.arbiter) }
         ensures passed { IfOk result (λ passed. passed ≡ true
             → (listed : List Instrument) (es : List Accepted) (drained : List ℕ)
             → Stands listed es drained self.old → Stands listed (es ++ came packet.now ∷ []) drained self.new) }
@@ -313,6 +317,8 @@ impl<A: Allocator + Copy, W: Window<Packet<A>> + Drop> Engine<A, W> {
 
     // Takes in a packet that passes at once and shows it, where the event is one, and tells whether it is.
     fn pass_at_once(&mut self, event: &Event<A>) -> Result<bool, Memory>
+        ensures tells { IfOk result (λ passed. passed
+            ≡ passes_now (event_of event.now) self.old.arbiter) }
         ensures passed { IfOk result (λ passed. passed ≡ true
             → (listed : List Instrument) (es : List Accepted) (drained : List ℕ)
             → Stands listed es drained self.old → Stands listed (es ++ event_of event.now ∷ []) drained self.new) }
@@ -329,6 +335,8 @@ impl<A: Allocator + Copy, W: Window<Packet<A>> + Drop> Engine<A, W> {
 
     // Takes in a packet that passes at once and shows it, and tells whether it does.
     fn pass_packet(&mut self, packet: &Packet<A>) -> Result<bool, Memory>
+        ensures tells { IfOk result (λ passed. passed
+            ≡ passes_at_once packet.now.number self.old.arbiter) }
         ensures passed { IfOk result (λ passed. passed ≡ true
             → (listed : List Instrument) (es : List Accepted) (drained : List ℕ)
             → Stands listed es drained self.old → Stands listed (es ++ came packet.now ∷ []) drained self.new) }
