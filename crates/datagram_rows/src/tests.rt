@@ -1,6 +1,9 @@
 //! Readers and copies with each allocation refused in turn, and with none.
 
-use mdp_templates::{Fault, Memory, Packet, Snapshot, read_packet, read_snapshots};
+use mdp_templates::{
+    Action, Entry, Fault, Kind, Memory, Packet, Snapshot, read_packet, read_packet_into,
+    read_snapshots,
+};
 use refusing::Refusing;
 use std::alloc::Global;
 use std::process::Abort;
@@ -88,6 +91,91 @@ fn four_messages_are_held_and_copied_unless_memory_is_refused(rt: HostRuntime) -
         }
     }
     assert!(rt; refused >= 2);
+    Ok(())
+}
+
+// Reads the datagram into the room of a packet that held four messages.
+fn read_into_four(heap: &Refusing<Global>) -> Result<Packet<&Refusing<Global>>, Fault> {
+    let Ok(mut room) = four_messages(heap) else {
+        return Err(Fault::Memory);
+    };
+    read_packet_into(heap, PACKET, &mut room)?;
+    Ok(room)
+}
+
+// Reads the datagram into the room of a packet that held none.
+fn read_into_none(heap: &Refusing<Global>) -> Result<Packet<&Refusing<Global>>, Fault> {
+    let mut room = Packet::new(heap, 7);
+    read_packet_into(heap, PACKET, &mut room)?;
+    Ok(room)
+}
+
+// Tells whether a packet is that of the datagram.
+fn is_the_packet(packet: &Packet<&Refusing<Global>>) -> bool {
+    if packet.len() != 1 {
+        return false;
+    }
+    let wanted = Entry {
+        security: 1,
+        kind: Kind::Bid,
+        action: Action::New,
+        level: 1,
+        price: 100,
+        size: 5,
+    };
+    let message = packet.message(0);
+    let entries = message.entries();
+    packet.number() == 1
+        && message.is_end()
+        && entries.len() == 1
+        && entries.iter().all(|entry| *entry == wanted)
+}
+
+#[test]
+fn a_packet_is_read_into_the_room_of_four_messages_unless_memory_is_refused(
+    rt: HostRuntime,
+) -> Result<(), Fail> {
+    let mut refused = 0u64;
+    for number in 1..100u64 {
+        let heap = Refusing::new(rt.alloc(), number);
+        match read_into_four(&heap) {
+            Ok(packet) => {
+                assert!(rt; !heap.has_refused());
+                assert!(rt; is_the_packet(&packet));
+                break;
+            }
+            Err(fault) => {
+                assert!(rt; fault == Fault::Memory);
+                assert!(rt; heap.has_refused());
+                refused = number;
+            }
+        }
+    }
+    assert!(rt; refused >= 4);
+    Ok(())
+}
+
+#[test]
+fn a_packet_is_read_into_the_room_of_none_unless_memory_is_refused(
+    rt: HostRuntime,
+) -> Result<(), Fail> {
+    let mut refused = 0u64;
+    for number in 1..100u64 {
+        let heap = Refusing::new(rt.alloc(), number);
+        match read_into_none(&heap) {
+            Ok(packet) => {
+                assert!(rt; !heap.has_refused());
+                assert!(rt; is_the_packet(&packet));
+                break;
+            }
+            Err(fault) => {
+                assert!(rt; fault == Fault::Memory);
+                assert!(rt; heap.has_refused());
+                refused = number;
+            }
+        }
+    }
+    assert!(rt; refused >= 1);
     Ok(())
 }
 
