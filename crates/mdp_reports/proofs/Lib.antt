@@ -16,3 +16,4 @@ pub mod Full
 pub mod Stepping
 pub mod Boarding
 pub mod Behind
+pub mod Halving

@@ -13,3 +13,4 @@ pub mod BoardLaws
 pub mod Behind
 pub mod Steps
 pub mod Worker
+pub mod Recent

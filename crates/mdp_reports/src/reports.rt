@@ -5,6 +5,7 @@ ghost use Rattle.std.specs.Prelude.{◌≡◌, ◌++◌, ◌∷◌, [], ◌≤�
 ghost use Rattle.mdp_desks.specs.Reports.{tells, leaps};
 ghost use Rattle.mdp_reports.specs.Contents.{heading_at, place_at, told_at};
 ghost use Rattle.mdp_reports.specs.Flat.{told_of_book, marks_to, reports_with};
+ghost use Rattle.mdp_reports.specs.Recent.{no_room};
 
 use crate::rest::Rest;
 use crate::row::{Heading, Mark, Row};
@@ -25,7 +26,9 @@ pub struct Room {
 
 impl Room {
     /// Makes room for nothing.
-    pub fn none() -> Room {
+    pub fn none() -> Room
+        ensures { result ≡ no_room }
+    {
         Room {
             bytes: 0,
             rows: 0,

@@ -1,20 +1,21 @@
 //! The room that a batch's reports are made with, reckoned from the batches before.
 
-ghost use Rattle.std.specs.Prelude.{◌≡◌, ◌<◌, ◌+◌, ◌-◌, ◌*◌, ◌/◌, min};
+ghost use Rattle.std.specs.Prelude.{◌≡◌, ◌<◌};
+ghost use Rattle.mdp_reports.specs.Recent.{IsAtMostHalf, before_batches, portion_of, room_for_batch, three_quarters_and, with_batch};
 
 use crate::reports::Room;
 
 // Gives what falls to so many turns of a number that is of `all` turns.
 fn share_of(number: usize, turns: usize, all: usize) -> usize
     requires { 0 < all }
-    ensures { result ≡ min (number * turns) 18446744073709551615 / all }
+    ensures { result ≡ portion_of number turns all }
 {
     number.saturating_mul(turns) / all
 }
 
 // Gives three quarters of a number, and another one.
 fn three_quarters_and(number: usize, more: usize) -> usize
-    ensures { result ≡ min (number - number / 4 + more) 18446744073709551615 }
+    ensures { result ≡ three_quarters_and number more }
 {
     (number - number / 4).saturating_add(more)
 }
@@ -29,7 +30,9 @@ pub struct RecentRoom {
 
 impl RecentRoom {
     /// Begins before any batch.
-    pub fn none() -> RecentRoom {
+    pub fn none() -> RecentRoom
+        ensures { result ≡ before_batches }
+    {
         RecentRoom {
             room: Room::none(),
             turns: 0,
@@ -39,7 +42,10 @@ impl RecentRoom {
     /// Reckons the room for the reports of a batch of so many turns, as the last batches needed for each turn, and a
     /// quarter more, since some turns have more lines than others. It is never more than half of the sums, which is
     /// twice what the reports of one batch have held.
-    pub fn room_for(&self, turns: usize) -> Room {
+    pub fn room_for(&self, turns: usize) -> Room
+        ensures room { result ≡ room_for_batch turns self.now }
+        ensures half { IsAtMostHalf result self.now }
+    {
         if self.turns == 0 {
             return Room::none();
         }
@@ -52,7 +58,9 @@ impl RecentRoom {
     }
 
     /// Counts a batch of so many turns, whose reports held as much.
-    pub fn count(&mut self, turns: usize, room: Room) {
+    pub fn count(&mut self, turns: usize, room: Room)
+        ensures { self.new ≡ with_batch turns room self.old }
+    {
         self.room = Room {
             bytes: three_quarters_and(self.room.bytes, room.bytes),
             rows: three_quarters_and(self.room.rows, room.rows),
