@@ -98,18 +98,27 @@ pub fn read(alloc: Global, channel: &Channel, amount: Amount) -> anyhow::Result<
     Ok(digest.value())
 }
 
-// Digests the lines of records, the lengths of their datagrams, and the last bytes of these.
+// Gives eight bytes of a datagram as a word, from a place that the number of its line gives; 0 where it has fewer.
+fn word_at(bytes: &[u8], line: u32) -> u64 {
+    let places = (bytes.len() as u64).saturating_sub(7);
+    let fraction = u64::from(line.wrapping_mul(0x9e37_79b1));
+    let place = fraction.wrapping_mul(places) >> 32;
+    let Some(rest) = bytes.get(place as usize..) else {
+        return 0;
+    };
+    let Some(word) = rest.first_chunk::<8>() else {
+        return 0;
+    };
+    u64::from_le_bytes(*word)
+}
+
+// Digests the lines of records, the lengths of their datagrams, and a word of each of these.
 fn put_records(digest: &mut Digest, records: &[Record<Global>]) {
     for record in records {
         let bytes = record.bytes().unwrap_or(&[]);
-        let last = bytes.last().copied().unwrap_or(0);
-        let word = (bytes.len() as u64)
-            .wrapping_mul(256)
-            .wrapping_add(u64::from(last));
-        digest.put(
-            word.wrapping_mul(1 << 32)
-                .wrapping_add(u64::from(record.line())),
-        );
+        let length = (bytes.len() as u64).wrapping_mul(1 << 32);
+        digest.put(length.wrapping_add(u64::from(record.line())));
+        digest.put(word_at(bytes, record.line()));
     }
 }
 
