@@ -13,7 +13,8 @@ pub struct Shape {
     pub spread_levels: usize,
     /// Only levels 5 to 10 are updated, and nothing is implied.
     pub is_deep: bool,
-    /// The first two outrights are the legs of every spread, and no event goes by without an entry of the first one.
+    /// The first two outrights are the legs of every spread, and once books are filled each event has entries of the
+    /// first one.
     pub is_hub: bool,
     pub snapshots: Snapshots,
     pub gaps: Gaps,
@@ -77,9 +78,9 @@ impl Shape {
             "one_leg" => {
                 Shape { packets: Some(25_500), outrights: 2, spreads: 510, spread_levels: 2, is_hub: true, ..day }
             }
-            "silent" => wide.silent(),
-            "snapshots" => wide.snapshots(),
-            "spread_bases" => wide.spread_bases(),
+            "silent" => wide.with_a_silent_one(),
+            "snapshots" => wide.with_many_snapshots(),
+            "spread_bases" => wide.with_spread_bases(),
             _ => return None,
         })
     }
@@ -107,20 +108,20 @@ impl Shape {
     }
 
     /// A channel that a silent security holds from packet 1,000 on.
-    fn silent(self) -> Shape {
+    fn with_a_silent_one(self) -> Shape {
         let (snapshots, gaps) = (Snapshots::ButTheLast, Gaps::One(1_000));
         Shape { packets: Some(30_000), snapshots, gaps, ..self.with_small_books() }
     }
 
     /// Six losses, after every other one of which a slow security is waited for; for a window of 512.
-    fn snapshots(self) -> Shape {
+    fn with_many_snapshots(self) -> Shape {
         let span = 2_800;
         let snapshots = Snapshots::NewAndOld { slow: 300, span, pause: 900 };
         Shape { packets: Some(7 * span), snapshots, gaps: Gaps::Spans(span), ..self.with_small_books() }
     }
 
     /// A loss that is made up for once a window of 65,536 is full, by snapshots of very different ages.
-    fn spread_bases(self) -> Shape {
+    fn with_spread_bases(self) -> Shape {
         let lost = 1_000;
         let after = lost + 65_536;
         let snapshots = Snapshots::AtOnce { first: 2_000, apart: 100, after };

@@ -31,7 +31,7 @@ impl SnapshotFeed {
                 vec![packets.snapshots(&[self.take_turn(count)], number)]
             }
             Snapshots::Every(_) => Vec::new(),
-            Snapshots::ButTheLast => [(); 2].map(|()| packets.snapshots(&[self.take_turn(count - 1)], number)).to_vec(),
+            Snapshots::ButTheLast => (0..2).map(|_| packets.snapshots(&[self.take_turn(count - 1)], number)).collect(),
             Snapshots::NewAndOld { slow, span, pause } => {
                 let (place, past) = ((number - 1) / span, (number - 1) % span);
                 let left_out = (place % 2 == 1 && past < pause).then_some(slow);
@@ -77,7 +77,8 @@ impl SnapshotFeed {
             self.kept.pop_front();
         }
         self.kept.push_back(new.clone());
-        // Once enough are kept, all securities have sent newer snapshots since the older six tenths were made.
+        // Once enough are kept, all securities but one that is left out have sent newer snapshots since the older six
+        // tenths were made.
         let old = self.kept[random.below((self.kept.len() * 6).div_ceil(10))].clone();
         [new, old]
     }
