@@ -16,5 +16,5 @@ pub use group::Group;
 pub use header::Header;
 pub use laws::one_framing;
 pub use message::{Message, Messages};
-pub use number::{i32_at, i64_at, u16_at, u32_at, u64_at};
+pub use number::{i32_at, i64_at, u32_at};
 pub use refusal::Refusal;

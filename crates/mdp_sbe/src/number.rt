@@ -6,7 +6,7 @@ ghost use Rattle.mdp_sbe.specs.Number.{number_at, int32_at, int64_at};
 use byteorder::{ByteOrder, LittleEndian};
 
 /// Reads the `uint16` at an offset.
-pub fn u16_at(text: &[u8], offset: usize) -> u16
+pub(crate) fn u16_at(text: &[u8], offset: usize) -> u16
     requires { offset + 2 ≤ length text.now }
     ensures { result ≡ number_at offset 2 text.now }
 {
@@ -22,7 +22,7 @@ pub fn u32_at(text: &[u8], offset: usize) -> u32
 }
 
 /// Reads the `uint64` at an offset.
-pub fn u64_at(text: &[u8], offset: usize) -> u64
+pub(crate) fn u64_at(text: &[u8], offset: usize) -> u64
     requires { offset + 8 ≤ length text.now }
     ensures { result ≡ number_at offset 8 text.now }
 {
