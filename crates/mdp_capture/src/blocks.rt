@@ -5,8 +5,8 @@ ghost use Rattle.hex.specs.Hex.{decode_of};
 ghost use Rattle.mdp_capture.specs.Repeats.{Spells};
 
 use crate::lanes::{LANES, put_lanes};
-use crate::line::LONGEST_DATAGRAM;
 use bytes::{Bytes, BytesMut};
+use mdp_templates::LONGEST_DATAGRAM;
 use std::alloc::{AllocError, Allocator};
 
 /// How many bytes a block has.

@@ -11,7 +11,7 @@ use crate::field::{depth_of, id_of, is_letter, name_of, next_field};
 use crate::skip::Skip;
 use bytes::Bytes;
 use hex::FromHexError;
-use mdp_templates::{DIRECT_DEPTH, Feed, Instrument, InstrumentKind};
+use mdp_templates::{DIRECT_DEPTH, Feed, Instrument, InstrumentKind, LONGEST_DATAGRAM};
 use memchr::memchr;
 use std::alloc::{AllocError, Allocator};
 
@@ -31,9 +31,6 @@ pub(crate) enum Line<A: Allocator> {
     /// Nothing that could be read.
     Skipped(Skip),
 }
-
-/// How many bytes a datagram has at most.
-pub(crate) const LONGEST_DATAGRAM: usize = 2048;
 
 impl<A: Allocator> Line<A> {
     /// Gives the bytes of the datagram once more, where lines may share them.

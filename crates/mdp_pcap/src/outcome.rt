@@ -6,11 +6,8 @@ ghost use Rattle.mdp_pcap.specs.Outcome.{outcome_of, outcome_content};
 
 use crate::addresses::FeedAddresses;
 use crate::frame::{CapturedFrame, Frame, frame_of};
-use mdp_templates::Feed;
+use mdp_templates::{Feed, LONGEST_DATAGRAM};
 use std::alloc::Allocator;
-
-/// The most bytes that a datagram of a feed has.
-const LONGEST_DATAGRAM: usize = 2048;
 
 /// What a frame brings on the feeds of a channel.
 #[derive(Clone, Copy)]

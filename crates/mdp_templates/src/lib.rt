@@ -21,7 +21,7 @@ mod template;
 
 pub use entry::{Action, DIRECT_DEPTH, Entry, IMPLIED_DEPTH, Kind, Level};
 pub use fault::{Fault, Memory};
-pub use feed::Feed;
+pub use feed::{Feed, LONGEST_DATAGRAM};
 pub use incremental::{read_packet, read_packet_into};
 pub use instrument::{Instrument, InstrumentKind, MOST_INSTRUMENTS, Name, are_fit, has_legs};
 pub use laws::{datagrams_are_framed, one_answer};
