@@ -34,11 +34,8 @@ fn put_sides<A: Allocator>(
     bids: &[u8],
     offers: &[u8],
 ) -> Result<(), Memory>
-    ensures ok { OnOk result (out.new.items ≡ out.old.items
-        ++ sides_line (letter ∷ []) head.now bids.now offers.now) }
-    ensures err { OnErr result (BeginsWith out.new.items out.old.items) }
-    ensures full { OnErr result (vec_capacity out.old < vec_len out.old + length
-        (sides_line (letter ∷ []) head.now bids.now offers.now)) }
+    ensures { Extends (sides_line (letter ∷ []) head.now bids.now offers.now) out.old out.new
+        result }
 {
     put_head(out, letter, head)?;
     put(out, bids)?;
@@ -55,11 +52,7 @@ fn put_total_sides<A: Allocator>(
     bids: &[Total],
     offers: &[Total],
 ) -> Result<(), Memory>
-    ensures ok { OnOk result (out.new.items ≡ out.old.items
-        ++ consolidated_line head.now bids.now offers.now) }
-    ensures err { OnErr result (BeginsWith out.new.items out.old.items) }
-    ensures full { OnErr result (vec_capacity out.old < vec_len out.old + length
-        (consolidated_line head.now bids.now offers.now)) }
+    ensures { Extends (consolidated_line head.now bids.now offers.now) out.old out.new result }
 {
     put_head(out, b'C', head)?;
     put_totals(out, bids)?;
@@ -75,11 +68,7 @@ fn put_merged_sides<A: Allocator>(
     head: &Head,
     sides: &Sides,
 ) -> Result<(), Memory>
-    ensures ok { OnOk result
-        (out.new.items ≡ out.old.items ++ quotes_line head.now (merged_quotes sides.now)) }
-    ensures err { OnErr result (BeginsWith out.new.items out.old.items) }
-    ensures full { OnErr result (vec_capacity out.old
-        < vec_len out.old + length (quotes_line head.now (merged_quotes sides.now))) }
+    ensures { Extends (quotes_line head.now (merged_quotes sides.now)) out.old out.new result }
 {
     put_head(out, b'C', head)?;
     let implied = sides.implied_bids.printed();
