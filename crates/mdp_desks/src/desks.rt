@@ -130,18 +130,6 @@ fn settle_all<A: Allocator>(desks: &mut [Desk], marked: &mut Marked<A>, packet: 
     }
 }
 
-// Takes all marks away, of which there are so many.
-fn clear_all<A: Allocator>(marks: &mut Marked<A>, count: usize)
-    requires { length marks.old ≡ count }
-    ensures { marks.new ≡ map (λ _. false) marks.old }
-{
-    let mut from = 0;
-    while let Some(n) = marks.next_from(from) {
-        marks.put(n, false);
-        from = n + 1;
-    }
-}
-
 // Sets the mark of a desk whose base the packet stands behind, and takes away that of another one, which waits for the
 // packet behind its base; tells the least of that and of those that others wait for.
 fn ripen_one<A: Allocator>(
@@ -187,7 +175,7 @@ fn ripen_all<A: Allocator>(
     if until < u64::MAX {
         return until;
     }
-    clear_all(due, desks.len());
+    due.clear();
     0
 }
 

@@ -1,6 +1,6 @@
 //! Which desks have lines due at the next event end, kept apart from the desks so that one scan is cheap.
 
-ghost use Rattle.std.specs.Prelude.{◌≡◌, ◌+◌, ◌<◌, ◌≤◌, IfOk, IfSome, IfNone, true, false, get_or, length, max, replicate, set};
+ghost use Rattle.std.specs.Prelude.{◌≡◌, ◌+◌, ◌<◌, ◌≤◌, IfOk, IfSome, IfNone, true, false, get_or, length, map, max, replicate, set};
 ghost use Rattle.mdp_desks.specs.Beside.{AreClear, IsFirstSet, marks_in};
 
 use mdp_templates::Memory;
@@ -134,6 +134,15 @@ impl<A: Allocator> Marked<A> {
             self.set_at(slot);
         } else {
             self.clear_at(slot);
+        }
+    }
+
+    /// Takes all marks away.
+    pub fn clear(&mut self)
+        ensures { self.new ≡ map (λ _. false) self.old }
+    {
+        while let Some(n) = self.next_from(0) {
+            self.put(n, false);
         }
     }
 }

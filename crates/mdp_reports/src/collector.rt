@@ -14,7 +14,7 @@ ghost use Rattle.mdp_reports.specs.Taking.{first_list, kept_after_rounds, kept_u
 use crate::answer::Answer;
 use crate::audits::put_audits;
 use crate::board_steps::BoardSteps;
-use crate::kept::{clear, forget, put_all_told};
+use crate::kept::{forget, put_all_told};
 use crate::rest::Rest;
 use crate::row::Heading;
 use mdp_books::{Book, EventEnd};
@@ -166,7 +166,7 @@ impl<'a, A: Allocator + Copy> Collector<'a, A> {
               kept = kept_after (all_by_slot left.old) self.old.kept;
             }) }
     {
-        clear(&mut self.marks, self.listed.len());
+        self.marks.clear();
         steps.begin()?;
         put_all_told(end, left, out, steps, &mut self.kept, &mut self.marks)?;
         mark_spreads(&mut self.due, &self.marks, &self.parts);

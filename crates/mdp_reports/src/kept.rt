@@ -89,15 +89,3 @@ pub(crate) fn forget(kept: &mut [Option<Best>])
         kept[n] = None;
     }
 }
-
-/// Takes all marks away, of which there are so many.
-pub(crate) fn clear<A: Allocator>(marks: &mut Marked<A>, count: usize)
-    requires { length marks.old ≡ count }
-    ensures { marks.new ≡ map (λ _. false) marks.old }
-{
-    let mut from = 0;
-    while let Some(n) = marks.next_from(from) {
-        marks.put(n, false);
-        from = n + 1;
-    }
-}

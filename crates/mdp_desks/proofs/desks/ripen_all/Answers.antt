@@ -56,6 +56,6 @@ returns-then-until-lt18446744073709551615-clause-due g c =
 
 pub returns-clause-due : goal.returns-clause-due
 returns-clause-due g c =
-    let is = c.clear_all.ensures in
-    let many : length c.clear_all.new.marks ≡ length c.args.desks.now = ap length is ∙ length-map c.loop-n.due (λ _. false) ∙ c.loop-n.invariant.many in
-    none_waits c.args.desks.now c.clear_all.new.marks many (λ n from under. ap (λ (ms : List Bool). get_or ms n false) is ∙ cleared c.loop-n.due n)
+    let is = c.clear.ensures in
+    let many : length c.clear.new.self ≡ length c.args.desks.now = ap length is ∙ length-map c.loop-n.due (λ _. false) ∙ c.loop-n.invariant.many in
+    none_waits c.args.desks.now c.clear.new.self many (λ n from under. ap (λ (ms : List Bool). get_or ms n false) is ∙ cleared c.loop-n.due n)
