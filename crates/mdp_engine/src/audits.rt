@@ -40,9 +40,9 @@ pub fn put_verdicts<A: Allocator>(
     }
 }
 
-/// Appends the verdicts of a spread against its legs as [`put_verdicts`] does, of what all lines of the event end have
-/// in common.
-pub fn put_verdicts_under<A: Allocator>(
+// Appends the verdicts of a spread against its legs as `put_verdicts` does, of what all lines of the event end have in
+// common.
+fn put_verdicts_under<A: Allocator>(
     out: &mut Vec<u8, A>,
     event: &EventText,
     name: &Name,
@@ -141,11 +141,7 @@ fn put_audit_at<A: Allocator>(
         &desks[spread.slot],
         &desks[spread.leg1],
         &desks[spread.leg2],
-        is_one_set(
-            marked.is_set(spread.slot),
-            marked.is_set(spread.leg1),
-            marked.is_set(spread.leg2),
-        ),
+        is_one_marked(marked, spread),
     )
 }
 

@@ -10,7 +10,7 @@ mod parts;
 mod spreads;
 mod taking;
 
-pub use audits::{is_one_marked, put_verdicts, put_verdicts_under};
+pub use audits::{is_one_marked, put_verdicts};
 pub use engine::{Engine, replay};
 pub use event::Event;
 pub use laws::{
