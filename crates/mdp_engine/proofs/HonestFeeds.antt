@@ -1,17 +1,20 @@
--- A complete feed that events agree with: of each number the packet that came first, and an empty one where none came.
-use Rattle.std.proofs.Common.{◌≡◌, ◌≤◌, ◌<◌, ℕ, ℤ, suc, zero, ◌+◌, ◌-◌, Bool, true, cond, List, [], ◌∷◌, ◌++◌, length, refl, sym, ap, subst, ◌∙◌, arith, inl, inr}
+-- A complete feed that events agree with: one that has begun, and behind it of each number the packet that came first, and
+-- an empty one where none came.
+use Rattle.std.proofs.Common.{◌≡◌, ◌≤◌, ◌<◌, ℕ, ℤ, suc, zero, ◌+◌, ◌-◌, Bool, true, false, cond, List, [], ◌∷◌, ◌++◌, length, refl, sym, ap, subst, ◌∙◌, arith, inl, inr, length-append}
 use Rattle.std.specs.Prelude.{Option, Some, None, IfSome, is_some, slice_get, fold, ◌&&◌}
-use Rattle.std.specs.List.{AllByRecursion, Contains}
-use Rattle.std.proofs.lemmas.Bool.Decides.{eqb_tells}
+use Rattle.std.specs.Ordering.{int_eq}
+use Rattle.std.specs.List.{AllByRecursion}
+use Rattle.std.proofs.lemmas.Bool.{cases_lt}
+use Rattle.std.proofs.lemmas.Bool.Decides.{Decides-int_eq, eqb_tells}
+use Rattle.std.proofs.lemmas.List.{take-append-le}
 use Rattle.mdp_templates.specs.Packet.{PacketContent}
 use Rattle.mdp_templates.specs.Snapshot.{SnapshotContent}
 use Rattle.mdp_templates.specs.declared.instrument.Instrument.{Instrument}
-use Rattle.mdp_quotes.proofs.Prices.{int_eq_other}
-use Rattle.mdp_arbiter.specs.Accepted.{Event, came, recovered, closed, accepted_packets, accepted_snapshots, highest_of, first_of, newer_of, newest_snapshot}
-use Rattle.mdp_templates.specs.Instrument.{ids_of}
+use Rattle.mdp_books.specs.Feed.{sent_by, book_at}
+use Rattle.mdp_arbiter.specs.Accepted.{Event, came, recovered, closed, accepted_packets, accepted_snapshots, highest_of, first_of, is_newer, newer_of, newest_snapshot}
 use Rattle.mdp_arbiter.proofs.Appended.{first-within}
 use Rattle.mdp_engine.specs.Feed.{NumberedFrom, IsIn, IsSnapshotOf}
-use Rattle.mdp_engine.specs.Honest.{LawOfHonestFeeds}
+use Rattle.mdp_engine.specs.Honest.{IsBookOf, LawOfHonestFeeds}
 
 -- ---- packets
 
@@ -63,50 +66,115 @@ place_in ps k (suc n) (suc i) p within is =
     let same : k + suc i ≡ k + 1 + i = omega arith in
     place_in ps (k + 1) n i p (omega (arith, within)) (ap (λ (j : ℕ). first_of j ps) (sym same) ∙ is)
 
-packet_in : (ps : List PacketContent) (k : ℕ) (first : Option PacketContent) → AllByRecursion IsNumber ps → first_of k ps ≡ first → IfSome first (IsIn (feed_from ps 1 (highest_of ps)))
-packet_in ps k None are is = tt
-packet_in ps k (Some p) are is =
+-- ---- a feed that has begun, and what came behind it
+
+numbered_behind : (begun more : List PacketContent) (k : ℕ) → NumberedFrom k begun → NumberedFrom (k + length begun) more → NumberedFrom k (begun ++ more)
+numbered_behind [] more k are behind = let same : k + 0 ≡ k = omega arith in subst (λ (n : ℕ). NumberedFrom n more) same behind
+numbered_behind (p ∷ begun) more k are behind =
+    let same : k + suc (length begun) ≡ k + 1 + length begun = omega arith in
+    (are.0, numbered_behind begun more (k + 1) are.1 (subst (λ (n : ℕ). NumberedFrom n more) same behind))
+
+place_before : (begun more : List PacketContent) (n : ℕ) (p : PacketContent) → slice_get begun n ≡ Some p → slice_get (begun ++ more) n ≡ Some p
+place_before [] more n p is = absurd cc
+place_before (q ∷ begun) more zero p is = is
+place_before (q ∷ begun) more (suc n) p is = place_before begun more n p is
+
+place_behind : (begun more : List PacketContent) (n : ℕ) → slice_get (begun ++ more) (length begun + n) ≡ slice_get more n
+place_behind [] more n = let same : 0 + n ≡ n = omega arith in ap (slice_get more) same
+place_behind (q ∷ begun) more n =
+    let same : suc (length begun) + n ≡ suc (length begun + n) = omega arith in
+    ap (slice_get (q ∷ (begun ++ more))) same ∙ place_behind begun more n
+
+abbrev whole_feed : List PacketContent → List PacketContent → List PacketContent
+whole_feed begun ps = begun ++ feed_from ps (length begun + 1) (highest_of ps - length begun)
+
+packet_in : (begun ps : List PacketContent) (k : ℕ) (first : Option PacketContent) → AllByRecursion IsNumber ps → first_of k ps ≡ first
+    → (k ≤ length begun → IfSome first (IsIn begun)) → IfSome first (IsIn (whole_feed begun ps))
+packet_in begun ps k None are is own = tt
+packet_in begun ps k (Some p) are is own =
     let at = first_is k ps p are is in
+    let m = length begun in
+    let n = highest_of ps - m in
+    let more = feed_from ps (m + 1) n in
     let some : is_some (first_of k ps) ≡ true = rw is refl in
     let under : k ≤ highest_of ps = first-within k ps some in
-    let number : 1 + (p.number - 1) ≡ k = omega (arith, at.0, at.1) in
-    record { first = at.1; place = place_in ps 1 (highest_of ps) (p.number - 1) p (omega (arith, at.0, at.1, under)) (ap (λ (j : ℕ). first_of j ps) number ∙ is) }
+    elim (cases_lt m k) [
+      | inl past ↦
+          let i = k - 1 - m in
+          let here : p.number - 1 ≡ m + i = omega (arith, at.0, past) in
+          let number : m + 1 + i ≡ k = omega (arith, past) in
+          let there = place_in ps (m + 1) n i p (omega (arith, past, under)) (ap (λ (j : ℕ). first_of j ps) number ∙ is) in
+          record { first = at.1; place = ap (slice_get (begun ++ more)) here ∙ place_behind begun more i ∙ there }
+      | inr within ↦
+          let its = own within in
+          record { first = its.first; place = place_before begun more (p.number - 1) p its.place }
+    ]
 
 -- ---- snapshots
 
-abbrev AreOthers : List ℤ → List SnapshotContent → Type 0
-AreOthers ids snapshots = AllByRecursion (λ (s : SnapshotContent). Contains ids s.security → ⊥) snapshots
+-- of the snapshots of events those of a beginning of them
+snapshots_front : (P : SnapshotContent → Type 0) (xs ys : List Event) → AllByRecursion P (accepted_snapshots (xs ++ ys)) → AllByRecursion P (accepted_snapshots xs)
+snapshots_front P [] ys are = tt
+snapshots_front P (came p ∷ xs) ys are = snapshots_front P xs ys are
+snapshots_front P (recovered s ∷ xs) ys are = (are.0, snapshots_front P xs ys are.1)
+snapshots_front P (closed ∷ xs) ys are = tt
 
-others_front : (ids : List ℤ) (xs ys : List Event) → AreOthers ids (accepted_snapshots (xs ++ ys)) → AreOthers ids (accepted_snapshots xs)
-others_front ids [] ys are = tt
-others_front ids (came p ∷ xs) ys are = others_front ids xs ys are
-others_front ids (recovered s ∷ xs) ys are = (are.0, others_front ids xs ys are.1)
-others_front ids (closed ∷ xs) ys are = tt
+-- the newest of a security's snapshots is one of them
+newer_case : (P : SnapshotContent → Type 0) (id : ℤ) (so_far : Option SnapshotContent) (s : SnapshotContent) (same newer : Bool) → int_eq id s.security ≡ same
+    → IfSome so_far P → (id ≡ s.security → P s) → IfSome (cond (same && newer) (Some s) so_far) P
+newer_case P id so_far s true true is old new = new ((Decides-int_eq id s.security).0 is)
+newer_case P id so_far s true false is old new = old
+newer_case P id so_far s false newer is old new = old
 
-others_tail : (id : ℤ) (ids : List ℤ) (snapshots : List SnapshotContent) → AreOthers (id ∷ ids) snapshots → AreOthers ids snapshots
-others_tail id ids [] are = tt
-others_tail id ids (s ∷ snapshots) are = (λ at. are.0 (suc at.0, omega (arith, at.1), at.2), others_tail id ids snapshots are.1)
+newest_is : (P : SnapshotContent → Type 0) (id : ℤ) (so_far : Option SnapshotContent) (snapshots : List SnapshotContent) → IfSome so_far P
+    → AllByRecursion (λ (s : SnapshotContent). id ≡ s.security → P s) snapshots → IfSome (fold (newer_of id) so_far snapshots) P
+newest_is P id so_far [] old are = old
+newest_is P id so_far (s ∷ snapshots) old are =
+    newest_is P id (newer_of id so_far s) snapshots (newer_case P id so_far s (int_eq id s.security) (is_newer so_far s) refl old are.0) are.1
 
-none_newest : (id : ℤ) (ids : List ℤ) (snapshots : List SnapshotContent) → AreOthers (id ∷ ids) snapshots → fold (newer_of id) None snapshots ≡ None
-none_newest id ids [] are = refl
-none_newest id ids (s ∷ snapshots) are =
-    let other = int_eq_other id s.security (λ same. are.0 (0, omega arith, same)) in
-    ap (λ (b : Bool). fold (newer_of id) (cond (b && true) (Some s) None) snapshots) other ∙ none_newest id ids snapshots are.1
+-- a snapshot of the feed that has begun is one of the whole
+snapshot_of_whole : (begun more : List PacketContent) (i : Instrument) (s : SnapshotContent) → IsSnapshotOf begun i s → IsSnapshotOf (begun ++ more) i s
+snapshot_of_whole begun more i s is = record {
+  within = omega (arith, is.within, length-append begun more);
+  short_bids = is.short_bids;
+  short_offers = is.short_offers;
+  book = is.book ∙ ap (λ (ps : List PacketContent). book_at i (sent_by ps)) (sym (take-append-le s.last begun more is.within));
+}
 
-no_snapshots : (feed : List PacketContent) (es : List Event) (listed : List Instrument) → AreOthers (ids_of listed) (accepted_snapshots es) → AllByRecursion (λ (i : Instrument). IfSome (newest_snapshot i.id es) (IsSnapshotOf feed i)) listed
-no_snapshots feed es [] are = tt
-no_snapshots feed es (i ∷ listed) are =
-    let ids = ids_of listed in
-    (subst (λ (o : Option SnapshotContent). IfSome o (IsSnapshotOf feed i)) (sym (none_newest i.id ids (accepted_snapshots es) are)) tt, no_snapshots feed es listed (others_tail i.id ids (accepted_snapshots es) are))
+first_books : (begun more : List PacketContent) (i : Instrument) (listed : List Instrument) (snapshots : List SnapshotContent) → AllByRecursion (IsBookOf (i ∷ listed) begun) snapshots
+    → AllByRecursion (λ (s : SnapshotContent). i.id ≡ s.security → IsSnapshotOf (begun ++ more) i s) snapshots
+first_books begun more i listed [] are = tt
+first_books begun more i listed (s ∷ snapshots) are = (λ same. snapshot_of_whole begun more i s (are.0.0 same), first_books begun more i listed snapshots are.1)
+
+other_books : (begun : List PacketContent) (i : Instrument) (listed : List Instrument) (snapshots : List SnapshotContent) → AllByRecursion (IsBookOf (i ∷ listed) begun) snapshots
+    → AllByRecursion (IsBookOf listed begun) snapshots
+other_books begun i listed [] are = tt
+other_books begun i listed (s ∷ snapshots) are = (are.0.1, other_books begun i listed snapshots are.1)
+
+newest_books : (begun more : List PacketContent) (es : List Event) (listed : List Instrument) → AllByRecursion (IsBookOf listed begun) (accepted_snapshots es)
+    → AllByRecursion (λ (i : Instrument). IfSome (newest_snapshot i.id es) (IsSnapshotOf (begun ++ more) i)) listed
+newest_books begun more es [] are = tt
+newest_books begun more es (i ∷ listed) are = (
+  newest_is (IsSnapshotOf (begun ++ more) i) i.id None (accepted_snapshots es) tt (first_books begun more i listed (accepted_snapshots es) are),
+  newest_books begun more es listed (other_books begun i listed (accepted_snapshots es) are),
+)
 
 pub law_of_honest_feeds : LawOfHonestFeeds
-law_of_honest_feeds listed es numbers others =
+law_of_honest_feeds listed es begun numbers is_feed own books =
     let ps = accepted_packets es in
-    let feed = feed_from ps 1 (highest_of ps) in (
-      feed,
+    let m = length begun in
+    let n = highest_of ps - m in
+    let more = feed_from ps (m + 1) n in
+    let next : m + 1 ≡ 1 + m = omega arith in
+    let behind = subst (λ (k : ℕ). NumberedFrom k more) next (numbered ps (m + 1) n numbers) in (
+      whole_feed begun ps,
       record {
-        complete = record { numbered = numbered ps 1 (highest_of ps) numbers; long = omega (arith, length-feed_from ps 1 (highest_of ps), highest_within ps numbers) };
-        packets = λ k. packet_in ps k (first_of k ps) numbers refl;
-        snapshots = λ front rest is. no_snapshots feed front listed (others_front (ids_of listed) front rest (subst (λ (t : List Event). AreOthers (ids_of listed) (accepted_snapshots t)) is others));
+        complete = record {
+          numbered = numbered_behind begun more 1 is_feed.numbered behind;
+          long = omega (arith, length-append begun more, length-feed_from ps (m + 1) n, highest_within ps numbers, is_feed.long);
+        };
+        packets = λ k. packet_in begun ps k (first_of k ps) numbers refl (own k);
+        snapshots = λ front rest is. newest_books begun more front listed
+            (snapshots_front (IsBookOf listed begun) front rest (subst (λ (t : List Event). AllByRecursion (IsBookOf listed begun) (accepted_snapshots t)) is books));
       },
     )

@@ -1,11 +1,10 @@
 -- When events agree with a complete feed: the premise under which lines are promised.
-use Rattle.std.specs.Prelude.{◌≡◌, ◌≤◌, ℕ, List, ◌++◌, IfSome}
-use Rattle.std.specs.List.{AllByRecursion, Contains}
+use Rattle.std.specs.Prelude.{◌≡◌, ◌≤◌, ℕ, List, ◌++◌, length, IfSome}
+use Rattle.std.specs.List.{AllByRecursion}
 use Rattle.mdp_templates.specs.Packet.{PacketContent}
 use Rattle.mdp_templates.specs.Snapshot.{SnapshotContent}
 use Rattle.mdp_templates.specs.declared.instrument.Instrument.{Instrument}
 use Rattle.mdp_arbiter.specs.Accepted.{Event, accepted_packets, accepted_snapshots, first_of, newest_snapshot}
-use Rattle.mdp_templates.specs.Instrument.{ids_of}
 use Rattle.mdp_arbiter.specs.Channel.{ListedChannel}
 use Rattle.mdp_engine.specs.Feed.{IsFeed, IsIn, IsSnapshotOf}
 use Rattle.mdp_engine.specs.Agreed.{AreOf}
@@ -24,10 +23,18 @@ abbrev pub HonestMovesAgree : Type 0
 HonestMovesAgree = (channel : ListedChannel) (feed : List PacketContent) (es : List Event)
     → IsHonest channel.listed feed es → AreOf channel.listed feed 1 (moves_of channel es)
 
--- Where each packet has a number that a complete feed can have, and no snapshot is of a listed security, there
--- is a complete feed that the events agree with.
+-- a snapshot is of no listed security, or is this feed's
+abbrev pub IsBookOf : List Instrument → List PacketContent → SnapshotContent → Type 0
+IsBookOf listed feed s =
+    AllByRecursion (λ (i : Instrument). i.id ≡ s.security → IsSnapshotOf feed i s) listed
+
+-- Where the snapshots that came are the books of one feed, which may end before the packets that came do, and the first
+-- packets of its numbers are its own, there is a complete feed that the events agree with. Each packet has a number
+-- that a feed can have.
 abbrev pub LawOfHonestFeeds : Type 0
-LawOfHonestFeeds = (listed : List Instrument) (es : List Event)
+LawOfHonestFeeds = (listed : List Instrument) (es : List Event) (begun : List PacketContent)
     → AllByRecursion (λ (p : PacketContent). (1 ≤ p.number) × (p.number ≤ 4294967295)) (accepted_packets es)
-    → AllByRecursion (λ (s : SnapshotContent). Contains (ids_of listed) s.security → ⊥) (accepted_snapshots es)
+    → IsFeed begun
+    → ((k : ℕ) → k ≤ length begun → IfSome (first_of k (accepted_packets es)) (IsIn begun))
+    → AllByRecursion (IsBookOf listed begun) (accepted_snapshots es)
     → (feed : List PacketContent) × IsHonest listed feed es
