@@ -4,7 +4,7 @@ ghost use Rattle.std.specs.Prelude.{◌≡◌, ◌++◌, OnErr, OnOk};
 ghost use Rattle.mdp_templates.specs.Instrument.{HasDepth};
 ghost use Rattle.mdp_desks.specs.Desks.{desk_at_start, desk_entered, desk_jumped, desk_rebased, desk_settled, desk_standing};
 ghost use Rattle.mdp_desks.specs.Lines.{text_of};
-ghost use Rattle.mdp_print.specs.Pieces.{BeginsWith};
+ghost use Rattle.mdp_print.specs.Pieces.{BreaksOff};
 
 use crate::lines::put_book;
 use mdp_books::{EventEnd, Place};
@@ -76,11 +76,12 @@ impl Desk {
         }
     }
 
-    /// Appends the lines that are owed where an event ends. Where memory runs out, what was there stays in front.
+    /// Appends the lines that are owed where an event ends. Where memory runs out, they break off.
     pub fn put<A: Allocator>(&self, out: &mut Vec<u8, A>, end: EventEnd) -> Result<(), Memory>
         ensures ok { OnOk result (out.new.items ≡ out.old.items
             ++ text_of end (desk_standing end.packet self.now)) }
-        ensures err { OnErr result (BeginsWith out.new.items out.old.items) }
+        ensures err { OnErr result (BreaksOff (text_of end (desk_standing end.packet self.now))
+            out.old.items out.new.items) }
     {
         if end.packet > self.base && self.marked {
             put_book(out, end, &self.instrument.name, &self.book)?;

@@ -6,7 +6,7 @@ ghost use Rattle.mdp_templates.specs.Instrument.{HasDepth, ids_of};
 ghost use Rattle.mdp_desks.specs.Beside.{AreAmong, AreDueAt, AreDueBefore, listed_in, marks_of};
 ghost use Rattle.mdp_desks.specs.Desks.{desk_at_start, desk_heard, desk_jumped, desk_settled, desk_standing, desks_through, rebased_desks, snapshots_at};
 ghost use Rattle.mdp_desks.specs.Lines.{text_of};
-ghost use Rattle.mdp_print.specs.Pieces.{BeginsWith};
+ghost use Rattle.mdp_print.specs.Pieces.{BreaksOff};
 
 use crate::desk::Desk;
 use crate::marked::Marked;
@@ -83,7 +83,9 @@ fn put_marked<A: Allocator>(
     requires { AreDueAt end.packet marked.now desks.now }
     ensures ok { OnOk result (out.new.items ≡ out.old.items
         ++ flat_map (text_of end) (map (desk_standing end.packet) desks.now)) }
-    ensures err { OnErr result (BeginsWith out.new.items out.old.items) }
+    ensures err { OnErr result (BreaksOff
+        (flat_map (text_of end) (map (desk_standing end.packet) desks.now)) out.old.items
+        out.new.items) }
 {
     let mut from = 0;
     while let Some(n) = marked.next_from(from) {
@@ -371,12 +373,13 @@ impl<A: Allocator + Copy> Desks<A> {
         }
     }
 
-    /// Appends the lines of the books that an event end prints. Where memory runs out, what was there
-    /// stays in front.
+    /// Appends the lines of the books that an event end prints. Where memory runs out, they break off.
     pub fn put_books(&self, out: &mut Vec<u8, A>, end: EventEnd) -> Result<(), Memory>
         ensures ok { OnOk result (out.new.items ≡ out.old.items
             ++ flat_map (text_of end) (map (desk_standing end.packet) self.now)) }
-        ensures err { OnErr result (BeginsWith out.new.items out.old.items) }
+        ensures err { OnErr result (BreaksOff
+            (flat_map (text_of end) (map (desk_standing end.packet) self.now)) out.old.items
+            out.new.items) }
     {
         put_marked(out, end, &self.desks, self.due_at(end.packet))
     }

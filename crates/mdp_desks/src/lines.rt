@@ -3,7 +3,7 @@
 ghost use Rattle.std.specs.Prelude.{◌≡◌, ◌++◌, IfOk, OnErr, OnOk};
 ghost use Rattle.mdp_quotes.specs.Consolidation.{quotes_of};
 ghost use Rattle.mdp_quotes.specs.Top.{top_of_book, top_of_quotes};
-ghost use Rattle.mdp_print.specs.Pieces.{BeginsWith};
+ghost use Rattle.mdp_print.specs.Pieces.{BreaksOff};
 ghost use Rattle.mdp_print.specs.Texts.{consolidated_line};
 ghost use Rattle.mdp_desks.specs.Lines.{book_lines};
 
@@ -21,7 +21,8 @@ fn put_totals<A: Allocator>(
 ) -> Result<TopOfBook, Memory>
     ensures line { OnOk result (out.new.items ≡ out.old.items
         ++ consolidated_line head.now (quotes_of sides.now).bids (quotes_of sides.now).offers) }
-    ensures err { OnErr result (BeginsWith out.new.items out.old.items) }
+    ensures err { OnErr result (BreaksOff (consolidated_line head.now (quotes_of sides.now).bids
+        (quotes_of sides.now).offers) out.old.items out.new.items) }
     ensures top { IfOk result (λ top. top ≡ top_of_quotes (quotes_of sides.now)) }
 {
     if are_in_order(sides) {
@@ -35,7 +36,7 @@ fn put_totals<A: Allocator>(
 
 /// Appends the lines of a book where an event ends: its direct, implied and consolidated sides, or the
 /// place of its first impossible entry. Hands back the top of the consolidated sides; none of a faulty
-/// book. Where memory runs out, what was there stays in front.
+/// book. Where memory runs out, the lines break off.
 pub fn put_book<A: Allocator>(
     out: &mut Vec<u8, A>,
     end: EventEnd,
@@ -44,7 +45,8 @@ pub fn put_book<A: Allocator>(
 ) -> Result<Option<TopOfBook>, Memory>
     ensures ok { OnOk result (out.new.items ≡ out.old.items
         ++ book_lines end name.now live.now) }
-    ensures err { OnErr result (BeginsWith out.new.items out.old.items) }
+    ensures err { OnErr result (BreaksOff (book_lines end name.now live.now) out.old.items
+        out.new.items) }
     ensures top { IfOk result (λ top. top ≡ top_of_book live.now) }
 {
     match live.book() {

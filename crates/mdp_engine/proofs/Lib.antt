@@ -4,6 +4,7 @@ pub mod Honesty
 pub mod HonestFeeds
 pub mod GivingUp
 pub mod Moving
+pub mod Breaking
 pub mod Auditing
 pub mod Marking
 pub mod Noting

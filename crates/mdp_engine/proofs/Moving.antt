@@ -154,19 +154,23 @@ moves_settled old now new step is so_far kept steps channel desks held listed es
 
 -- ---- an event
 
+-- an event is taken in, and its moves are still to be made
+pub taken_further : (listed : List Instrument) (es : List Event) (e : Event) (drained : List ℕ) (old mid : View)
+    → StandsAt (es ++ e ∷ []) mid.arbiter → mid.arbiter.channel ≡ old.arbiter.channel → mid.desks ≡ old.desks → mid.held ≡ old.held
+    → Stands listed es drained old → IsUnderWay listed (es ++ e ∷ []) (trace old.arbiter.channel es) drained mid
+taken_further listed es e drained old mid taken channel desks held stands = record {
+  stands = taken;
+  ids = ap (λ (c : Channel). c.ids) channel ∙ stands.settled.ids;
+  shows =
+      subst (λ (ds : List Desk). Shows listed (trace old.arbiter.channel es) ds (drained ++ mid.held)) (sym desks)
+      (subst (λ (h : List ℕ). Shows listed (trace old.arbiter.channel es) old.desks (drained ++ h)) (sym held) stands.shows);
+}
+
 pub stands_further : (listed : List Instrument) (es : List Event) (e : Event) (drained : List ℕ) (old mid new : View)
     → StandsAt (es ++ e ∷ []) mid.arbiter → state mid.arbiter ≡ state old.arbiter → mid.arbiter.channel ≡ old.arbiter.channel → mid.desks ≡ old.desks → mid.held ≡ old.held
     → new.arbiter.channel ≡ mid.arbiter.channel → Advances mid new → Stands listed es drained old → Stands listed (es ++ e ∷ []) drained new
 stands_further listed es e drained old mid new taken keeps channel desks held kept advances stands =
-    let before = trace old.arbiter.channel es in
-    let under : IsUnderWay listed (es ++ e ∷ []) before drained mid = record {
-      stands = taken;
-      ids = ap (λ (c : Channel). c.ids) channel ∙ stands.settled.ids;
-      shows =
-          subst (λ (ds : List Desk). Shows listed before ds (drained ++ mid.held)) (sym desks)
-          (subst (λ (h : List ℕ). Shows listed before old.desks (drained ++ h)) (sym held) stands.shows);
-    } in
-    let moved = advances listed (es ++ e ∷ []) before drained under in
+    let moved = advances listed (es ++ e ∷ []) (trace old.arbiter.channel es) drained (taken_further listed es e drained old mid taken channel desks held stands) in
     let settles : Settles old.arbiter.channel (es ++ e ∷ []) (state_at old.arbiter.channel es) moved.0 =
     subst (λ (s : State). Settles old.arbiter.channel (es ++ e ∷ []) s moved.0) (keeps ∙ stands.settled.state)
     (subst (λ (c : Channel). Settles c (es ++ e ∷ []) (state mid.arbiter) moved.0) channel moved.1.settles) in

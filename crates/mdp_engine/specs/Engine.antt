@@ -5,8 +5,9 @@ use Rattle.std.specs.Coded.{Coded, code_by, coded×, coded_ℕ, coded_bool, code
 use Rattle.mdp_templates.specs.Packet.{PacketContent}
 use Rattle.mdp_templates.specs.declared.instrument.Instrument.{Instrument}
 use Rattle.mdp_books.specs.Feed.{sent_by, book_at, behind}
+use Rattle.mdp_print.specs.Pieces.{BeginsWith}
 use Rattle.mdp_arbiter.specs.Accepted.{Event}
-use Rattle.mdp_arbiter.specs.Machine.{Move, Settles, after_all, trace, state_at}
+use Rattle.mdp_arbiter.specs.Machine.{Move, Settles, after_all, settle, trace, state_at}
 use Rattle.mdp_templates.specs.Instrument.{ids_of}
 use Rattle.mdp_arbiter.specs.Arbiter.{View as ArbiterView, state}
 use Rattle.mdp_arbiter.specs.Codes.{view_code as arbiter_code}
@@ -15,6 +16,7 @@ use Rattle.mdp_desks.specs.declared.desk.Desk.{Desk}
 use Rattle.mdp_desks.specs.contracts.desk.Desk as desk
 use Rattle.mdp_engine.specs.Owed.{lines, steps_of}
 use Rattle.mdp_desks.specs.Due.{is_due}
+use Rattle.mdp_desks.specs.Moments.{shown_lines}
 use Rattle.mdp_desks.specs.Shown.{Start, standing_after}
 use Rattle.mdp_desks.specs.Standing.{Shows}
 use Rattle.mdp_engine.specs.Honest.{IsHonest}
@@ -45,6 +47,13 @@ pub record IsSettled (listed : List Instrument) (es : List Event) (v : ArbiterVi
 pub record Stands (listed : List Instrument) (es : List Event) (drained : List ℕ) (v : View) : Type 0 where
   pub settled : IsSettled listed es v.arbiter
   pub shows : Shows listed (trace v.arbiter.channel es) v.desks (drained ++ v.held)
+
+-- Memory ran out at these further events: wherever it stood, after whatever text was drained, that and what it holds
+-- begin the lines that the moves of all events show.
+abbrev pub HasBrokenOff : List Event → View → View → Type 0
+HasBrokenOff further old new =
+    (listed : List Instrument) (es : List Event) (drained : List ℕ) → Stands listed es drained old
+    → BeginsWith (shown_lines listed (trace old.arbiter.channel (es ++ further))) (drained ++ new.held)
 
 -- ---- under a complete feed that the events agree with
 
@@ -92,3 +101,12 @@ Advances old new =
     → IsUnderWay listed es moves drained old
     → (made : List Move) × HasMoved es old.arbiter new.arbiter made
     × IsUnderWay listed es (moves ++ made) drained new
+
+-- On the way memory ran out: whatever moves had been shown, the text that was drained and what it holds begin the lines
+-- of these and of all moves that are then possible.
+abbrev pub BreaksOffOnWay : View → View → Type 0
+BreaksOffOnWay old new =
+    (listed : List Instrument) (es : List Event) (moves : List Move) (drained : List ℕ)
+    → IsUnderWay listed es moves drained old
+    → BeginsWith (shown_lines listed (moves ++ settle old.arbiter.channel es (state old.arbiter)))
+    (drained ++ new.held)

@@ -4,7 +4,7 @@ ghost use Rattle.std.specs.Prelude.{◌≡◌, ◌++◌, ◌≤◌, IfOk, OnErr,
 ghost use Rattle.std.specs.List.{flat_map};
 ghost use Rattle.mdp_templates.specs.Instrument.{AreFit};
 ghost use Rattle.mdp_books.specs.Feed.{sent_as, sent_in};
-ghost use Rattle.mdp_print.specs.Pieces.{BeginsWith};
+ghost use Rattle.mdp_print.specs.Pieces.{BreaksOff};
 ghost use Rattle.mdp_print.specs.Texts.{jump_line};
 ghost use Rattle.mdp_desks.specs.Desks.{desk_at_start, desk_settled, desk_standing, desks_after, desks_moment, desks_through, passed_desks, passed_moments, rebased_desks};
 ghost use Rattle.mdp_desks.specs.Lines.{audit_text, lines_as};
@@ -82,7 +82,9 @@ impl<A: Allocator + Copy> AuditedDesks<A> {
         ensures text { OnOk result (out.new.items ≡ out.old.items
             ++ flat_map (audit_text end (map (desk_standing end.packet) self.old))
             (map (desk_standing end.packet) self.old)) }
-        ensures err { OnErr result (BeginsWith out.new.items out.old.items) }
+        ensures err { OnErr result (BreaksOff
+            (flat_map (audit_text end (map (desk_standing end.packet) self.old))
+            (map (desk_standing end.packet) self.old)) out.old.items out.new.items) }
     {
         mark_spreads(&mut self.due, self.desks.due_at(end.packet), &self.parts);
         put_due_audits(
@@ -101,7 +103,8 @@ impl<A: Allocator + Copy> AuditedDesks<A> {
         ensures same { self.new ≡ self.old }
         ensures text { OnOk result (out.new.items ≡ out.old.items
             ++ lines_as end (map (desk_standing end.packet) self.old)) }
-        ensures err { OnErr result (BeginsWith out.new.items out.old.items) }
+        ensures err { OnErr result (BreaksOff
+            (lines_as end (map (desk_standing end.packet) self.old)) out.old.items out.new.items) }
     {
         self.desks.put_books(out, end)?;
         self.put_spreads(out, end)
@@ -133,7 +136,9 @@ impl<A: Allocator + Copy> AuditedDesks<A> {
             ≡ desks_after (sent_as packet message taken.now) self.old) }
         ensures text { OnOk result (out.new.items ≡ out.old.items
             ++ text_of_moments (desks_moment (sent_as packet message taken.now) self.old)) }
-        ensures err { OnErr result (BeginsWith out.new.items out.old.items) }
+        ensures err { OnErr result (BreaksOff
+            (text_of_moments (desks_moment (sent_as packet message taken.now) self.old))
+            out.old.items out.new.items) }
     {
         self.hear(packet, message, taken.entries());
         if taken.is_end() {
@@ -144,13 +149,15 @@ impl<A: Allocator + Copy> AuditedDesks<A> {
         Ok(())
     }
 
-    /// Passes a packet, and appends the lines that its event ends owe. After want of memory the
-    /// desks are of no more use, and what the text had before stands in front of it.
+    /// Passes a packet, and appends the lines that its event ends owe. After want of memory they break off, and the
+    /// desks are of no more use.
     pub fn pass(&mut self, out: &mut Vec<u8, A>, packet: &Packet<A>) -> Result<(), Memory>
         ensures desks { OnOk result (self.new ≡ passed_desks (sent_in packet.now) self.old) }
         ensures text { OnOk result (out.new.items ≡ out.old.items
             ++ text_of_moments (passed_moments (sent_in packet.now) self.old)) }
-        ensures err { OnErr result (BeginsWith out.new.items out.old.items) }
+        ensures err { OnErr result (BreaksOff
+            (text_of_moments (passed_moments (sent_in packet.now) self.old)) out.old.items
+            out.new.items) }
     {
         let number = packet.number();
         for n in 0..packet.len() {
@@ -167,8 +174,8 @@ impl<A: Allocator + Copy> AuditedDesks<A> {
     }
 
     /// Jumps from packet number `old` to `new`: appends the line of the jump, and replaces each book by its security's
-    /// snapshot, listed side by side, where there is one. After want of memory the desks are of no more use, and what
-    /// the text had before stands in front of it.
+    /// snapshot, listed side by side, where there is one. After want of memory the line breaks off, and the desks are
+    /// of no more use.
     pub fn jump(
         &mut self,
         out: &mut Vec<u8, A>,
@@ -178,7 +185,7 @@ impl<A: Allocator + Copy> AuditedDesks<A> {
     ) -> Result<(), Memory>
         ensures desks { OnOk result (self.new ≡ rebased_desks bases.now self.old) }
         ensures text { OnOk result (out.new.items ≡ out.old.items ++ jump_line old new) }
-        ensures err { OnErr result (BeginsWith out.new.items out.old.items) }
+        ensures err { OnErr result (BreaksOff (jump_line old new) out.old.items out.new.items) }
     {
         put_jump(out, old, new)?;
         self.rebase(bases);

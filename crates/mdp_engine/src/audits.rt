@@ -2,7 +2,7 @@
 
 ghost use Rattle.std.specs.Prelude.{◌≡◌, ◌++◌, ◌&&◌, ◌||◌, false, get_or, nat_lt, map, length, OnErr, OnOk};
 ghost use Rattle.std.specs.List.{flat_map};
-ghost use Rattle.mdp_print.specs.Pieces.{BeginsWith};
+ghost use Rattle.mdp_print.specs.Pieces.{BreaksOff};
 ghost use Rattle.mdp_desks.specs.Desks.{desk_standing};
 ghost use Rattle.mdp_engine.specs.Spreads.{spread_line};
 ghost use Rattle.mdp_desks.specs.Lines.{verdicts_text, spread_text, audit_text};
@@ -29,7 +29,8 @@ pub fn put_verdicts<A: Allocator>(
 ) -> Result<(), Memory>
     ensures ok { OnOk result (out.new.items ≡ out.old.items
         ++ verdicts_text end name.now spread leg1 leg2) }
-    ensures err { OnErr result (BeginsWith out.new.items out.old.items) }
+    ensures err { OnErr result (BreaksOff (verdicts_text end name.now spread leg1 leg2)
+        out.old.items out.new.items) }
 {
     match (spread, leg1, leg2) {
         (Some(spread), Some(leg1), Some(leg2)) => {
@@ -52,7 +53,8 @@ fn put_verdicts_under<A: Allocator>(
 ) -> Result<(), Memory>
     ensures ok { OnOk result (out.new.items ≡ out.old.items
         ++ verdicts_text event.now name.now spread leg1 leg2) }
-    ensures err { OnErr result (BeginsWith out.new.items out.old.items) }
+    ensures err { OnErr result (BreaksOff (verdicts_text event.now name.now spread leg1 leg2)
+        out.old.items out.new.items) }
 {
     let (Some(spread), Some(leg1), Some(leg2)) = (spread, leg1, leg2) else {
         return Ok(());
@@ -103,7 +105,10 @@ fn put_spread<A: Allocator>(
     ensures ok { OnOk result (out.new.items ≡ out.old.items
         ++ spread_text event.now (desk_standing event.now.packet spread.now)
         (desk_standing event.now.packet leg1.now) (desk_standing event.now.packet leg2.now)) }
-    ensures err { OnErr result (BeginsWith out.new.items out.old.items) }
+    ensures err { OnErr result (BreaksOff
+        (spread_text event.now (desk_standing event.now.packet spread.now)
+        (desk_standing event.now.packet leg1.now) (desk_standing event.now.packet leg2.now))
+        out.old.items out.new.items) }
 {
     if !is_one_marked {
         return Ok(());
@@ -133,7 +138,8 @@ fn put_audit_at<A: Allocator>(
     requires under { IsUnder (length desks.now) spread.now }
     ensures ok { OnOk result (out.new.items ≡ out.old.items
         ++ spread_line event.now desks.now spread.now) }
-    ensures err { OnErr result (BeginsWith out.new.items out.old.items) }
+    ensures err { OnErr result (BreaksOff (spread_line event.now desks.now spread.now)
+        out.old.items out.new.items) }
 {
     put_spread(
         out,
@@ -163,7 +169,9 @@ pub(crate) fn put_due_audits<A: Allocator>(
     ensures text { OnOk result (out.new.items ≡ out.old.items
         ++ flat_map (audit_text end (map (desk_standing end.packet) desks.now))
         (map (desk_standing end.packet) desks.now)) }
-    ensures err { OnErr result (BeginsWith out.new.items out.old.items) }
+    ensures err { OnErr result (BreaksOff
+        (flat_map (audit_text end (map (desk_standing end.packet) desks.now))
+        (map (desk_standing end.packet) desks.now)) out.old.items out.new.items) }
 {
     match due.next_from(0) {
         Some(_) => put_audits(out, &EventText::new(end), desks, marked, spreads, due),
@@ -188,7 +196,9 @@ fn put_audits<A: Allocator>(
     ensures text { OnOk result (out.new.items ≡ out.old.items
         ++ flat_map (audit_text event.now (map (desk_standing event.now.packet) desks.now))
         (map (desk_standing event.now.packet) desks.now)) }
-    ensures err { OnErr result (BeginsWith out.new.items out.old.items) }
+    ensures err { OnErr result (BreaksOff
+        (flat_map (audit_text event.now (map (desk_standing event.now.packet) desks.now))
+        (map (desk_standing event.now.packet) desks.now)) out.old.items out.new.items) }
 {
     let mut from = 0;
     while let Some(n) = due.next_from(from) {

@@ -11,9 +11,9 @@ ghost use Rattle.mdp_arbiter.specs.Channel.{channel_of};
 ghost use Rattle.mdp_arbiter.specs.Arbiter.{is_lost_now, state};
 ghost use Rattle.mdp_arbiter.specs.Packets.{passes_at_once};
 ghost use Rattle.mdp_arbiter.specs.Standing.{StandsAt};
-ghost use Rattle.mdp_print.specs.Pieces.{BeginsWith};
+ghost use Rattle.mdp_print.specs.Pieces.{BeginsWith, BreaksOff};
 ghost use Rattle.mdp_desks.specs.Moments.{shown_lines};
-ghost use Rattle.mdp_engine.specs.Engine.{Advances, Stands};
+ghost use Rattle.mdp_engine.specs.Engine.{Advances, BreaksOffOnWay, HasBrokenOff, Stands};
 ghost use Rattle.mdp_engine.specs.Honest.{IsHonest};
 ghost use Rattle.mdp_engine.specs.Owed.{lines, steps_of};
 ghost use Rattle.mdp_engine.specs.Steps.{event_of, passes_now, stepped_desks, stepped_text};
@@ -32,7 +32,8 @@ use std::marker::Model;
 /// drained into a text, or lent by `lines` and, once they were handed on, forgotten by `clear_lines`.
 ///
 /// Once memory has run out the engine has failed: it takes in nothing more and drains nothing more. What was drained
-/// or handed on before is a beginning of the lines; what a failed engine holds may break off anywhere.
+/// or handed on before, and behind it what a failed engine holds, is a beginning of the lines, which may break off
+/// anywhere.
 #[derive(Drop)]
 pub struct Engine<A: Allocator, W: Window<Packet<A>> + Drop> {
     arbiter: Arbiter<A, W>,
@@ -150,6 +151,7 @@ impl<A: Allocator + Copy, W: Window<Packet<A>> + Drop> Engine<A, W> {
     /// # Errors
     ///
     /// Memory ran out, now or in an earlier call.
+    #[tactic(auto, using(crate::proofs::Breaking::broken_off_before))]
     pub fn on(&mut self, event: Event<A>) -> Result<(), Memory>
         ensures stands { OnOk result ((listed : List Instrument) (es : List Accepted)
             (drained : List ℕ) → Stands listed es drained self.old
@@ -158,6 +160,7 @@ impl<A: Allocator + Copy, W: Window<Packet<A>> + Drop> Engine<A, W> {
         ensures sound { OnOk result (self.new.has_failed ≡ false) }
         ensures fails { IfErr result (λ _. self.new.has_failed ≡ true) }
         ensures front { BeginsWith self.new.held self.old.held }
+        ensures begins { OnErr result (HasBrokenOff (event_of event ∷ []) self.old self.new) }
         ensures stays { self.old.has_failed ≡ true → IsErr result }
     {
         self.still_sound()?;
@@ -174,6 +177,7 @@ impl<A: Allocator + Copy, W: Window<Packet<A>> + Drop> Engine<A, W> {
     /// # Errors
     ///
     /// Memory ran out, now or in an earlier call.
+    #[tactic(auto, using(crate::proofs::Breaking::broken_off_before))]
     pub fn on_snapshot(&mut self, snapshot: &Snapshot) -> Result<(), Memory>
         ensures stands { OnOk result ((listed : List Instrument) (es : List Accepted)
             (drained : List ℕ) → Stands listed es drained self.old
@@ -182,6 +186,8 @@ impl<A: Allocator + Copy, W: Window<Packet<A>> + Drop> Engine<A, W> {
         ensures sound { OnOk result (self.new.has_failed ≡ false) }
         ensures fails { IfErr result (λ _. self.new.has_failed ≡ true) }
         ensures front { BeginsWith self.new.held self.old.held }
+        ensures begins { OnErr result
+            (HasBrokenOff (recovered snapshot.now ∷ []) self.old self.new) }
         ensures stays { self.old.has_failed ≡ true → IsErr result }
     {
         self.still_sound()?;
@@ -199,6 +205,7 @@ impl<A: Allocator + Copy, W: Window<Packet<A>> + Drop> Engine<A, W> {
     /// # Errors
     ///
     /// Memory ran out, now or in an earlier call.
+    #[tactic(auto, using(crate::proofs::Breaking::broken_off_before))]
     pub fn on_next(&mut self, packet: &Packet<A>) -> Result<bool, Memory>
         ensures tells { IfOk result (λ passed. passed
             ≡ passes_at_once packet.now.number self.old.arbiter) }
@@ -210,6 +217,7 @@ impl<A: Allocator + Copy, W: Window<Packet<A>> + Drop> Engine<A, W> {
         ensures sound { OnOk result (self.new.has_failed ≡ false) }
         ensures fails { IfErr result (λ _. self.new.has_failed ≡ true) }
         ensures front { BeginsWith self.new.held self.old.held }
+        ensures begins { OnErr result (HasBrokenOff (came packet.now ∷ []) self.old self.new) }
         ensures stays { self.old.has_failed ≡ true → IsErr result }
     {
         self.still_sound()?;
@@ -274,6 +282,7 @@ impl<A: Allocator + Copy, W: Window<Packet<A>> + Drop> Engine<A, W> {
     }
 
     // Takes in an event, and makes moves until none is possible.
+    #[tactic(auto, using(crate::proofs::Breaking::broken_off_before))]
     fn advance(&mut self, event: Event<A>) -> Result<(), Memory>
         ensures stands { OnOk result ((listed : List Instrument) (es : List Accepted)
             (drained : List ℕ) → Stands listed es drained self.old
@@ -281,6 +290,7 @@ impl<A: Allocator + Copy, W: Window<Packet<A>> + Drop> Engine<A, W> {
         ensures channel { OnOk result (self.new.arbiter.channel ≡ self.old.arbiter.channel) }
         ensures sound { OnOk result (self.new.has_failed ≡ self.old.has_failed) }
         ensures front { BeginsWith self.new.held self.old.held }
+        ensures begins { OnErr result (HasBrokenOff (event_of event ∷ []) self.old self.new) }
     {
         if self.pass_at_once(&event)? {
             return Ok(());
@@ -298,6 +308,8 @@ impl<A: Allocator + Copy, W: Window<Packet<A>> + Drop> Engine<A, W> {
         ensures channel { OnOk result (self.new.arbiter.channel ≡ self.old.arbiter.channel) }
         ensures sound { OnOk result (self.new.has_failed ≡ self.old.has_failed) }
         ensures front { BeginsWith self.new.held self.old.held }
+        ensures begins { OnErr result
+            (HasBrokenOff (recovered snapshot.now ∷ []) self.old self.new) }
     {
         self.take_lent(snapshot);
         self.move_on()?;
@@ -326,6 +338,7 @@ impl<A: Allocator + Copy, W: Window<Packet<A>> + Drop> Engine<A, W> {
         ensures channel { OnOk result (self.new.arbiter.channel ≡ self.old.arbiter.channel) }
         ensures sound { OnOk result (self.new.has_failed ≡ self.old.has_failed) }
         ensures front { BeginsWith self.new.held self.old.held }
+        ensures begins { OnErr result (HasBrokenOff (event_of event.now ∷ []) self.old self.new) }
     {
         match event {
             Event::Packet(packet) => self.pass_packet(packet),
@@ -344,6 +357,7 @@ impl<A: Allocator + Copy, W: Window<Packet<A>> + Drop> Engine<A, W> {
         ensures channel { OnOk result (self.new.arbiter.channel ≡ self.old.arbiter.channel) }
         ensures sound { OnOk result (self.new.has_failed ≡ self.old.has_failed) }
         ensures front { BeginsWith self.new.held self.old.held }
+        ensures begins { OnErr result (HasBrokenOff (came packet.now ∷ []) self.old self.new) }
     {
         if !self.arbiter.pass_at_once(packet) {
             return Ok(false);
@@ -358,8 +372,7 @@ impl<A: Allocator + Copy, W: Window<Packet<A>> + Drop> Engine<A, W> {
             → StandsAt (es ++ event_of event ∷ []) self.new.arbiter) }
         ensures keeps { OnOk result (state self.new.arbiter ≡ state self.old.arbiter) }
         ensures channel { OnOk result (self.new.arbiter.channel ≡ self.old.arbiter.channel) }
-        ensures rest { OnOk result (self.new ≡ record self.old { arbiter = self.new.arbiter }) }
-        ensures front { BeginsWith self.new.held self.old.held }
+        ensures rest { self.new ≡ record self.old { arbiter = self.new.arbiter } }
     {
         take_in(&mut self.arbiter, event)
     }
@@ -370,6 +383,7 @@ impl<A: Allocator + Copy, W: Window<Packet<A>> + Drop> Engine<A, W> {
         ensures channel { OnOk result (self.new.arbiter.channel ≡ self.old.arbiter.channel) }
         ensures sound { OnOk result (self.new.has_failed ≡ self.old.has_failed) }
         ensures front { BeginsWith self.new.held self.old.held }
+        ensures begins { OnErr result (BreaksOffOnWay self.old self.new) }
     {
         while let Some(step) = self.arbiter.step() {
             self.take_step(step)?;
@@ -385,7 +399,8 @@ impl<A: Allocator + Copy, W: Window<Packet<A>> + Drop> Engine<A, W> {
             ++ stepped_text step self.old.desks) }
         ensures arbiter { OnOk result (self.new.arbiter ≡ self.old.arbiter) }
         ensures sound { OnOk result (self.new.has_failed ≡ self.old.has_failed) }
-        ensures front { BeginsWith self.new.held self.old.held }
+        ensures err { OnErr result (BreaksOff (stepped_text step self.old.desks) self.old.held
+            self.new.held) }
     {
         match step {
             Step::Pass(packet) => {

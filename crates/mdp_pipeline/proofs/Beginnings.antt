@@ -3,13 +3,10 @@ use Rattle.std.proofs.Common.{◌≡◌, ℕ, List, [], ◌∷◌, ◌++◌, map
 use Rattle.std.specs.List.{AllByRecursion}
 use Rattle.std.proofs.lemmas.List.{append-nil, map-append, take-append-drop}
 use Rattle.std.proofs.lemmas.List.Concat.{flat_map-append}
-use Rattle.mdp_sbe.specs.Answer.{HasOneAnswer}
-use Rattle.mdp_sbe.specs.Answer.HasOneAnswer.{is_good, is_refused}
 use Rattle.mdp_templates.specs.Incremental.{IsPacket, IsRefusedPacket}
 use Rattle.mdp_templates.specs.Recovery.{AreSnapshots, AreRefusedSnapshots}
 use Rattle.mdp_templates.specs.Refused.{FeedKind as Kind}
 use Rattle.mdp_templates.specs.Refused.FeedKind.{incremental, recovery}
-use Rattle.mdp_templates.proofs.OneAnswer.{one_packet, one_datagram}
 use Rattle.mdp_templates.specs.declared.feed.Feed.{Feed}
 use Rattle.mdp_capture.specs.Record.{RecordContent, Received, Datagram, Close}
 use Rattle.mdp_arbiter.specs.Accepted.{Event, came, recovered, closed}
@@ -20,6 +17,7 @@ use Rattle.mdp_desks.specs.Moments.{moments_after, shown_lines, text_of_moments}
 use Rattle.mdp_pipeline.specs.declared.progress.Run.{Run}
 use Rattle.mdp_pipeline.specs.Merge.{Arrival, FeedRecords, in_order}
 use Rattle.mdp_pipeline.specs.Reading.{Reading, Says, IsReading, AreReadings, by_feed, events_of, refusals_text}
+use Rattle.mdp_receiver.proofs.Breaking.{datagram_says}
 use Rattle.mdp_receiver.specs.Said.{Said, brings, refused, brought_by, kind_of}
 use Rattle.mdp_pipeline.specs.Output.{end_lines, shown_output}
 use Rattle.mdp_pipeline.specs.Running.{BeginsAll, PrintsAll, TakesAs, Writes}
@@ -28,18 +26,9 @@ use Rattle.mdp_pipeline.proofs.Written.{HasTaken, taken_more}
 
 -- ---- what records say that were not reached
 
-said_of_packet : (bytes : List ℕ) → HasOneAnswer (IsPacket bytes) (IsRefusedPacket bytes) → (said : Said) × Says incremental (Datagram bytes) said
-said_of_packet bytes (is_good packet is one none) = (brings (came packet ∷ []), (packet, is, refl))
-said_of_packet bytes (is_refused refusal is one none) = (refused refusal, is)
-
-said_of_snapshots : (bytes : List ℕ) → HasOneAnswer (AreSnapshots bytes) (AreRefusedSnapshots bytes) → (said : Said) × Says recovery (Datagram bytes) said
-said_of_snapshots bytes (is_good snapshots are one none) = (brings (map recovered snapshots), (snapshots, are, refl))
-said_of_snapshots bytes (is_refused refusal is one none) = (refused refusal, is)
-
 -- each record says something
 says_something : (kind : Kind) (received : Received) → (said : Said) × Says kind received said
-says_something incremental (Datagram bytes) = said_of_packet bytes (one_packet bytes)
-says_something recovery (Datagram bytes) = said_of_snapshots bytes (one_datagram bytes)
+says_something kind (Datagram bytes) = datagram_says kind bytes
 says_something incremental Close = (brings [], refl)
 says_something recovery Close = (brings (closed ∷ []), refl)
 

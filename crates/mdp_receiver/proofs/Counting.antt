@@ -28,7 +28,7 @@ pub counted_none : (snapshots : List SnapshotContent) (first : View) → AreCoun
 counted_none snapshots first = λ listed before sent stands.
     ap (λ (es : List Event). counts_after first.arbiter.channel.ids es (map recovered snapshots) no_counts) (sym (append-nil before))
 
-taken_so : (snapshots : List SnapshotContent) (i : ℕ) → i < length snapshots → (s : SnapshotContent) → s ≡ get_or snapshots i s → map recovered (take i snapshots) ++ recovered s ∷ [] ≡ map recovered (take (i + 1) snapshots)
+pub taken_so : (snapshots : List SnapshotContent) (i : ℕ) → i < length snapshots → (s : SnapshotContent) → s ≡ get_or snapshots i s → map recovered (take i snapshots) ++ recovered s ∷ [] ≡ map recovered (take (i + 1) snapshots)
 taken_so snapshots i within s at =
     ap (λ (x : SnapshotContent). map recovered (take i snapshots) ++ recovered x ∷ []) at
     ∙ sym (map-append recovered (take i snapshots) (get_or snapshots i s ∷ []))

@@ -3,3 +3,4 @@ pub mod Going
 pub mod Counting
 pub mod Complete
 mod NextPackets
+pub mod Breaking

@@ -14,7 +14,7 @@ use Rattle.mdp_arbiter.specs.Machine.{moves_of}
 use Rattle.mdp_desks.specs.Moments.{shown_lines}
 use Rattle.mdp_desks.specs.Shown.{standing_after}
 use Rattle.mdp_desks.specs.declared.desk.Desk.{Desk}
-use Rattle.mdp_engine.specs.Engine.{HoldsBook, Stands, View}
+use Rattle.mdp_engine.specs.Engine.{HasBrokenOff, HoldsBook, Stands, View}
 use Rattle.mdp_engine.specs.Honest.{IsHonest}
 use Rattle.mdp_engine.specs.Owed.{lines, steps_of}
 use Rattle.mdp_receiver.specs.Copies.{IsPacketOf}
@@ -46,6 +46,12 @@ pub record TakesSaid (said : Said) (taken : Taken) (old new : View) : Type 0 whe
 abbrev pub TakesDatagram : Feed → List ℕ → Taken → View → View → Type 0
 TakesDatagram feed bytes taken old new =
     (said : Said) × IsSaid (kind_of feed) bytes said × TakesSaid said taken old new
+
+-- Memory ran out at a datagram of a feed: what was handed on and what is held begin the lines of all events, those that
+-- it brings among them.
+abbrev pub HasBrokenOffAt : Feed → List ℕ → View → View → Type 0
+HasBrokenOffAt feed bytes old new =
+    (said : Said) × IsSaid (kind_of feed) bytes said × HasBrokenOff (brought_by said) old new
 
 -- a packet of this number changes nothing, since it has passed or was given up
 abbrev pub IsPast : ℕ → View → Type 0

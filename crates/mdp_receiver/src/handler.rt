@@ -13,12 +13,12 @@ ghost use Rattle.mdp_quotes.specs.Top.{top_of_book, top_of_quotes};
 ghost use Rattle.mdp_templates.specs.declared.instrument.Instrument.{Instrument};
 ghost use Rattle.mdp_arbiter.specs.Accepted.{Event as Accepted, came, closed, recovered};
 ghost use Rattle.mdp_arbiter.specs.Machine.{is_lost, state_at};
-ghost use Rattle.mdp_engine.specs.Engine.{Stands};
+ghost use Rattle.mdp_engine.specs.Engine.{HasBrokenOff, Stands};
 ghost use Rattle.mdp_arbiter.specs.Arbiter.{is_lost_now};
 ghost use Rattle.mdp_engine.specs.Steps.{event_of};
 ghost use Rattle.mdp_receiver.specs.Copies.{IsPacketOf};
-ghost use Rattle.mdp_receiver.specs.Handling.{GoesOn, Handles, IsCopy, IsPast, TakesDatagram, TakesSaid, is_current, is_within, state_of};
-ghost use Rattle.mdp_receiver.specs.Said.{IsSaid, brings, kind_of, said_of};
+ghost use Rattle.mdp_receiver.specs.Handling.{GoesOn, Handles, HasBrokenOffAt, IsCopy, IsPast, TakesDatagram, TakesSaid, is_current, is_within, state_of};
+ghost use Rattle.mdp_receiver.specs.Said.{IsSaid, brings, brought_by, kind_of, said_of};
 
 use crate::decoding::{Decoded, decode};
 use crate::last_packet::LastPacket;
@@ -80,8 +80,8 @@ fn best_of(book: &Book) -> Option<TopOfBook>
 /// securities, and holds the lines of the event ends until they are cleared; nothing else of it grows, but for room for
 /// a packet of some 10 KB. A slot is a security's place among the instruments, from 0.
 ///
-/// Once memory has run out the handler has failed: it takes no more datagrams, and the lines that it holds may break
-/// off anywhere. All else is answered as before.
+/// Once memory has run out the handler has failed: it takes no more datagrams. What was handed on, and behind it what
+/// it holds, is a beginning of the lines, which may break off anywhere. All else is answered as before.
 #[derive(Drop)]
 pub struct Handler<A: Allocator + Copy> {
     engine: Engine<A, RingWindow<Packet<A>, A>>,
@@ -141,11 +141,13 @@ impl<A: Allocator + Copy> Handler<A> {
     /// # Errors
     ///
     /// Memory ran out, now or in an earlier call.
+    #[tactic(auto, using(crate::proofs::Breaking::nothing_brought))]
     pub fn datagram(&mut self, alloc: A, feed: Feed, bytes: &[u8]) -> Result<Taken, Memory>
         ensures taken { IfOk result (λ taken. TakesDatagram feed bytes.now taken self.old self.new) }
         ensures sound { OnOk result (self.old.has_failed ≡ false) }
         ensures fails { IfErr result (λ _. self.new.has_failed ≡ true) }
         ensures err { OnErr result (BeginsWith self.new.held self.old.held) }
+        ensures begins { OnErr result (HasBrokenOffAt feed bytes.now self.old self.new) }
         ensures stays { self.old.has_failed ≡ true → IsErr result }
     {
         if self.engine.has_failed() {
@@ -167,6 +169,7 @@ impl<A: Allocator + Copy> Handler<A> {
         ensures goes { OnOk result (GoesOn (closed ∷ []) self.old self.new) }
         ensures fails { IfErr result (λ _. self.new.has_failed ≡ true) }
         ensures err { OnErr result (BeginsWith self.new.held self.old.held) }
+        ensures begins { OnErr result (HasBrokenOff (closed ∷ []) self.old self.new) }
         ensures stays { self.old.has_failed ≡ true → IsErr result }
     {
         self.on(Event::Close)
@@ -300,6 +303,7 @@ impl<A: Allocator + Copy> Handler<A> {
         ensures goes { OnOk result (GoesOn (event_of event ∷ []) self.old self.new) }
         ensures fails { IfErr result (λ _. self.new.has_failed ≡ true) }
         ensures front { BeginsWith self.new.held self.old.held }
+        ensures begins { OnErr result (HasBrokenOff (event_of event ∷ []) self.old self.new) }
         ensures stays { self.old.has_failed ≡ true → IsErr result }
     {
         self.engine.on(event)
@@ -309,14 +313,18 @@ impl<A: Allocator + Copy> Handler<A> {
     fn on_snapshot(&mut self, snapshot: &Snapshot) -> Result<(), Memory>
         ensures goes { OnOk result (GoesOn (recovered snapshot.now ∷ []) self.old self.new) }
         ensures front { BeginsWith self.new.held self.old.held }
+        ensures begins { OnErr result
+            (HasBrokenOff (recovered snapshot.now ∷ []) self.old self.new) }
     {
         self.engine.on_snapshot(snapshot)
     }
 
     // Takes a datagram of a feed.
+    #[tactic(auto, using(crate::proofs::Breaking::nothing_brought))]
     fn take(&mut self, alloc: A, feed: Feed, bytes: &[u8]) -> Result<Taken, Memory>
         ensures taken { IfOk result (λ taken. TakesDatagram feed bytes.now taken self.old self.new) }
         ensures front { BeginsWith self.new.held self.old.held }
+        ensures begins { OnErr result (HasBrokenOffAt feed bytes.now self.old self.new) }
     {
         if let Some(number) = self.copied(feed, bytes) {
             return Ok(Taken::Packet(self.engine.arbiter().fate_of(number)));
@@ -392,6 +400,7 @@ impl<A: Allocator + Copy> Handler<A> {
         ensures taken { IfOk result
             (λ taken. TakesDatagram Feed.A bytes.now taken self.old self.new) }
         ensures front { BeginsWith self.new.held self.old.held }
+        ensures begins { OnErr result (HasBrokenOffAt Feed.A bytes.now self.old self.new) }
     {
         match read_packet_into(alloc, bytes, &mut self.room) {
             Ok(()) => {}
@@ -423,6 +432,8 @@ impl<A: Allocator + Copy> Handler<A> {
     fn take_in(&mut self, decoded: Decoded<A>) -> Result<Taken, Memory>
         ensures taken { IfOk result (λ taken. TakesSaid (said_of decoded) taken self.old self.new) }
         ensures front { BeginsWith self.new.held self.old.held }
+        ensures begins { OnErr result
+            (HasBrokenOff (brought_by (said_of decoded)) self.old self.new) }
     {
         match decoded {
             Decoded::Packet(packet) => self.pass(packet),
@@ -436,6 +447,7 @@ impl<A: Allocator + Copy> Handler<A> {
         ensures taken { IfOk result (λ taken. TakesSaid
             (brings (came packet ∷ [])) taken self.old self.new) }
         ensures front { BeginsWith self.new.held self.old.held }
+        ensures begins { OnErr result (HasBrokenOff (came packet ∷ []) self.old self.new) }
     {
         let fate = self.engine.arbiter().fate_of(packet.number());
         self.on(Event::Packet(packet))?;
@@ -447,6 +459,7 @@ impl<A: Allocator + Copy> Handler<A> {
         ensures taken { IfOk result (λ taken. TakesSaid
             (brings (map recovered snapshots.now)) taken self.old self.new) }
         ensures front { BeginsWith self.new.held self.old.held }
+        ensures begins { OnErr result (HasBrokenOff (map recovered snapshots.now) self.old self.new) }
     {
         let mut counts = SnapshotCounts::NONE;
         for snapshot in snapshots {

@@ -1,7 +1,7 @@
-use Rattle.std.proofs.Common.{rules, ◌<◌, ℕ, length, sym, arith, subst}
+use Rattle.std.proofs.Common.{rules, ◌<◌, ℕ, length, refl, sym, arith, subst}
 use Rattle.std.specs.Prelude.{List}
-use Rattle.mdp_print.specs.Pieces.{BeginsWith}
-use Rattle.mdp_print.proofs.Fronts.{begins_first, begins_more}
+use Rattle.mdp_print.specs.Pieces.{BeginsWith, BreaksOff}
+use Rattle.mdp_print.proofs.Fronts.{begins_more, breaks_within}
 use Rattle.mdp_desks.proofs.Waiting.{clear_due}
 use Rattle.mdp_desks.proofs.Passing.{lines_more, lines_end}
 use Rattle.mdp_desks.proofs.desks.put_marked.Goals as goal
@@ -30,5 +30,12 @@ returns-clause-ok g c =
 
 pub returns-in_err-put-clause-err : goal.returns-in_err-put-clause-err
 returns-in_err-put-clause-err g c =
-    let front : BeginsWith c.put.new.out.items c.args.out.now.items = begins_first c.args.out.now.items c.loop-n.out.items c.put.new.out.items c.loop-n.invariant.front c.in_err-put.ensures.err in
+    let ds = c.args.desks.now in
+    let n = c.in-Some.n in
+    let long = c.requires.many in
+    let first = c.in-Some.ensures.some in
+    let less : n < length ds = omega (arith, first.inside, long) in
+    let clear = clear_due c.args.end.packet ds _ c.loop-n.from n c.requires first.before in
+    let text = lines_more c.args.end ds c.loop-n.from n _ c.loop-n.out.items _ _ first.behind less clear c.index-desks-n.is refl c.loop-n.invariant.text in
+    let off : BreaksOff _ c.args.out.now.items c.put.new.out.items = breaks_within _ c.args.out.now.items c.loop-n.out.items _ _ c.put.new.out.items c.loop-n.invariant.front text c.in_err-put.ensures.err in
     search rules

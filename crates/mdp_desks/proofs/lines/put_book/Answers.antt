@@ -1,15 +1,18 @@
-use Rattle.std.proofs.Common.{rules, ◌++◌, ◌∙◌, ap, append_assoc}
-use Rattle.mdp_print.specs.Pieces.{BeginsWith}
-use Rattle.mdp_print.specs.Texts.{direct_line, implied_line}
-use Rattle.mdp_print.proofs.Fronts.{begins_less}
+use Rattle.std.proofs.Common.{◌≡◌, rules, ℕ, List, subst}
+use Rattle.std.proofs.lemmas.Result.{err_from_is_err_and}
+use Rattle.mdp_books.specs.declared.book.Book.TheVariants.{Good}
+use Rattle.mdp_print.specs.Pieces.{BreaksOff}
+use Rattle.mdp_print.proofs.Fronts.{breaks_late}
+use Rattle.mdp_desks.specs.Lines.{sides_lines}
 use Rattle.mdp_desks.proofs.lines.put_book.Goals as goal
 
 pub returns-in_err-top-in-Good-clause-err : goal.returns-in_err-top-in-Good-clause-err
 returns-in_err-top-in-Good-clause-err g c =
     let before = c.args.out.now.items in
-    let sides = c.in-Good.sides in
-    let direct = direct_line c.new-head.result sides.bids.levels sides.offers.levels in
-    let implied = implied_line c.new-head.result sides.implied_bids.levels sides.implied_offers.levels in
-    let now = c.in_ok-put_implied-in-Good.ensures.ok ∙ ap (λ ys. ys ++ implied) c.in_ok-put_direct-in-Good.ensures.ok ∙ append_assoc before direct implied in
-    let front : BeginsWith c.put_totals.new.out.items before = begins_less before (direct ++ implied) c.put_implied.new.out.items c.put_totals.new.out.items now c.in_err-top-in-Good.ensures.err in
-    search rules
+    let first = c.put_direct.new.out.items in
+    let after = c.put_totals.new.out.items in
+    let fault = err_from_is_err_and c.from_residual-in_err-top-in-Good.result c.from_residual-in_err-top-in-Good.ensures.1 in
+    let live : c.args.live.now ≡ Good c.in-Good.sides = search rules in
+    let behind = breaks_late _ _ first c.put_implied.new.out.items after c.in_ok-put_implied-in-Good.ensures.ok c.in_err-top-in-Good.ensures.err in
+    let off = breaks_late _ _ before first after c.in_ok-put_direct-in-Good.ensures.ok behind in
+    rw (fault.1, live) (subst (λ (h : List ℕ). BreaksOff (sides_lines h c.in-Good.sides) before after) c.new-head.ensures off)

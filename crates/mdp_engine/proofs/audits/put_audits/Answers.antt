@@ -1,8 +1,8 @@
-use Rattle.std.proofs.Common.{rules, ◌≢◌, ◌<◌, ◌++◌, ℕ, List, false, length, get_or, sym, ap, subst, ◌∙◌, arith}
+use Rattle.std.proofs.Common.{rules, ◌≢◌, ◌<◌, ◌++◌, ℕ, List, false, length, get_or, refl, sym, ap, subst, ◌∙◌, arith}
 use Rattle.std.specs.List.{flat_map}
 use Rattle.std.proofs.lemmas.List.{length-set, get_or-set_other}
-use Rattle.mdp_print.specs.Pieces.{BeginsWith}
-use Rattle.mdp_print.proofs.Fronts.{begins_first, begins_more}
+use Rattle.mdp_print.specs.Pieces.{BeginsWith, BreaksOff}
+use Rattle.mdp_print.proofs.Fronts.{begins_more, breaks_within}
 use Rattle.mdp_engine.specs.Spreads.{spread_line}
 use Rattle.mdp_engine.proofs.Auditing.{audits_are, under_there}
 use Rattle.mdp_engine.proofs.Noting.{line_more, line_end}
@@ -49,5 +49,17 @@ returns-clause-text g c =
 
 pub returns-in_err-put_audit_at-clause-err : goal.returns-in_err-put_audit_at-clause-err
 returns-in_err-put_audit_at-clause-err g c =
-    let front : BeginsWith c.put_audit_at.new.out.items c.args.out.now.items = begins_first c.args.out.now.items c.loop-n.out.items c.put_audit_at.new.out.items c.loop-n.invariant.front c.in_err-put_audit_at.ensures.err in
+    let ds = c.args.desks.now in
+    let spreads = c.args.spreads.now in
+    let line = spread_line c.args.event.now ds in
+    let n = c.in-Some.n in
+    let first = c.in-Some.ensures.some in
+    let was = c.loop-n.invariant in
+    let long = was.long in
+    let less : n < length spreads = omega (arith, first.inside, long, c.requires.many) in
+    let before = c.args.out.now.items in
+    let text = line_more line spreads c.args.due.now c.loop-n.due c.loop-n.from n _ c.loop-n.out.items _ (before ++ flat_map line spreads) c.requires.silent was.marks first.behind less first.before refl was.text in
+    let whole = audits_are c.args.event.now ds spreads c.requires.spreads.differ c.requires.spreads.spreads_are in
+    let off : BreaksOff _ before c.put_audit_at.new.out.items =
+    breaks_within _ before c.loop-n.out.items _ _ c.put_audit_at.new.out.items was.front (text ∙ ap (λ (t : List ℕ). before ++ t) (sym whole)) c.in_err-put_audit_at.ensures.err in
     search rules

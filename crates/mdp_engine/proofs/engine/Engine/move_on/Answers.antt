@@ -2,7 +2,8 @@ use Rattle.std.proofs.Common.{ℕ, List, refl, sym, ap, subst, rules, ◌∙◌}
 use Rattle.mdp_print.specs.Pieces.{BeginsWith}
 use Rattle.mdp_print.proofs.Fronts.{begins_first, begins_more}
 use Rattle.mdp_arbiter.specs.Arbiter.{View as ArbiterView}
-use Rattle.mdp_engine.specs.Engine.{View}
+use Rattle.mdp_engine.specs.Engine.{BreaksOffOnWay, View}
+use Rattle.mdp_engine.proofs.Breaking.{way_breaks_off}
 use Rattle.mdp_engine.proofs.Moving.{MovesTo, moves_further, moves_settled}
 use Rattle.mdp_engine.proofs.engine.Engine.move_on.Goals as goal
 
@@ -28,5 +29,13 @@ returns-clause-advances g c =
 pub returns-in_err-take_step-clause-front : goal.returns-in_err-take_step-clause-front
 returns-in_err-take_step-clause-front g c =
     let so_far = subst (λ (v : View). BeginsWith v.held c.args.self.now.held) (sym c.self.view_is) c.loop-step.invariant.front in
-    let front : BeginsWith c.take_step.new.self.held c.args.self.now.held = begins_first c.args.self.now.held _ c.take_step.new.self.held so_far c.in_err-take_step.ensures.front in
+    let front : BeginsWith c.take_step.new.self.held c.args.self.now.held = begins_first c.args.self.now.held _ c.take_step.new.self.held so_far c.in_err-take_step.ensures.err.kept in
+    search rules
+
+pub returns-in_err-take_step-clause-begins : goal.returns-in_err-take_step-clause-begins
+returns-in_err-take_step-clause-begins g c =
+    let so_far = subst (λ (v : View). MovesTo c.args.self.now v) (sym c.self.view_is) c.loop-step.invariant.moves in
+    let kept = ap (λ (v : View). v.arbiter.channel) c.self.view_is ∙ c.loop-step.invariant.channel in
+    let breaks : BreaksOffOnWay c.args.self.now c.take_step.new.self =
+    way_breaks_off c.args.self.now _ c.take_step.new.self c.step.new.self c.in-Some.step so_far kept c.in-Some.ensures.steps c.in-Some.ensures.channel c.in_err-take_step.ensures.err in
     search rules

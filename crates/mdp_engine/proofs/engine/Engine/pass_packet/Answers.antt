@@ -1,5 +1,8 @@
-use Rattle.std.proofs.Common.{sym, subst}
-use Rattle.mdp_engine.specs.Engine.{View, Stands}
+use Rattle.std.proofs.Common.{[], ◌∷◌, sym, subst}
+use Rattle.std.proofs.lemmas.Result.{err_from_is_err_and}
+use Rattle.mdp_arbiter.specs.Accepted.{came}
+use Rattle.mdp_engine.specs.Engine.{View, Stands, HasBrokenOff}
+use Rattle.mdp_engine.proofs.Breaking.{broken_off_passing}
 use Rattle.mdp_engine.proofs.Moving.{stands_passed}
 use Rattle.mdp_engine.proofs.engine.Engine.pass_packet.Goals as goal
 
@@ -11,3 +14,11 @@ returns-clause-passed g c = λ passed listed es drained stands.
     stands_passed listed es c.args.packet.now drained old new
     (c.pass_at_once.ensures.passes c.if-not-pass_at_once.false es stood.settled.stands) c.pass_at_once.ensures.channel
     c.in_ok-pass.ensures.desks c.in_ok-pass.ensures.text stood
+
+pub returns-in_err-pass-clause-begins : goal.returns-in_err-pass-clause-begins
+returns-in_err-pass-clause-begins g c =
+    let fault = err_from_is_err_and c.from_residual.result c.from_residual.ensures.1 in
+    let old : View = record { arbiter = c.self.inside.arbiter; desks = c.self.inside.desks; held = c.self.inside.held.items; has_failed = c.self.inside.has_failed } in
+    let new : View = record { arbiter = c.pass_at_once.new.self; desks = c.pass.new.self; held = c.pass.new.out.items; has_failed = c.self.inside.has_failed } in
+    rw fault.1 (subst (λ (v : View). HasBrokenOff (came c.args.packet.now ∷ []) v new) c.self.view_is
+    (broken_off_passing c.args.packet.now old new c.pass_at_once.new.self (c.pass_at_once.ensures.passes c.if-not-pass_at_once.false) c.pass_at_once.ensures.channel c.in_err-pass.ensures.err))

@@ -1,11 +1,13 @@
 use Rattle.std.proofs.Common.{◌≡◌, ◌≤◌, List, length, sym, ap, subst, ◌∙◌, arith}
 use Rattle.std.proofs.lemmas.List.{take_all, drop_all}
+use Rattle.std.proofs.lemmas.Result.{err_from_is_err_and}
 use Rattle.mdp_print.proofs.Fronts.{begins_first}
 use Rattle.mdp_arbiter.specs.Accepted.{Event}
 use Rattle.mdp_arbiter.specs.Arbiter.{View as ArbiterView}
 use Rattle.mdp_arbiter.specs.Fates.{snapshot_fate}
 use Rattle.mdp_arbiter.specs.Standing.{StandsAt}
 use Rattle.mdp_engine.specs.Engine.{View}
+use Rattle.mdp_receiver.proofs.Breaking.{broken_off_at}
 use Rattle.mdp_receiver.proofs.Counting.{AreCounted, counted_all, counted_more, few_more, goes_so}
 use Rattle.mdp_receiver.proofs.handler.Handler.recover.Goals as goal
 
@@ -34,3 +36,9 @@ returns-clause-taken g c =
     let i = c.loop-snapshot.snapshot-index in
     let past : length snapshots ≤ i = omega (arith, c.loop-snapshot-test.false) in
     counted_all snapshots i c.args.self.now c.loop-snapshot.self c.loop-snapshot.counts (drop_all i snapshots past) (take_all i snapshots past) c.loop-snapshot.invariant.goes c.loop-snapshot.invariant.counted
+
+pub returns-in_err-on_snapshot-clause-begins : goal.returns-in_err-on_snapshot-clause-begins
+returns-in_err-on_snapshot-clause-begins g c =
+    let fault = err_from_is_err_and c.from_residual.result c.from_residual.ensures.1 in
+    rw fault.1 (broken_off_at c.args.snapshots.now c.loop-snapshot.snapshot-index c.snapshot-item.result c.args.self.now c.loop-snapshot.self c.on_snapshot.new.self
+    c.loop-snapshot-test.true c.snapshot-item.is c.loop-snapshot.invariant.goes c.in_err-on_snapshot.ensures.begins)

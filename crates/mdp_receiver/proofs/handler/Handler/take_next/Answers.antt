@@ -1,15 +1,19 @@
-use Rattle.std.proofs.Common.{◌≡◌, List, sym, ap, subst, ◌∙◌}
+use Rattle.std.proofs.Common.{◌≡◌, List, [], ◌∷◌, refl, sym, ap, subst, ◌∙◌}
+use Rattle.std.proofs.lemmas.Result.{err_from_is_err_and, on_err_weaker}
 use Rattle.mdp_sbe.specs.declared.refusal.Refusal.{Refusal}
 use Rattle.mdp_templates.specs.Answer.{OnRefusal}
 use Rattle.mdp_templates.specs.Refused.{IsRefusedAs}
 use Rattle.mdp_templates.specs.Refused.FeedKind.{incremental}
 use Rattle.mdp_templates.specs.declared.fault.Fault.{Fault}
 use Rattle.mdp_templates.specs.declared.fault.Fault.TheVariants as faults
-use Rattle.mdp_arbiter.specs.Accepted.{Event}
+use Rattle.mdp_templates.specs.declared.feed.Feed.TheVariants as feeds
+use Rattle.mdp_arbiter.specs.Accepted.{Event, came}
 use Rattle.mdp_arbiter.specs.Arbiter.{View as ArbiterView, state}
 use Rattle.mdp_arbiter.specs.Fates.{packet_fate}
 use Rattle.mdp_arbiter.specs.Standing.{StandsAt}
-use Rattle.mdp_engine.specs.Engine.{View}
+use Rattle.mdp_engine.specs.Engine.{HasBrokenOff, View}
+use Rattle.mdp_receiver.specs.Handling.{HasBrokenOffAt}
+use Rattle.mdp_receiver.proofs.Breaking.{nothing_brought, packet_brought}
 use Rattle.mdp_receiver.proofs.NextPackets.{takes_packet, takes_refused}
 use Rattle.mdp_receiver.proofs.handler.Handler.take_next.Goals as goal
 
@@ -32,3 +36,27 @@ returns-then-branch-clause-taken g c =
       stands = rw (← c.self.view_is) (c.in_ok-on_next.ensures.passed c.if-branch.true);
       channel = rw (← c.self.view_is) c.in_ok-on_next.ensures.channel;
     })
+
+pub returns-in-Err-Memory-clause-begins : goal.returns-in-Err-Memory-clause-begins
+returns-in-Err-Memory-clause-begins g c = rw c.self.view_is (nothing_brought feeds.A c.args.bytes.now c.args.self.now c.args.self.now refl)
+
+pub returns-in_err-keep-clause-begins : goal.returns-in_err-keep-clause-begins
+returns-in_err-keep-clause-begins g c =
+    let fault = err_from_is_err_and c.from_residual.result c.from_residual.ensures.1 in
+    rw (fault.1, c.self.view_is) (nothing_brought feeds.A c.args.bytes.now c.args.self.now c.args.self.now refl)
+
+pub returns-in_err-on_next-clause-begins : goal.returns-in_err-on_next-clause-begins
+returns-in_err-on_next-clause-begins g c =
+    let fault = err_from_is_err_and c.from_residual-in_err-on_next.result c.from_residual-in_err-on_next.ensures.1 in
+    let packet = c.read_packet_into.new.packet in
+    let broken = subst (λ (v : View). HasBrokenOff (came packet ∷ []) v c.on_next.new.self) c.self.view_is c.in_err-on_next.ensures.begins in
+    rw fault.1 (packet_brought c.args.bytes.now packet c.args.self.now c.on_next.new.self c.in-Ok.ensures.ok broken)
+
+pub returns-clause-begins : goal.returns-clause-begins
+returns-clause-begins g c =
+    let packet = c.read_packet_into.new.packet in
+    let stays = c.in_ok-on_next.ensures.kept c.if-branch.false ∙ c.self.view_is in
+    let broken : HasBrokenOff (came c.replace-packet.result ∷ []) c.on_next.new.self c.pass.new.self → HasBrokenOffAt feeds.A c.args.bytes.now c.args.self.now c.pass.new.self =
+    λ b. packet_brought c.args.bytes.now packet c.args.self.now c.pass.new.self c.in-Ok.ensures.ok
+    (subst (λ (v : View). HasBrokenOff (came packet ∷ []) v c.pass.new.self) stays (rw (← c.replace-packet.ensures.value) b)) in
+    on_err_weaker c.pass.result broken c.pass.ensures.begins
