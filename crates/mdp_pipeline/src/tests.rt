@@ -6,6 +6,7 @@ mod failed_writes;
 mod on_board;
 mod pace;
 mod refused_allocations;
+mod requests;
 mod ways;
 
 ghost use Rattle.std.specs.Prelude.{◌≤◌};
