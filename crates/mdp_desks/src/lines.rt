@@ -21,8 +21,7 @@ fn put_totals<A: Allocator>(
 ) -> Result<TopOfBook, Memory>
     ensures line { OnOk result (out.new.items ≡ out.old.items
         ++ consolidated_line head.now (quotes_of sides.now).bids (quotes_of sides.now).offers) }
-    ensures err { OnErr result (BreaksOff (consolidated_line head.now (quotes_of sides.now).bids
-        (quotes_of sides.now).offers) out.old.items out.new.items) }
+    ensures err { OnErr result (out.new.items ≡ out.old.items) }
     ensures top { IfOk result (λ top. top ≡ top_of_quotes (quotes_of sides.now)) }
 {
     if are_in_order(sides) {

@@ -19,7 +19,7 @@ use Rattle.mdp_desks.specs.Desks.{passed_desks, passed_moments}
 use Rattle.mdp_desks.specs.Moments.{moments_after, shown_lines, text_of_moments}
 use Rattle.mdp_desks.proofs.Moments.{shown_lines-append}
 use Rattle.mdp_engine.specs.Steps.{stepped_desks, stepped_text}
-use Rattle.mdp_engine.specs.Engine.{View, Stands, IsUnderWay, BreaksOffOnWay, HasBrokenOff}
+use Rattle.mdp_engine.specs.Engine.{View, Stands, BreaksOffOnWay, HasBrokenOff}
 use Rattle.mdp_engine.proofs.Moving.{Leads, MovesTo, moves_further, stands_passed, taken_further}
 
 -- what was drained, what was held and a text that breaks off begin what begins with all of that text

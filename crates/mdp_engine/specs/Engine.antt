@@ -48,8 +48,8 @@ pub record Stands (listed : List Instrument) (es : List Event) (drained : List �
   pub settled : IsSettled listed es v.arbiter
   pub shows : Shows listed (trace v.arbiter.channel es) v.desks (drained ++ v.held)
 
--- Memory ran out at these further events: wherever it stood, after whatever text was drained, that and what it holds
--- begin the lines that the moves of all events show.
+-- Memory ran out at these further events: wherever the engine stood before, and whatever text had been drained, that
+-- text and what the engine now holds begin the lines that the moves of all events show.
 abbrev pub HasBrokenOff : List Event → View → View → Type 0
 HasBrokenOff further old new =
     (listed : List Instrument) (es : List Event) (drained : List ℕ) → Stands listed es drained old
@@ -102,7 +102,7 @@ Advances old new =
     → (made : List Move) × HasMoved es old.arbiter new.arbiter made
     × IsUnderWay listed es (moves ++ made) drained new
 
--- On the way memory ran out: whatever moves had been shown, the text that was drained and what it holds begin the lines
+-- Memory ran out on the way: whatever moves had been shown, the text that was drained and what it holds begin the lines
 -- of these and of all moves that are then possible.
 abbrev pub BreaksOffOnWay : View → View → Type 0
 BreaksOffOnWay old new =

@@ -28,9 +28,9 @@ abbrev pub IsBookOf : List Instrument → List PacketContent → SnapshotContent
 IsBookOf listed feed s =
     AllByRecursion (λ (i : Instrument). i.id ≡ s.security → IsSnapshotOf feed i s) listed
 
--- Where the snapshots that came are the books of one feed, which may end before the packets that came do, and the first
--- packets of its numbers are its own, there is a complete feed that the events agree with. Each packet has a number
--- that a feed can have.
+-- Let each packet have a number that a feed can have. Where the snapshots of listed securities that came are the books
+-- of one feed, and of each of its numbers the packet that came first is its own, there is a complete feed that the
+-- events agree with. That one feed may end before the packets that came do.
 abbrev pub LawOfHonestFeeds : Type 0
 LawOfHonestFeeds = (listed : List Instrument) (es : List Event) (begun : List PacketContent)
     → AllByRecursion (λ (p : PacketContent). (1 ≤ p.number) × (p.number ≤ 4294967295)) (accepted_packets es)

@@ -174,8 +174,8 @@ impl<A: Allocator + Copy> AuditedDesks<A> {
     }
 
     /// Jumps from packet number `old` to `new`: appends the line of the jump, and replaces each book by its security's
-    /// snapshot, listed side by side, where there is one. After want of memory the line breaks off, and the desks are
-    /// of no more use.
+    /// snapshot, listed side by side, where there is one. After want of memory nothing is appended, and the desks are of
+    /// no more use.
     pub fn jump(
         &mut self,
         out: &mut Vec<u8, A>,
@@ -185,7 +185,7 @@ impl<A: Allocator + Copy> AuditedDesks<A> {
     ) -> Result<(), Memory>
         ensures desks { OnOk result (self.new ≡ rebased_desks bases.now self.old) }
         ensures text { OnOk result (out.new.items ≡ out.old.items ++ jump_line old new) }
-        ensures err { OnErr result (BreaksOff (jump_line old new) out.old.items out.new.items) }
+        ensures err { OnErr result (out.new.items ≡ out.old.items) }
     {
         put_jump(out, old, new)?;
         self.rebase(bases);

@@ -29,8 +29,7 @@ pub fn put_verdicts<A: Allocator>(
 ) -> Result<(), Memory>
     ensures ok { OnOk result (out.new.items ≡ out.old.items
         ++ verdicts_text end name.now spread leg1 leg2) }
-    ensures err { OnErr result (BreaksOff (verdicts_text end name.now spread leg1 leg2)
-        out.old.items out.new.items) }
+    ensures err { OnErr result (out.new.items ≡ out.old.items) }
 {
     match (spread, leg1, leg2) {
         (Some(spread), Some(leg1), Some(leg2)) => {
@@ -53,8 +52,7 @@ fn put_verdicts_under<A: Allocator>(
 ) -> Result<(), Memory>
     ensures ok { OnOk result (out.new.items ≡ out.old.items
         ++ verdicts_text event.now name.now spread leg1 leg2) }
-    ensures err { OnErr result (BreaksOff (verdicts_text event.now name.now spread leg1 leg2)
-        out.old.items out.new.items) }
+    ensures err { OnErr result (out.new.items ≡ out.old.items) }
 {
     let (Some(spread), Some(leg1), Some(leg2)) = (spread, leg1, leg2) else {
         return Ok(());
@@ -105,10 +103,7 @@ fn put_spread<A: Allocator>(
     ensures ok { OnOk result (out.new.items ≡ out.old.items
         ++ spread_text event.now (desk_standing event.now.packet spread.now)
         (desk_standing event.now.packet leg1.now) (desk_standing event.now.packet leg2.now)) }
-    ensures err { OnErr result (BreaksOff
-        (spread_text event.now (desk_standing event.now.packet spread.now)
-        (desk_standing event.now.packet leg1.now) (desk_standing event.now.packet leg2.now))
-        out.old.items out.new.items) }
+    ensures err { OnErr result (out.new.items ≡ out.old.items) }
 {
     if !is_one_marked {
         return Ok(());
@@ -138,8 +133,7 @@ fn put_audit_at<A: Allocator>(
     requires under { IsUnder (length desks.now) spread.now }
     ensures ok { OnOk result (out.new.items ≡ out.old.items
         ++ spread_line event.now desks.now spread.now) }
-    ensures err { OnErr result (BreaksOff (spread_line event.now desks.now spread.now)
-        out.old.items out.new.items) }
+    ensures err { OnErr result (out.new.items ≡ out.old.items) }
 {
     put_spread(
         out,

@@ -3,10 +3,10 @@
 ghost use Rattle.std.specs.Prelude.{◌≡◌, ◌≤◌, ◌++◌, [], ◌∷◌, List, ℕ, true, false, nat_lt, map, IfOk, IfErr, IsErr, OnErr, OnOk};
 ghost use Rattle.std.specs.FinMap as map;
 ghost use Rattle.mdp_templates.specs.Packet.{PacketContent};
-ghost use Rattle.mdp_templates.specs.Instrument.{AreFit, ids_of};
+ghost use Rattle.mdp_templates.specs.Instrument.{AreFit};
 ghost use Rattle.mdp_templates.specs.declared.instrument.Instrument.{Instrument};
 ghost use Rattle.mdp_arbiter.specs.Accepted.{Event as Accepted, came, recovered};
-ghost use Rattle.mdp_arbiter.specs.Machine.{State, is_lost, moves_of, state_at};
+ghost use Rattle.mdp_arbiter.specs.Machine.{is_lost, moves_of, state_at};
 ghost use Rattle.mdp_arbiter.specs.Channel.{channel_of};
 ghost use Rattle.mdp_arbiter.specs.Arbiter.{is_lost_now, state};
 ghost use Rattle.mdp_arbiter.specs.Packets.{passes_at_once};
@@ -31,9 +31,8 @@ use std::marker::Model;
 /// Arbitrates the feeds of a channel, keeps its books, and holds the lines that are owed until they leave it: they are
 /// drained into a text, or lent by `lines` and, once they were handed on, forgotten by `clear_lines`.
 ///
-/// Once memory has run out the engine has failed: it takes in nothing more and drains nothing more. What was drained
-/// or handed on before, and behind it what a failed engine holds, is a beginning of the lines, which may break off
-/// anywhere.
+/// Once memory has run out the engine has failed: it takes in nothing more and drains nothing more. What was drained or
+/// handed on before, with what a failed engine holds behind it, is a beginning of the lines, and may break off anywhere.
 #[derive(Drop)]
 pub struct Engine<A: Allocator, W: Window<Packet<A>> + Drop> {
     arbiter: Arbiter<A, W>,
@@ -162,6 +161,7 @@ impl<A: Allocator + Copy, W: Window<Packet<A>> + Drop> Engine<A, W> {
         ensures front { BeginsWith self.new.held self.old.held }
         ensures begins { OnErr result (HasBrokenOff (event_of event ∷ []) self.old self.new) }
         ensures stays { self.old.has_failed ≡ true → IsErr result }
+        ensures rests { self.old.has_failed ≡ true → self.new ≡ self.old }
     {
         self.still_sound()?;
         let Ok(()) = self.advance(event) else {
@@ -189,6 +189,7 @@ impl<A: Allocator + Copy, W: Window<Packet<A>> + Drop> Engine<A, W> {
         ensures begins { OnErr result
             (HasBrokenOff (recovered snapshot.now ∷ []) self.old self.new) }
         ensures stays { self.old.has_failed ≡ true → IsErr result }
+        ensures rests { self.old.has_failed ≡ true → self.new ≡ self.old }
     {
         self.still_sound()?;
         let Ok(()) = self.recover(snapshot) else {
@@ -219,6 +220,7 @@ impl<A: Allocator + Copy, W: Window<Packet<A>> + Drop> Engine<A, W> {
         ensures front { BeginsWith self.new.held self.old.held }
         ensures begins { OnErr result (HasBrokenOff (came packet.now ∷ []) self.old self.new) }
         ensures stays { self.old.has_failed ≡ true → IsErr result }
+        ensures rests { self.old.has_failed ≡ true → self.new ≡ self.old }
     {
         self.still_sound()?;
         let Ok(passed) = self.pass_packet(packet) else {
@@ -232,7 +234,7 @@ impl<A: Allocator + Copy, W: Window<Packet<A>> + Drop> Engine<A, W> {
     ///
     /// # Errors
     ///
-    /// Memory ran out, now or in an earlier call. Then nothing is appended.
+    /// Memory ran out, now or in an earlier call. Then nothing is appended, and what is held stays.
     pub fn drain_lines(&mut self, out: &mut Vec<u8, A>) -> Result<(), Memory>
         ensures text { OnOk result (out.new.items ≡ out.old.items ++ self.old.held) }
         ensures drained { OnOk result (self.new ≡ record self.old { held = [] }) }
@@ -240,7 +242,7 @@ impl<A: Allocator + Copy, W: Window<Packet<A>> + Drop> Engine<A, W> {
             (drained : List ℕ) → Stands listed es drained self.old
             → Stands listed es (drained ++ self.old.held) self.new) }
         ensures kept { IfErr result (λ _. out.new.items ≡ out.old.items) }
-        ensures fails { IfErr result (λ _. self.new.has_failed ≡ true) }
+        ensures fails { OnErr result (self.new ≡ record self.old { has_failed = true }) }
         ensures stays { self.old.has_failed ≡ true → IsErr result }
     {
         self.still_sound()?;

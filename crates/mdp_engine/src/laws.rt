@@ -24,9 +24,9 @@ pub fn law_of_owed_books()
     ensures { LawOfOwedBooks }
 {}
 
-/// Proves that there is a complete feed that the events agree with wherever the snapshots that came are the books of
-/// one feed, and the first packets of its numbers are its own. That feed may end before the packets that came do:
-/// behind it they may be any of a number that a feed can have.
+/// Proves that there is a complete feed that the events agree with wherever the snapshots of listed securities that
+/// came are the books of one feed, of each of its numbers the packet that came first is its own, and each packet has a
+/// number that a feed can have. That one feed may end before the packets that came do.
 pub fn honest_feeds_exist()
     ensures { LawOfHonestFeeds }
 {}

@@ -3,13 +3,11 @@ use Rattle.std.proofs.Common.{◌≡◌, ℕ, List, [], ◌∷◌, ◌++◌, map
 use Rattle.std.specs.List.{AllByRecursion}
 use Rattle.std.proofs.lemmas.List.{append-nil, map-append, take-append-drop}
 use Rattle.std.proofs.lemmas.List.Concat.{flat_map-append}
-use Rattle.mdp_templates.specs.Incremental.{IsPacket, IsRefusedPacket}
-use Rattle.mdp_templates.specs.Recovery.{AreSnapshots, AreRefusedSnapshots}
 use Rattle.mdp_templates.specs.Refused.{FeedKind as Kind}
 use Rattle.mdp_templates.specs.Refused.FeedKind.{incremental, recovery}
 use Rattle.mdp_templates.specs.declared.feed.Feed.{Feed}
 use Rattle.mdp_capture.specs.Record.{RecordContent, Received, Datagram, Close}
-use Rattle.mdp_arbiter.specs.Accepted.{Event, came, recovered, closed}
+use Rattle.mdp_arbiter.specs.Accepted.{Event, closed}
 use Rattle.mdp_arbiter.specs.Machine.{go_on, moves_of, stands_after, state_at, trace}
 use Rattle.mdp_arbiter.specs.Channel.{Channel, ListedChannel, channel_of}
 use Rattle.mdp_arbiter.proofs.Runs.{law_of_fronts}
@@ -18,7 +16,7 @@ use Rattle.mdp_pipeline.specs.declared.progress.Run.{Run}
 use Rattle.mdp_pipeline.specs.Merge.{Arrival, FeedRecords, in_order}
 use Rattle.mdp_pipeline.specs.Reading.{Reading, Says, IsReading, AreReadings, by_feed, events_of, refusals_text}
 use Rattle.mdp_receiver.proofs.Breaking.{datagram_says}
-use Rattle.mdp_receiver.specs.Said.{Said, brings, refused, brought_by, kind_of}
+use Rattle.mdp_receiver.specs.Said.{Said, brings, brought_by, kind_of}
 use Rattle.mdp_pipeline.specs.Output.{end_lines, shown_output}
 use Rattle.mdp_pipeline.specs.Running.{BeginsAll, PrintsAll, TakesAs, Writes}
 use Rattle.mdp_desks.proofs.Moments.{shown_lines-append}

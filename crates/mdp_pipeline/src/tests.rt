@@ -1,5 +1,6 @@
 //! Runs over threads: the text of a capture that any merge gives, readers and workers that run at once, and each start refused; what is
-//! published on a board; runs as the manual shows them; and each allocation and each write refused, also on one thread.
+//! published on a board; runs as the manual shows them; each allocation and each write refused, also on one thread; and how many requests
+//! for memory one thread makes.
 
 mod embedding;
 mod failed_writes;

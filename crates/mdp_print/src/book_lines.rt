@@ -1,11 +1,11 @@
 //! The lines of good books.
 
-ghost use Rattle.std.specs.Prelude.{◌≡◌, ◌+◌, ◌<◌, ◌++◌, ◌∷◌, [], length, vec_len, vec_capacity, OnOk, OnErr};
+ghost use Rattle.std.specs.Prelude.{◌≡◌, ◌∷◌, []};
 ghost use Rattle.mdp_quotes.specs.Consolidation.{quotes_of};
 ghost use Rattle.mdp_quotes.specs.Merged.{merged, merged_quotes};
 ghost use Rattle.mdp_print.specs.Texts.{direct_line, implied_line, consolidated_line};
-ghost use Rattle.mdp_print.specs.Texts.{quotes_line, sides_line, totals_text};
-ghost use Rattle.mdp_print.specs.Pieces.{Appends, Extends, BeginsWith};
+ghost use Rattle.mdp_print.specs.Texts.{quotes_line, sides_line};
+ghost use Rattle.mdp_print.specs.Pieces.{Appends, Extends};
 
 use crate::head::Head;
 use crate::merged::put_merged_levels;

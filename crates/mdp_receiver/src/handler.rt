@@ -80,8 +80,8 @@ fn best_of(book: &Book) -> Option<TopOfBook>
 /// securities, and holds the lines of the event ends until they are cleared; nothing else of it grows, but for room for
 /// a packet of some 10 KB. A slot is a security's place among the instruments, from 0.
 ///
-/// Once memory has run out the handler has failed: it takes no more datagrams. What was handed on, and behind it what
-/// it holds, is a beginning of the lines, which may break off anywhere. All else is answered as before.
+/// Once memory has run out the handler has failed: it takes no more datagrams. What was handed on, with what it holds
+/// behind it, is a beginning of the lines, and may break off anywhere. All else is answered as before.
 #[derive(Drop)]
 pub struct Handler<A: Allocator + Copy> {
     engine: Engine<A, RingWindow<Packet<A>, A>>,
@@ -149,6 +149,7 @@ impl<A: Allocator + Copy> Handler<A> {
         ensures err { OnErr result (BeginsWith self.new.held self.old.held) }
         ensures begins { OnErr result (HasBrokenOffAt feed bytes.now self.old self.new) }
         ensures stays { self.old.has_failed ≡ true → IsErr result }
+        ensures rests { self.old.has_failed ≡ true → self.new ≡ self.old }
     {
         if self.engine.has_failed() {
             return Err(Memory);
@@ -171,6 +172,7 @@ impl<A: Allocator + Copy> Handler<A> {
         ensures err { OnErr result (BeginsWith self.new.held self.old.held) }
         ensures begins { OnErr result (HasBrokenOff (closed ∷ []) self.old self.new) }
         ensures stays { self.old.has_failed ≡ true → IsErr result }
+        ensures rests { self.old.has_failed ≡ true → self.new ≡ self.old }
     {
         self.on(Event::Close)
     }
@@ -305,6 +307,7 @@ impl<A: Allocator + Copy> Handler<A> {
         ensures front { BeginsWith self.new.held self.old.held }
         ensures begins { OnErr result (HasBrokenOff (event_of event ∷ []) self.old self.new) }
         ensures stays { self.old.has_failed ≡ true → IsErr result }
+        ensures rests { self.old.has_failed ≡ true → self.new ≡ self.old }
     {
         self.engine.on(event)
     }
@@ -459,7 +462,8 @@ impl<A: Allocator + Copy> Handler<A> {
         ensures taken { IfOk result (λ taken. TakesSaid
             (brings (map recovered snapshots.now)) taken self.old self.new) }
         ensures front { BeginsWith self.new.held self.old.held }
-        ensures begins { OnErr result (HasBrokenOff (map recovered snapshots.now) self.old self.new) }
+        ensures begins { OnErr result
+            (HasBrokenOff (map recovered snapshots.now) self.old self.new) }
     {
         let mut counts = SnapshotCounts::NONE;
         for snapshot in snapshots {

@@ -1,7 +1,7 @@
 //! What is made of all that a moment tells: lines, rows of a board, the best levels that are kept, and a mark for each
 //! security.
 
-ghost use Rattle.std.specs.Prelude.{◌≡◌, ◌++◌, OnOk, None, set, map, length, true, false};
+ghost use Rattle.std.specs.Prelude.{◌≡◌, ◌++◌, OnOk, None, set, map, length, true};
 ghost use Rattle.mdp_reports.specs.Rounds.{all_by_slot, kept_after};
 ghost use Rattle.mdp_reports.specs.BoardSteps.{row_with};
 ghost use Rattle.mdp_reports.specs.Steps.{steps_with_told};

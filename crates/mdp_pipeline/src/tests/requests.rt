@@ -15,7 +15,10 @@ use worked_runs::Kept;
 fn put_message(text: &mut String, number: u32) -> Result<(), Fail> {
     let action = if number == 1 { "00" } else { "01" };
     text.push_str("38000b002e000100090000000000000000008000002000016400000000000000")?;
-    write!(text, "0500000001000000000000000100000001{action}300000000000")?;
+    write!(
+        text,
+        "0500000001000000000000000100000001{action}300000000000"
+    )?;
     Ok(())
 }
 
@@ -38,7 +41,8 @@ fn put_packets(text: &mut String, numbers: RangeInclusive<u32>) -> Result<(), Fa
     Ok(())
 }
 
-// Tells how many requests for memory a run over a capture makes: all but one of the runs have one of them refused.
+// Tells how many requests for memory a run over a capture makes. It runs with the first one refused, then with the second, and so on
+// until none is.
 fn requests(alloc: Global, text: &str) -> Result<u64, Fail> {
     let plenty = Refusing::new(alloc, 0);
     for number in 1..1000u64 {
@@ -64,7 +68,7 @@ fn requests(alloc: Global, text: &str) -> Result<u64, Fail> {
     Err("no run without a refused request".into())
 }
 
-// Starts a capture of packets after which the text that is held, which doubles up to twice a piece, grows no more.
+// Starts a capture of packets after which the room for text, which doubles up to twice a piece, grows no more.
 fn grown(alloc: Global) -> Result<String, Fail> {
     let mut text = String::from_str(alloc, "I 1 NEAR O\n")?;
     put_packets(&mut text, 1..=600)?;
@@ -86,7 +90,7 @@ fn packets_that_pass_at_once_ask_for_text_alone(rt: HostRuntime) -> Result<(), F
 
 // A list of entries that doubles once, one of places that doubles twice at most, and the bytes three times.
 #[test]
-fn a_larger_packet_asks_once(rt: HostRuntime) -> Result<(), Fail> {
+fn a_larger_packet_asks_the_first_time_alone(rt: HostRuntime) -> Result<(), Fail> {
     let mut text = grown(rt.alloc())?;
     let before = requests(rt.alloc(), &text)?;
     put_packet(&mut text, 601, 9)?;

@@ -2,7 +2,8 @@ use Rattle.std.proofs.Common.{rules, ◌≢◌, ◌<◌, ◌++◌, ℕ, List, fa
 use Rattle.std.specs.List.{flat_map}
 use Rattle.std.proofs.lemmas.List.{length-set, get_or-set_other}
 use Rattle.mdp_print.specs.Pieces.{BeginsWith, BreaksOff}
-use Rattle.mdp_print.proofs.Fronts.{begins_more, breaks_within}
+use Rattle.mdp_print.proofs.Fronts.{begins_more, breaks_nowhere, breaks_within}
+use Rattle.mdp_engine.specs.declared.spreads.Spread.{Spread}
 use Rattle.mdp_engine.specs.Spreads.{spread_line}
 use Rattle.mdp_engine.proofs.Auditing.{audits_are, under_there}
 use Rattle.mdp_engine.proofs.Noting.{line_more, line_end}
@@ -58,8 +59,10 @@ returns-in_err-put_audit_at-clause-err g c =
     let long = was.long in
     let less : n < length spreads = omega (arith, first.inside, long, c.requires.many) in
     let before = c.args.out.now.items in
-    let text = line_more line spreads c.args.due.now c.loop-n.due c.loop-n.from n _ c.loop-n.out.items _ (before ++ flat_map line spreads) c.requires.silent was.marks first.behind less first.before refl was.text in
+    let none : Spread = record { slot = 0; leg1 = 0; leg2 = 0 } in
+    let text = line_more line spreads c.args.due.now c.loop-n.due c.loop-n.from n none c.loop-n.out.items _ (before ++ flat_map line spreads) c.requires.silent was.marks first.behind less first.before refl was.text in
     let whole = audits_are c.args.event.now ds spreads c.requires.spreads.differ c.requires.spreads.spreads_are in
     let off : BreaksOff _ before c.put_audit_at.new.out.items =
-    breaks_within _ before c.loop-n.out.items _ _ c.put_audit_at.new.out.items was.front (text ∙ ap (λ (t : List ℕ). before ++ t) (sym whole)) c.in_err-put_audit_at.ensures.err in
+    breaks_within _ before c.loop-n.out.items _ _ c.put_audit_at.new.out.items was.front (text ∙ ap (λ (t : List ℕ). before ++ t) (sym whole))
+    (breaks_nowhere _ c.loop-n.out.items c.put_audit_at.new.out.items c.in_err-put_audit_at.ensures.err) in
     search rules

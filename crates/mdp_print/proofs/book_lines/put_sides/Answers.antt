@@ -1,4 +1,4 @@
-use Rattle.std.proofs.Common.{arith, [], ◌∷◌, ◌++◌, ◌+◌, ◌≤◌, ◌<◌, ◌∙◌, ap, append_assoc, length, length-append, vec_len, vec_capacity}
+use Rattle.std.proofs.Common.{arith, [], ◌∷◌, ◌++◌, ◌+◌, ◌≤◌, ◌∙◌, ap, append_assoc, length, length-append}
 use Rattle.std.proofs.lemmas.Result.{err_from_is_err_and}
 use Rattle.mdp_print.specs.Texts.{sides_line}
 use Rattle.mdp_print.proofs.Fronts.{begins_less}

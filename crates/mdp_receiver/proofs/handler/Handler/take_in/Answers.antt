@@ -1,4 +1,4 @@
-use Rattle.std.proofs.Common.{map, sym, subst, ◌∙◌}
+use Rattle.std.proofs.Common.{map, subst}
 use Rattle.std.specs.Prelude.{OnErr}
 use Rattle.mdp_arbiter.specs.Accepted.{recovered}
 use Rattle.mdp_engine.specs.Engine.{HasBrokenOff}
