@@ -82,7 +82,7 @@ fn packets_that_pass_at_once_ask_for_text_alone(rt: HostRuntime) -> Result<(), F
     let first = requests(rt.alloc(), &text)?;
     let mut text = grown(rt.alloc())?;
     let all = requests(rt.alloc(), &text)?;
-    assert!(rt; first < all && all <= first + 11);
+    assert!(rt; first < all && all <= first.saturating_add(11));
     put_packets(&mut text, 601..=1200)?;
     assert_eq!(rt; requests(rt.alloc(), &text)?, all);
     Ok(())
@@ -96,7 +96,7 @@ fn a_larger_packet_asks_the_first_time_alone(rt: HostRuntime) -> Result<(), Fail
     put_packet(&mut text, 601, 9)?;
     put_packets(&mut text, 602..=610)?;
     let larger = requests(rt.alloc(), &text)?;
-    assert!(rt; before < larger && larger <= before + 6);
+    assert!(rt; before < larger && larger <= before.saturating_add(6));
     put_packet(&mut text, 611, 9)?;
     put_packets(&mut text, 612..=620)?;
     put_packet(&mut text, 621, 9)?;
@@ -114,10 +114,10 @@ fn a_gap_asks_for_the_packet_that_waits_and_for_the_next(rt: HostRuntime) -> Res
     put_packet(&mut text, 601, 2)?;
     put_packets(&mut text, 603..=610)?;
     let one = requests(rt.alloc(), &text)?;
-    assert_eq!(rt; one, before + 2);
+    assert_eq!(rt; one, before.saturating_add(2));
     put_packet(&mut text, 612, 2)?;
     put_packet(&mut text, 611, 2)?;
     put_packets(&mut text, 613..=620)?;
-    assert_eq!(rt; requests(rt.alloc(), &text)?, before + 4);
+    assert_eq!(rt; requests(rt.alloc(), &text)?, before.saturating_add(4));
     Ok(())
 }
