@@ -174,8 +174,8 @@ impl<A: Allocator + Copy> AuditedDesks<A> {
     }
 
     /// Jumps from packet number `old` to `new`: appends the line of the jump, and replaces each book by its security's
-    /// snapshot, listed side by side, where there is one. After want of memory nothing is appended, and the desks are of
-    /// no more use.
+    /// snapshot, listed side by side, where there is one. After want of memory nothing is appended, and the desks are
+    /// of no more use.
     pub fn jump(
         &mut self,
         out: &mut Vec<u8, A>,

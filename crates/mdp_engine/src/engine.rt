@@ -31,8 +31,9 @@ use std::marker::Model;
 /// Arbitrates the feeds of a channel, keeps its books, and holds the lines that are owed until they leave it: they are
 /// drained into a text, or lent by `lines` and, once they were handed on, forgotten by `clear_lines`.
 ///
-/// Once memory has run out the engine has failed: it takes in nothing more and drains nothing more. What was drained or
-/// handed on before, with what a failed engine holds behind it, is a beginning of the lines, and may break off anywhere.
+/// Once memory has run out the engine has failed: it takes in nothing more and drains nothing more. What was drained
+/// or handed on before, with what a failed engine holds behind it, is a beginning of the lines, and may break off
+/// anywhere.
 #[derive(Drop)]
 pub struct Engine<A: Allocator, W: Window<Packet<A>> + Drop> {
     arbiter: Arbiter<A, W>,
