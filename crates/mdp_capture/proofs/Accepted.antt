@@ -1,5 +1,6 @@
 -- An instrument whose line is accepted.
-use Rattle.std.proofs.Common.{◌≡◌, ◌≢◌, ◌<◌, ℕ, inl, inr, Bool, true, false, cond, List, length, get_or, leb, None, Some, refl}
+use Rattle.std.proofs.Common.{◌≡◌, ◌≢◌, ◌<◌, ℕ, inl, inr, Bool, true, false, cond, List, length, get_or, leb, Option, None, Some, refl}
+use Rattle.std.specs.Prelude.{is_some}
 use Rattle.std.specs.Ordering.{int_eq}
 use Rattle.std.specs.List.{list_any}
 use Rattle.std.specs.Str.{bytes_eq}
@@ -8,25 +9,37 @@ use Rattle.std.proofs.lemmas.Bool.Decides.{Decides-int_eq}
 use Rattle.std.proofs.lemmas.List.Folds.{list_any_at}
 use Rattle.std.proofs.lemmas.Slice.Eq.{bytes_eq-Decides}
 use Rattle.mdp_templates.specs.declared.instrument.Instrument.{Instrument}
-use Rattle.mdp_capture.specs.Capture.{CaptureContent, refusal_of, has_record, is_listed, has_legs}
+use Rattle.mdp_capture.specs.Capture.{CaptureContent, refusal_after, refusal_of, has_record, is_listed, has_legs}
+use Rattle.mdp_capture.specs.declared.fault.CaptureRefusal.{CaptureRefusal}
 use Rattle.mdp_capture.specs.declared.fault.CaptureRefusal.TheVariants.{DuplicateId, UnknownLeg, TooMany, InstrumentLate}
 
--- none of the reasons to refuse a line holds
-pub record IsAccepted (late many listed legs : Bool) : Type 0 where
-  pub in_time : late ≡ false
+-- none of the reasons to refuse an instrument after others holds
+pub record IsAccepted (many listed legs : Bool) : Type 0 where
   pub few : many ≡ false
   pub unlisted : listed ≡ false
   pub has_legs : legs ≡ true
 
-no_reason : (late many listed legs : Bool) → cond late (Some InstrumentLate) (cond many (Some TooMany) (cond listed (Some DuplicateId) (cond legs None (Some UnknownLeg)))) ≡ None → IsAccepted late many listed legs
-no_reason true many listed legs is = cc
-no_reason false true listed legs is = cc
-no_reason false false true legs is = cc
-no_reason false false false false is = cc
-no_reason false false false true is = record { in_time = refl; few = refl; unlisted = refl; has_legs = refl }
+no_reason : (many listed legs : Bool) → cond many (Some TooMany) (cond listed (Some DuplicateId) (cond legs None (Some UnknownLeg))) ≡ None → IsAccepted many listed legs
+no_reason true listed legs is = absurd (cc)
+no_reason false true legs is = absurd (cc)
+no_reason false false false is = absurd (cc)
+no_reason false false true is = record { few = refl; unlisted = refl; has_legs = refl }
 
-pub accepted : (capture : CaptureContent) (instrument : Instrument) → refusal_of capture instrument ≡ None → IsAccepted (has_record capture) (leb 512 (length capture.instruments)) (is_listed capture.instruments instrument) (has_legs capture.instruments instrument.kind)
-accepted capture instrument is = no_reason (has_record capture) (leb 512 (length capture.instruments)) (is_listed capture.instruments instrument) (has_legs capture.instruments instrument.kind) is
+pub accepted : (listed : List Instrument) (instrument : Instrument) → refusal_after listed instrument ≡ None → IsAccepted (leb 512 (length listed)) (is_listed listed instrument) (has_legs listed instrument.kind)
+accepted listed instrument is = no_reason (leb 512 (length listed)) (is_listed listed instrument) (has_legs listed instrument.kind) is
+
+-- no reason was found
+pub none_found : (refusal : Option CaptureRefusal) → is_some refusal ≡ false → refusal ≡ None
+none_found None is = refl
+none_found (Some refusal) is = absurd (cc)
+
+not_late : (late : Bool) (refusal : Option CaptureRefusal) → cond late (Some InstrumentLate) refusal ≡ None → (late ≡ false) × (refusal ≡ None)
+not_late true refusal is = absurd (cc)
+not_late false refusal is = (refl, is)
+
+-- an instrument whose line is accepted is in time, and accepted after those that are listed
+pub in_time : (capture : CaptureContent) (instrument : Instrument) → refusal_of capture instrument ≡ None → (has_record capture ≡ false) × (refusal_after capture.instruments instrument ≡ None)
+in_time capture instrument is = not_late (has_record capture) (refusal_after capture.instruments instrument) is
 
 -- where no element passes a test, none at a place does
 none_passes : {X : Type 0} (p : X → Bool) (xs : List X) → list_any p xs ≡ false → (k : ℕ) (d : X) → k < length xs → p (get_or xs k d) ≡ false

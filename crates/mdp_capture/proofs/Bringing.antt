@@ -15,11 +15,11 @@ use Rattle.mdp_capture.specs.declared.fault.CaptureRefusal.TheVariants.{NoInstru
 use Rattle.mdp_capture.specs.declared.skip.SkippedLine.{SkippedLine}
 use Rattle.mdp_templates.specs.declared.feed.Feed.{Feed}
 use Rattle.mdp_templates.specs.declared.feed.Feed.TheVariants as feeds
-use Rattle.mdp_capture.proofs.Accepted.{accepted, other_name}
+use Rattle.mdp_capture.proofs.Accepted.{accepted, in_time, other_name}
 use Rattle.mdp_capture.proofs.Depths.{line_lists_depth}
-use Rattle.mdp_capture.proofs.Fit.{unrefused, line_keeps_fit, whole_is_fit}
+use Rattle.mdp_capture.proofs.Fit.{fit_at_first, unrefused, line_keeps_fit, whole_is_fit}
 use Rattle.mdp_capture.specs.Parsed.{ListsDepth}
-use Rattle.mdp_capture.specs.Draft.{AreFitSoFar}
+use Rattle.mdp_capture.specs.FitSoFar.{AreFitSoFar}
 use Rattle.std.proofs.lemmas.List.Quantifiers.{all_pairs_push}
 
 -- these lines bring to a capture what makes the new one of it
@@ -143,7 +143,7 @@ none_listed : (n : ℕ) (content : LineContent) (old new : CaptureContent) → a
 none_listed n Blank old new is some = refl
 none_listed n (Listing instrument) old new is some =
     let taken = unrefused n (refusal_of old instrument) (record old { instruments = old.instruments ++ instrument ∷ [] }) new is in
-    let in_time : has_record old ≡ false = (accepted old instrument taken.0).in_time in
+    let early : has_record old ≡ false = (in_time old instrument taken.0).0 in
     let late : has_record old ≡ true = counted_some (length old.a) (length old.b) (length old.s) some in
     absurd (cc)
 none_listed n (Packet feed bytes) old new is some = refl
@@ -218,7 +218,7 @@ NamesDiffer = AllPairs (λ earlier later. earlier.name ≢ later.name)
 named_more : (capture : CaptureContent) (instrument : Instrument) → refusal_of capture instrument ≡ None → NamesDiffer capture.instruments → NamesDiffer (capture.instruments ++ instrument ∷ [])
 named_more capture instrument is differ =
     all_pairs_push (λ earlier later. earlier.name ≢ later.name) capture.instruments instrument differ
-    (other_name capture.instruments instrument (accepted capture instrument is).unlisted)
+    (other_name capture.instruments instrument (accepted capture.instruments instrument (in_time capture instrument is).1).unlisted)
 
 abbrev Named : CaptureContent → Type 0
 Named capture = NamesDiffer capture.instruments
@@ -240,9 +240,6 @@ all_keep P keeps line [] old new is held = subst P (same_capture old new is) hel
 all_keep P keeps line (text ∷ rest) old new is held =
     let steps = both_steps (add_line line (line_of text) old) (add_lines (next_line line) rest) new is in
     all_keep P keeps (next_line line) rest steps.middle new steps.goes_on (keeps line (line_of text) old steps.middle (line_lists_depth text) steps.taken held)
-
-fit_at_first : AreFitSoFar []
-fit_at_first = record { few = omega arith; each = λ place d below. absurd (omega (arith, below)) }
 
 named_at_first : NamesDiffer []
 named_at_first i j d above below = absurd (omega (arith, below))

@@ -4,7 +4,8 @@ use Rattle.std.specs.Prelude.{◌&&◌, codes, IfSome}
 use Rattle.std.specs.Str.{bytes_eq}
 use Rattle.std.proofs.lemmas.Bool.{and_parts, leb-true}
 use Rattle.mdp_templates.specs.Entry.{direct_depth}
-use Rattle.mdp_templates.specs.Instrument.{IsDepthOf}
+use Rattle.mdp_templates.specs.Instrument.{HasDepth, IsDepthOf}
+use Rattle.mdp_templates.specs.declared.instrument.Instrument.{Instrument}
 use Rattle.mdp_templates.specs.declared.feed.Feed.{Feed}
 use Rattle.mdp_templates.specs.declared.feed.Feed.TheVariants as feeds
 use Rattle.hex.specs.Hex.{decode_of}
@@ -67,6 +68,14 @@ pub instrument_of_fits : (parts : List (List ℕ)) → ListsDepth (listing (inst
 instrument_of_fits [] = tt
 instrument_of_fits (id ∷ []) = tt
 instrument_of_fits (id ∷ name ∷ kind) = instrument_fits (id_of id) (name_of name) (kind_of kind) (kind_fits kind)
+
+listed_fits : (found : Option Instrument) → ListsDepth (listing found) → IfSome found HasDepth
+listed_fits None fits = tt
+listed_fits (Some instrument) fits = fits
+
+-- an instrument that fields describe
+pub described_fits : (parts : List (List ℕ)) → IfSome (instrument_of parts) HasDepth
+described_fits parts = listed_fits (instrument_of parts) (instrument_of_fits parts)
 
 spelled_fits : (feed : Feed) (read : Result (List ℕ) FromHexError) → ListsDepth (packet feed read)
 spelled_fits feed (Ok bytes) = either ListsDepth (leb (length bytes) 2048) (Packet feed bytes) (Skipped TooLong) (λ is. tt) tt

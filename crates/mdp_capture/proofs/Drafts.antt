@@ -1,10 +1,10 @@
 -- What a draft holds of a text's lines.
 use Rattle.std.proofs.Common.{◌≡◌, ℕ, List, [], ◌∷◌, ◌++◌, Result, Ok, Err, sym, ap, ◌∙◌, subst, append_assoc, append-nil}
 use Rattle.std.specs.Str.Lines.{lines}
-use Rattle.mdp_capture.specs.Capture.{CaptureContent, IfRefused, IsTextFaultOf, RefusedLine, add_line, add_lines, and_then, capture_of, needs_instrument, next_line, no_capture}
+use Rattle.mdp_capture.specs.Capture.{CaptureContent, IfRefused, IsTextFaultOf, RefusedLine, add_line, add_lines, capture_of, needs_instrument, no_capture}
 use Rattle.mdp_capture.specs.Cutting.{BeginsWithLines, CutsInto, IsStopped}
-use Rattle.mdp_capture.specs.Draft.{AreFitSoFar, HoldsLines, IsRefusedAt, LeavesOut, TakesTexts, capture_so_far}
-use Rattle.mdp_capture.specs.Line.{LineContent, line_of}
+use Rattle.mdp_capture.specs.Draft.{HoldsLines, IsRefusedAt, LeavesOut, TakesTexts, capture_so_far}
+use Rattle.mdp_capture.specs.Line.{LineContent}
 use Rattle.mdp_capture.specs.Reading.{HasRead, RefusesPiece, TakesPiece}
 use Rattle.mdp_capture.specs.declared.reading.Reading.{Reading}
 use Rattle.mdp_capture.specs.declared.draft.Draft.{Draft}
@@ -16,45 +16,11 @@ made ls = add_lines 1 ls no_capture
 
 module _ {A : Type 0} where
   -- before the first line
-  pub holds_none : (draft : Draft A) → draft.line ≡ 1 → capture_so_far draft ≡ no_capture → AreFitSoFar draft.instruments.items → HoldsLines draft []
-  holds_none draft line none fit = record {
-    comes = λ rest. ap (λ (n : ℕ). add_lines n rest no_capture) (sym line) ∙ ap (add_lines draft.line rest) (sym none);
-    fit = fit;
-  }
-
-  -- ---- lines that a draft takes in
-
-  pub takes_line : (old new : Draft A) (text : List ℕ) → add_line old.line (line_of text) (capture_so_far old) ≡ Ok (capture_so_far new) → new.line ≡ next_line old.line → (AreFitSoFar old.instruments.items → AreFitSoFar new.instruments.items) → TakesTexts old (text ∷ []) new
-  takes_line old new text added line fit = record {
-    comes = λ rest.
-        ap (λ (r : Result CaptureContent RefusedLine). and_then r (add_lines (next_line old.line) rest)) added
-        ∙ ap (λ (n : ℕ). add_lines n rest (capture_so_far new)) (sym line);
-    fit = fit;
-  }
-
-  takes_nothing : (old new : Draft A) → capture_so_far new ≡ capture_so_far old → new.line ≡ old.line → TakesTexts old [] new
-  takes_nothing old new same line = record {
-    comes = λ rest. ap (λ (n : ℕ). add_lines n rest (capture_so_far old)) (sym line) ∙ ap (add_lines new.line rest) (sym same);
-    fit = λ fit. subst (λ (c : CaptureContent). AreFitSoFar c.instruments) (sym same) fit;
-  }
-
-  -- a line that refuses the run
-  pub left_out : (old new : Draft A) (text : List ℕ) (fault : CaptureFault) → LeavesOut old (line_of text) new fault → IfRefused fault (λ refused. TakesTexts old [] new × IsRefusedAt new text refused)
-  left_out old new text fault =
-      if_refused (λ refused. (add_line old.line (line_of text) (capture_so_far old) ≡ Err refused) × (capture_so_far new ≡ capture_so_far old) × (new.line ≡ old.line)) (λ refused. TakesTexts old [] new × IsRefusedAt new text refused) fault
-      (λ refused out. (
-        takes_nothing old new out.1 out.2,
-        λ rest.
-            ap (λ (n : ℕ). add_lines n (text ∷ rest) (capture_so_far new)) out.2
-            ∙ ap (add_lines old.line (text ∷ rest)) out.1
-            ∙ ap (λ (r : Result CaptureContent RefusedLine). and_then r (add_lines (next_line old.line) rest)) out.0,
-      ))
+  pub holds_none : (draft : Draft A) → draft.line ≡ 1 → capture_so_far draft ≡ no_capture → HoldsLines draft []
+  holds_none draft line none rest = ap (λ (n : ℕ). add_lines n rest no_capture) (sym line) ∙ ap (add_lines draft.line rest) (sym none)
 
   held_more : (old new : Draft A) (before front : List (List ℕ)) → HoldsLines old before → TakesTexts old front new → HoldsLines new (before ++ front)
-  held_more old new before front held takes = record {
-    comes = λ rest. ap made (append_assoc before front rest) ∙ held.comes (front ++ rest) ∙ takes.comes rest;
-    fit = takes.fit held.fit;
-  }
+  held_more old new before front held takes rest = ap made (append_assoc before front rest) ∙ held (front ++ rest) ∙ takes rest
 
   pub out_is_fault : (old new : Draft A) (content : LineContent) (fault : CaptureFault) → LeavesOut old content new fault → IsTextFaultOf (add_line old.line content (capture_so_far old)) fault
   out_is_fault old new content fault =
@@ -62,14 +28,14 @@ module _ {A : Type 0} where
 
   -- all lines of a text
   pub whole_text : (draft : Draft A) (text : List ℕ) → HoldsLines draft (lines text) → capture_of text ≡ needs_instrument (Ok (capture_so_far draft))
-  whole_text draft text held = ap needs_instrument (ap made (sym (append-nil (lines text))) ∙ held.comes [])
+  whole_text draft text held = ap needs_instrument (ap made (sym (append-nil (lines text))) ∙ held [])
 
   -- ---- a text that is read piece by piece
 
-  pub read_none : (reading : Reading A) → reading.cutter ≡ [] → reading.draft.line ≡ 1 → capture_so_far reading.draft ≡ no_capture → AreFitSoFar reading.draft.instruments.items → HasRead reading []
-  read_none reading pending line none fit = record {
+  pub read_none : (reading : Reading A) → reading.cutter ≡ [] → reading.draft.line ≡ 1 → capture_so_far reading.draft ≡ no_capture → HasRead reading []
+  read_none reading pending line none = record {
     front = [];
-    says = holds_none reading.draft line none fit;
+    says = holds_none reading.draft line none;
     cuts = λ more. ap (λ (t : List ℕ). lines (t ++ more)) (sym pending);
   }
 
@@ -87,7 +53,7 @@ module _ {A : Type 0} where
   refused_there : (old new : Draft A) (before front : List (List ℕ)) (line : List ℕ) (refused : RefusedLine) (rest : List (List ℕ)) → HoldsLines old before → TakesTexts old front new → IsRefusedAt new line refused → made (before ++ ((front ++ line ∷ []) ++ rest)) ≡ Err refused
   refused_there old new before front line refused rest held takes is =
       ap (λ (ls : List (List ℕ)). made (before ++ ls)) (append_assoc front (line ∷ []) rest)
-      ∙ held.comes (front ++ (line ∷ rest)) ∙ takes.comes (line ∷ rest) ∙ is rest
+      ∙ held (front ++ (line ∷ rest)) ∙ takes (line ∷ rest) ∙ is rest
 
   -- a piece in which the run is refused
   pub piece_refused : (old : Reading A) (new : Draft A) (piece : List ℕ) (fault : CaptureFault) → IfRefused fault (IsStopped (BeginsWithLines (old.cutter ++ piece)) (λ front. TakesTexts old.draft front new) (IsRefusedAt new)) → RefusesPiece old piece fault

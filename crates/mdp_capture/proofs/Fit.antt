@@ -12,12 +12,12 @@ use Rattle.mdp_templates.specs.declared.instrument.InstrumentKind.TheVariants.{O
 use Rattle.mdp_templates.specs.Instrument.{HasOutright, HasLegs, HasDepth, FitsAfter, AreFit}
 use Rattle.mdp_templates.proofs.Fits.{fit, fit_push}
 use Rattle.mdp_capture.specs.Line.{LineContent, Blank, Listing, Packet, Closing, Skipped}
-use Rattle.mdp_capture.specs.Capture.{CaptureContent, RefusedLine, has_outright, is_outright, has_legs, refusal_of, unless_refused, add_line}
+use Rattle.mdp_capture.specs.Capture.{CaptureContent, RefusedLine, has_outright, is_outright, has_legs, refusal_after, refusal_of, unless_refused, add_line}
 use Rattle.mdp_capture.specs.Parsed.{ListsDepth}
-use Rattle.mdp_capture.specs.Draft.{AreFitSoFar}
+use Rattle.mdp_capture.specs.FitSoFar.{AreFitSoFar}
 use Rattle.mdp_capture.specs.declared.fault.CaptureRefusal.{CaptureRefusal}
 use Rattle.mdp_templates.specs.declared.feed.Feed.TheVariants as feeds
-use Rattle.mdp_capture.proofs.Accepted.{accepted, other_id}
+use Rattle.mdp_capture.proofs.Accepted.{accepted, in_time, other_id}
 
 kind_of : (kind : InstrumentKind) → is_outright kind ≡ true → kind ≡ Outright
 kind_of Outright is = refl
@@ -69,18 +69,22 @@ tells_legs false xs kind both =
       | inr none ↦ sym none
     ]
 
-accepted_fits : (capture : CaptureContent) (instrument : Instrument) → HasDepth instrument → refusal_of capture instrument ≡ None → FitsAfter capture.instruments instrument
-accepted_fits capture instrument depth is = record {
-  id_is_new = other_id capture.instruments instrument (accepted capture instrument is).unlisted;
-  legs_stand = legs_found capture.instruments instrument.kind (accepted capture instrument is).has_legs;
+accepted_fits : (listed : List Instrument) (instrument : Instrument) → HasDepth instrument → refusal_after listed instrument ≡ None → FitsAfter listed instrument
+accepted_fits listed instrument depth is = record {
+  id_is_new = other_id listed instrument (accepted listed instrument is).unlisted;
+  legs_stand = legs_found listed instrument.kind (accepted listed instrument is).has_legs;
   has_depth = depth;
 }
 
-one_more : (capture : CaptureContent) (instrument : Instrument) → HasDepth instrument → refusal_of capture instrument ≡ None → AreFitSoFar capture.instruments → AreFitSoFar (capture.instruments ++ instrument ∷ [])
-one_more capture instrument depth is so_far = record {
-  few = omega (arith, leb-false 512 (length capture.instruments) (accepted capture instrument is).few, length_push capture.instruments instrument);
-  each = fit_push capture.instruments instrument so_far.each (accepted_fits capture instrument depth is);
+pub one_more : (listed : List Instrument) (instrument : Instrument) → HasDepth instrument → refusal_after listed instrument ≡ None → AreFitSoFar listed → AreFitSoFar (listed ++ instrument ∷ [])
+one_more listed instrument depth is so_far = record {
+  few = omega (arith, leb-false 512 (length listed) (accepted listed instrument is).few, length_push listed instrument);
+  each = fit_push listed instrument so_far.each (accepted_fits listed instrument depth is);
 }
+
+-- no instrument yet
+pub fit_at_first : AreFitSoFar []
+fit_at_first = record { few = omega arith; each = λ k d below. absurd (omega (arith, below)) }
 
 pub unrefused : (n : ℕ) (o : Option CaptureRefusal) (next new : CaptureContent) → unless_refused n o next ≡ Ok new → (o ≡ None) × (next ≡ new)
 unrefused n None next new is = (refl, cc)
@@ -96,7 +100,7 @@ pub line_keeps_fit : (n : ℕ) (line : LineContent) (old new : CaptureContent) �
 line_keeps_fit n Blank old new depth is fits = moved _ new is fits
 line_keeps_fit n (Listing instrument) old new depth is fits =
     let taken = unrefused n (refusal_of old instrument) (record old { instruments = old.instruments ++ instrument ∷ [] }) new is in
-    subst Fits taken.1 (one_more old instrument depth taken.0 fits)
+    subst Fits taken.1 (one_more old.instruments instrument depth (in_time old instrument taken.0).1 fits)
 line_keeps_fit n (Packet feeds.A bytes) old new depth is fits = moved _ new is fits
 line_keeps_fit n (Packet feeds.B bytes) old new depth is fits = moved _ new is fits
 line_keeps_fit n (Packet feeds.S bytes) old new depth is fits = moved _ new is fits

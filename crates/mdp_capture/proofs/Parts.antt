@@ -12,7 +12,7 @@ use Rattle.mdp_capture.specs.Parsed.{ListsDepth, content_of}
 use Rattle.mdp_capture.specs.Repeats.{bytes_in}
 use Rattle.mdp_capture.specs.Capture.{CaptureContent, RefusedLine, add_line, add_lines, and_then, needs_instrument, next_line, no_capture, IsTextFaultOf}
 use Rattle.mdp_capture.specs.Cutting.{Cuts}
-use Rattle.mdp_capture.specs.Draft.{AreFitSoFar, HoldsLines, capture_so_far}
+use Rattle.mdp_capture.specs.Draft.{HoldsLines, capture_so_far}
 use Rattle.mdp_capture.specs.Part.{add_contents, capture_after, contents_of, Says, ListDepths, HasBytesIn, bytes_of_line, newest_in, IsReadOf, AreReadOf, joined}
 use Rattle.mdp_capture.specs.Reading.{HasRead, RefusesPiece}
 use Rattle.mdp_capture.specs.declared.reading.Reading.{Reading}
@@ -89,7 +89,7 @@ module _ {A : Type 0} where
   lines_come : (draft : Draft A) (texts before rest : List (List ℕ)) (read : List (Line A)) → map line_of texts ≡ contents_of read → HoldsLines draft before → add_lines 1 ((before ++ texts) ++ rest) no_capture ≡ capture_after draft (contents_of read ++ map line_of rest)
   lines_come draft texts before rest read says held =
       ap (λ (ls : List (List ℕ)). add_lines 1 ls no_capture) (append_assoc before texts rest)
-      ∙ held.comes (texts ++ rest)
+      ∙ held (texts ++ rest)
       ∙ contents_are draft.line (texts ++ rest) (capture_so_far draft)
       ∙ ap (λ (cs : List LineContent). add_contents draft.line cs (capture_so_far draft)) (map-append line_of texts rest ∙ ap (λ (cs : List LineContent). cs ++ map line_of rest) says)
 
@@ -106,11 +106,9 @@ module _ {A : Type 0} where
   next_contents left further line rest is = ap (λ (ls : List (Line A)). contents_of ls ++ rest) is
 
   -- lines that were read by themselves
-  pub lines_added : (old new : Draft A) (texts before : List (List ℕ)) (read : List (Line A)) → map line_of texts ≡ contents_of read → ((rest : List LineContent) → capture_after old (contents_of read ++ rest) ≡ capture_after new rest) → (AreFitSoFar old.instruments.items → AreFitSoFar new.instruments.items) → HoldsLines old before → HoldsLines new (before ++ texts)
-  lines_added old new texts before read says added fit held = record {
-    comes = λ rest. lines_come old texts before rest read says held ∙ added (map line_of rest) ∙ sym (contents_are new.line rest (capture_so_far new));
-    fit = fit held.fit;
-  }
+  pub lines_added : (old new : Draft A) (texts before : List (List ℕ)) (read : List (Line A)) → map line_of texts ≡ contents_of read → ((rest : List LineContent) → capture_after old (contents_of read ++ rest) ≡ capture_after new rest) → HoldsLines old before → HoldsLines new (before ++ texts)
+  lines_added old new texts before read says added held rest =
+      lines_come old texts before rest read says held ∙ added (map line_of rest) ∙ sym (contents_are new.line rest (capture_so_far new))
 
   -- where nothing is pending, the text of a part goes on with what was read before
   part_cuts : (reading : Reading A) (before text rest : List ℕ) (read : List (Line A)) (taken : HasRead reading before) (says : Says text read rest) → reading.cutter ≡ [] → Cuts (before ++ text) (taken.front ++ says.front) rest
@@ -122,10 +120,10 @@ module _ {A : Type 0} where
       ∙ ap (λ (ls : List (List ℕ)). front ++ ls) (says.cuts more)
       ∙ sym (append_assoc front says.front (lines (rest ++ more)))
 
-  pub part_taken : (old new : Reading A) (before text rest : List ℕ) (read : List (Line A)) → HasRead old before → old.cutter ≡ [] → Says text read rest → ((behind : List LineContent) → capture_after old.draft (contents_of read ++ behind) ≡ capture_after new.draft behind) → (AreFitSoFar old.draft.instruments.items → AreFitSoFar new.draft.instruments.items) → new.cutter ≡ rest → HasRead new (before ++ text)
-  part_taken old new before text rest read taken none says added fit is = record {
+  pub part_taken : (old new : Reading A) (before text rest : List ℕ) (read : List (Line A)) → HasRead old before → old.cutter ≡ [] → Says text read rest → ((behind : List LineContent) → capture_after old.draft (contents_of read ++ behind) ≡ capture_after new.draft behind) → new.cutter ≡ rest → HasRead new (before ++ text)
+  part_taken old new before text rest read taken none says added is = record {
     front = taken.front ++ says.front;
-    says = lines_added old.draft new.draft says.front taken.front read says.contents added fit taken.says;
+    says = lines_added old.draft new.draft says.front taken.front read says.contents added taken.says;
     cuts = subst (Cuts (before ++ text) (taken.front ++ says.front)) (sym is) (part_cuts old before text rest read taken says none);
   }
 

@@ -17,7 +17,7 @@ use Rattle.mdp_capture.specs.Lines.{NumberedLine, instruments_of, records_on}
 use Rattle.mdp_capture.specs.Refused.{HasRecord, Holds, IsRefusedFor, IsTaken, order_of}
 use Rattle.mdp_capture.specs.declared.fault.CaptureRefusal.{CaptureRefusal}
 use Rattle.mdp_capture.specs.declared.fault.CaptureRefusal.TheVariants.{DuplicateId, UnknownLeg, TooMany, NoInstrument, InstrumentLate}
-use Rattle.mdp_capture.proofs.Accepted.{accepted}
+use Rattle.mdp_capture.proofs.Accepted.{accepted, in_time}
 use Rattle.mdp_capture.proofs.Bringing.{brought_by, counted_some, line_at, some_counted}
 use Rattle.mdp_capture.proofs.Fit.{legs_are, legs_found, unrefused}
 
@@ -154,9 +154,10 @@ order_few NoInstrument = omega arith
 pub none_holds : (before : List NumberedLine) (n : ℕ) (i : Instrument) (new : CaptureContent) → add_line n (Listing i) (brought_by before) ≡ Ok new → (r : CaptureRefusal) → Holds r before i → ⊥
 none_holds before n i new is r held =
     let old = brought_by before in
-    let free = accepted old i (unrefused n (refusal_of old i) (record old { instruments = old.instruments ++ i ∷ [] }) new is).0 in
+    let timely = in_time old i (unrefused n (refusal_of old i) (record old { instruments = old.instruments ++ i ∷ [] }) new is).0 in
+    let free = accepted old.instruments i timely.1 in
     none_below (has_record old) (leb 512 (length old.instruments)) (is_listed old.instruments i) (has_legs old.instruments i.kind) 5
-    (λ z. free.in_time) (λ z. free.few) (λ z. free.unlisted) (λ z. free.has_legs) r (order_few r) (passes r before i held)
+    (λ z. timely.0) (λ z. free.few) (λ z. free.unlisted) (λ z. free.has_legs) r (order_few r) (passes r before i held)
 
 -- ---- one refusal alone is the first
 

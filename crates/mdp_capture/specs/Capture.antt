@@ -62,14 +62,18 @@ has_legs instruments (Calendar leg1 leg2) = are_legs instruments leg1 leg2
 abbrev pub has_record : CaptureContent → Bool
 has_record capture = nat_lt 0 (length capture.a) || nat_lt 0 (length capture.b) || nat_lt 0 (length capture.s)
 
--- why the run is refused at the line of an instrument: the first of the reasons that holds
+-- why an instrument is refused after those that are listed: the first of the reasons that holds
+abbrev pub refusal_after : List Instrument → Instrument → Option CaptureRefusal
+refusal_after listed instrument =
+    if nat_le 512 (length listed) then Some TooMany
+    else if is_listed listed instrument then Some DuplicateId
+    else if has_legs listed instrument.kind then None
+    else Some UnknownLeg
+
+-- why the run is refused at the line of an instrument: it is late, or refused after those that are listed
 abbrev pub refusal_of : CaptureContent → Instrument → Option CaptureRefusal
 refusal_of capture instrument =
-    if has_record capture then Some InstrumentLate
-    else if nat_le 512 (length capture.instruments) then Some TooMany
-    else if is_listed capture.instruments instrument then Some DuplicateId
-    else if has_legs capture.instruments instrument.kind then None
-    else Some UnknownLeg
+    if has_record capture then Some InstrumentLate else refusal_after capture.instruments instrument
 
 -- the capture with one more instrument, unless the run is refused at its line
 abbrev pub unless_refused : ℕ → Option CaptureRefusal → CaptureContent → Result CaptureContent RefusedLine

@@ -7,6 +7,8 @@ pub mod Capture
 pub mod Parsed
 pub mod Digits
 pub mod Cutting
+pub mod FitSoFar
+pub mod Listed
 pub mod Draft
 pub mod Repeats
 pub mod Reading

@@ -1,32 +1,30 @@
 //! A capture under construction.
 
 ghost use Rattle.std.specs.Prelude.{◌≡◌, ◌++◌, ◌∷◌, [], List, OnOk, IfOk, IfErr, IfSome};
-ghost use Rattle.std.specs.Ordering.{int_eq};
-ghost use Rattle.std.specs.List.{list_any};
-ghost use Rattle.std.specs.Str.{bytes_eq};
 ghost use Rattle.mdp_capture.specs.Line.{LineContent, Listing, Packet, Skipped};
 ghost use Rattle.mdp_capture.specs.Part.{ListDepths, capture_after, contents_of};
-ghost use Rattle.mdp_capture.specs.Capture.{add_line, add_record, add_instrument, refusal_of, has_record, is_listed, has_legs, next_line, no_capture, needs_instrument, IsTextFaultOf};
+ghost use Rattle.mdp_capture.specs.Capture.{add_line, add_record, add_instrument, has_record, next_line, no_capture, needs_instrument, IsTextFaultOf};
 ghost use Rattle.mdp_capture.specs.Parsed.{ListsDepth, content_of};
 ghost use Rattle.mdp_capture.specs.Repeats.{HasBytesOf, newest_of, newest_on};
-ghost use Rattle.mdp_capture.specs.Draft.{capture_so_far, AreFitSoFar, LeavesOut};
-ghost use Rattle.mdp_templates.specs.Instrument.{AreFit};
+ghost use Rattle.mdp_capture.specs.Draft.{capture_so_far, LeavesOut};
+ghost use Rattle.mdp_templates.specs.Instrument.{AreFit, HasDepth};
 
 use crate::blocks::Blocks;
 use crate::capture::Capture;
 use crate::fault::{CaptureFault, CaptureRefusal};
+use crate::instrument_list::InstrumentList;
 use crate::line::Line;
 use crate::record::Record;
 use crate::skip::{Skip, SkippedLine};
 use bytes::Bytes;
-use mdp_templates::{Feed, Instrument, MOST_INSTRUMENTS, has_legs};
+use mdp_templates::{Feed, Instrument};
 use std::alloc::{AllocError, Allocator};
 
 /// A capture under construction, with the number of its next line.
 #[derive(Drop)]
 pub(crate) struct Draft<A: Allocator> {
     pub(crate) line: u32,
-    pub(crate) instruments: Vec<Instrument, A>,
+    pub(crate) instruments: InstrumentList<A>,
     a: Vec<Record<A>, A>,
     b: Vec<Record<A>, A>,
     s: Vec<Record<A>, A>,
@@ -42,11 +40,10 @@ impl<A: Allocator + Copy> Draft<A> {
     pub(crate) fn new(alloc: A) -> Draft<A>
         ensures line { result.line ≡ 1 }
         ensures nothing { capture_so_far result ≡ no_capture }
-        ensures fit { AreFitSoFar result.instruments.items }
     {
         Draft {
             line: 1,
-            instruments: Vec::new(alloc),
+            instruments: InstrumentList::new(alloc),
             a: Vec::new(alloc),
             b: Vec::new(alloc),
             s: Vec::new(alloc),
@@ -62,8 +59,6 @@ impl<A: Allocator + Copy> Draft<A> {
         ensures capture { OnOk result (add_line self.old.line (content_of line)
             (capture_so_far self.old) ≡ Ok (capture_so_far self.new)) }
         ensures line { OnOk result (self.new.line ≡ next_line self.old.line) }
-        ensures fit { OnOk result (AreFitSoFar self.old.instruments.items
-            → AreFitSoFar self.new.instruments.items) }
         ensures refused { IfErr result (LeavesOut self.old (content_of line) self.new) }
     {
         self.add(line)?;
@@ -76,8 +71,6 @@ impl<A: Allocator + Copy> Draft<A> {
         requires { ListDepths lines.items }
         ensures capture { OnOk result ((rest : List LineContent) →
             capture_after self.old (contents_of lines.items ++ rest) ≡ capture_after self.new rest) }
-        ensures fit { OnOk result (AreFitSoFar self.old.instruments.items
-            → AreFitSoFar self.new.instruments.items) }
         ensures refused { IfErr result (λ fault. (rest : List LineContent) →
             IsTextFaultOf (capture_after self.old (contents_of lines.items ++ rest)) fault) }
     {
@@ -89,6 +82,7 @@ impl<A: Allocator + Copy> Draft<A> {
 
     // Takes in what a line says, and does not count it.
     fn add(&mut self, line: Line<A>) -> Result<(), CaptureFault>
+        requires { ListsDepth (content_of line) }
         ensures capture { OnOk result (add_line self.old.line (content_of line)
             (capture_so_far self.old) ≡ Ok (capture_so_far self.new)) }
         ensures line { self.new.line ≡ self.old.line }
@@ -124,8 +118,6 @@ impl<A: Allocator + Copy> Draft<A> {
         ensures capture { OnOk result (add_line self.old.line (Packet feed bytes)
             (capture_so_far self.old) ≡ Ok (capture_so_far self.new)) }
         ensures line { OnOk result (self.new.line ≡ next_line self.old.line) }
-        ensures fit { OnOk result (AreFitSoFar self.old.instruments.items
-            → AreFitSoFar self.new.instruments.items) }
         ensures known { OnOk result (HasBytesOf (Packet feed bytes) self.new) }
         ensures memory { IfErr result (λ fault. fault ≡ CaptureFault.Memory) }
     {
@@ -161,33 +153,20 @@ impl<A: Allocator + Copy> Draft<A> {
 
     // Lists an instrument, or refuses the capture.
     fn add_instrument(&mut self, instrument: Instrument) -> Result<(), CaptureFault>
+        requires { HasDepth instrument }
         ensures capture { OnOk result (add_instrument self.old.line instrument
             (capture_so_far self.old) ≡ Ok (capture_so_far self.new)) }
         ensures line { self.new.line ≡ self.old.line }
         ensures refused { IfErr result (LeavesOut self.old (Listing instrument) self.new) }
     {
-        if let Some(refusal) = self.refusal_of(&instrument) {
-            let line = self.line;
+        let line = self.line;
+        if self.has_record() {
+            let refusal = CaptureRefusal::InstrumentLate;
             return Err(CaptureFault::Refused { line, refusal });
         }
-        self.instruments.push(instrument)?;
-        Ok(())
-    }
-
-    // Tells why an instrument on this line refuses the capture, if it does; the first reason that holds.
-    fn refusal_of(&self, instrument: &Instrument) -> Option<CaptureRefusal>
-        ensures { result ≡ refusal_of (capture_so_far self.now) instrument.now }
-    {
-        if self.has_record() {
-            Some(CaptureRefusal::InstrumentLate)
-        } else if self.instruments.len() >= MOST_INSTRUMENTS {
-            Some(CaptureRefusal::TooMany)
-        } else if is_listed(self.instruments.as_slice(), instrument) {
-            Some(CaptureRefusal::DuplicateId)
-        } else if !self.has_its_legs(instrument) {
-            Some(CaptureRefusal::UnknownLeg)
-        } else {
-            None
+        match self.instruments.add(instrument)? {
+            Some(refusal) => Err(CaptureFault::Refused { line, refusal }),
+            None => Ok(()),
         }
     }
 
@@ -198,28 +177,21 @@ impl<A: Allocator + Copy> Draft<A> {
         !self.a.is_empty() || !self.b.is_empty() || !self.s.is_empty()
     }
 
-    // Tells whether the legs are listed that an instrument asks for.
-    fn has_its_legs(&self, instrument: &Instrument) -> bool
-        ensures { result ≡ has_legs self.now.instruments.items instrument.now.kind }
-    {
-        has_legs(self.instruments.as_slice(), instrument.kind)
-    }
-
     /// Gives the whole capture.
     pub(crate) fn finish(self) -> Result<Capture<A>, CaptureFault>
         ensures capture { IfOk result (λ capture. needs_instrument (Ok (capture_so_far self))
             ≡ Ok capture) }
-        ensures fit { IfOk result (λ capture. AreFitSoFar self.instruments.items
-            → AreFit capture.instruments) }
+        ensures fit { IfOk result (λ capture. AreFit capture.instruments) }
         ensures refused { IfErr result (IsTextFaultOf (needs_instrument (Ok (capture_so_far self)))) }
     {
-        if self.instruments.is_empty() {
+        if self.instruments.as_slice().is_empty() {
             return Err(CaptureFault::Refused {
                 line: 0,
                 refusal: CaptureRefusal::NoInstrument,
             });
         }
-        Ok(Capture::new(self.instruments, self.a, self.b, self.s, self.skipped))
+        let instruments = self.instruments.into_vec();
+        Ok(Capture::new(instruments, self.a, self.b, self.s, self.skipped))
     }
 }
 
@@ -231,25 +203,4 @@ fn newest_of<A: Allocator>(records: &[Record<A>]) -> Result<Option<Bytes<A>>, Al
         Some(record) => record.share(),
         None => Ok(None),
     }
-}
-
-// Tells whether an instrument with this one's id or name is listed.
-fn is_listed(instruments: &[Instrument], instrument: &Instrument) -> bool
-    ensures { result ≡ is_listed instruments.now instrument.now }
-{
-    has_id(instruments, instrument.id) || has_name(instruments, instrument.name.as_str())
-}
-
-// Tells whether an instrument with this id is listed.
-fn has_id(instruments: &[Instrument], id: i32) -> bool
-    ensures { result ≡ list_any (λ other. int_eq other.id id) instruments.now }
-{
-    instruments.iter().any(|other| other.id == id)
-}
-
-// Tells whether an instrument with this name is listed.
-fn has_name(instruments: &[Instrument], name: &str) -> bool
-    ensures { result ≡ list_any (λ other. bytes_eq other.name name.now) instruments.now }
-{
-    instruments.iter().any(|other| other.name.as_str() == name)
 }

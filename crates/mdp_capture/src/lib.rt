@@ -8,6 +8,7 @@ mod cutter;
 mod draft;
 mod fault;
 mod field;
+mod instrument_list;
 mod lanes;
 mod laws;
 mod line;
@@ -22,6 +23,7 @@ mod skip;
 pub use capture::Capture;
 pub use cutter::{LineCutter, TakesLines};
 pub use fault::{CaptureFault, CaptureRefusal};
+pub use instrument_list::{InstrumentList, ListedLine};
 pub use laws::{
     captures_hold_their_lines, fronts_hold_their_lines, fronts_only_grow,
     only_late_instruments_follow_records, refusals_are_of_the_first_line, texts_have_one_answer,

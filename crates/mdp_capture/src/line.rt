@@ -4,6 +4,8 @@ ghost use Rattle.std.specs.Prelude.{◌≡◌, Some, IfOk, IfSome, IsErr, MatchR
 ghost use Rattle.std.specs.Str.Lines.{strip_carriage_return};
 ghost use Rattle.hex.specs.Hex.{decode_of};
 ghost use Rattle.mdp_capture.specs.Line.{fields, outright_of_fields, calendar_of_fields, kind_of, instrument_of, listing, packet_of, closing_of, line_of};
+ghost use Rattle.mdp_capture.specs.Listed.{instrument_said};
+ghost use Rattle.mdp_templates.specs.Instrument.{HasDepth};
 ghost use Rattle.mdp_capture.specs.Repeats.{IsSkippedFor, Spells, bytes_in};
 ghost use Rattle.mdp_capture.specs.Parsed.{ListsDepth, content_of, fields_left};
 
@@ -74,6 +76,18 @@ pub(crate) fn line_of<A: Allocator>(alloc: A, text: &[u8]) -> Result<Line<A>, Al
     } else {
         Ok(Line::Skipped(Skip::LineForm))
     }
+}
+
+/// Gives the instrument that a line says, without its line feed and the carriage return before it, if it says one.
+pub(crate) fn instrument_on(text: &[u8]) -> Option<Instrument>
+    ensures instrument { result ≡ instrument_said (line_of text.now) }
+    ensures depth { IfSome result HasDepth }
+{
+    let (letter, rest) = next_field(text);
+    if !is_letter(letter, b'I') {
+        return None;
+    }
+    instrument_of(rest)
 }
 
 // Tells what a line says that begins with `I`.

@@ -109,8 +109,7 @@ impl<A: Allocator + Copy> Reading<A> {
     pub(crate) fn finish(mut self, alloc: A) -> Result<Capture<A>, CaptureFault>
         ensures capture { IfOk result (λ capture. (text : List ℕ)
             → HasRead self text → capture_of text ≡ Ok capture) }
-        ensures fit { IfOk result (λ capture. (text : List ℕ)
-            → HasRead self text → AreFit capture.instruments) }
+        ensures fit { IfOk result (λ capture. AreFit capture.instruments) }
         ensures refused { IfErr result (λ fault. (text : List ℕ)
             → HasRead self text → IsTextFaultOf (capture_of text) fault) }
     {

@@ -5,7 +5,7 @@ ghost use Rattle.std.specs.Prelude.{◌≡◌, ◌<◌, ◌++◌, ℕ, List, tru
 ghost use Rattle.std.proofs.Common.{◌∙◌, ap, append_assoc, refl};
 ghost use Rattle.mdp_capture.specs.Capture.{add_line, add_lines, next_line};
 ghost use Rattle.mdp_capture.specs.Repeats.{HasBytesOf, Spells};
-ghost use Rattle.mdp_capture.specs.Draft.{capture_so_far, AreFitSoFar, IsRefusedAt, LeavesOut, TakesTexts};
+ghost use Rattle.mdp_capture.specs.Draft.{capture_so_far, IsRefusedAt, LeavesOut, TakesTexts};
 ghost use Rattle.mdp_capture.specs.Line.{fields, line_of, packet_of};
 ghost use Rattle.mdp_templates.specs.declared.feed.Feed.{Feed};
 
@@ -27,14 +27,11 @@ impl<A: Allocator + Copy> TakesLines<A> for Draft<A> {
         self.add_text(alloc, text, last)
     }
 
-    ghost takes_none = { λ x. record { comes = λ rest. refl; fit = λ fit. fit } };
+    ghost takes_none = { λ x rest. refl };
 
-    ghost takes_more = { λ x y z front more first next. record {
-      comes = λ rest.
-          ap (λ (ls : List (List ℕ)). add_lines x.line ls (capture_so_far x)) (append_assoc front more rest)
-          ∙ first.comes (more ++ rest) ∙ next.comes rest;
-      fit = λ fit. next.fit (first.fit fit);
-    } };
+    ghost takes_more = { λ x y z front more first next rest.
+        ap (λ (ls : List (List ℕ)). add_lines x.line ls (capture_so_far x)) (append_assoc front more rest)
+        ∙ first (more ++ rest) ∙ next rest };
 }
 
 impl<A: Allocator + Copy> Draft<A> {
@@ -44,8 +41,6 @@ impl<A: Allocator + Copy> Draft<A> {
         ensures capture { OnOk result (add_line self.old.line (line_of text.now)
             (capture_so_far self.old) ≡ Ok (capture_so_far self.new)) }
         ensures line { OnOk result (self.new.line ≡ next_line self.old.line) }
-        ensures fit { OnOk result (AreFitSoFar self.old.instruments.items
-            → AreFitSoFar self.new.instruments.items) }
         ensures known { OnOk result (HasBytesOf (line_of text.now) self.new) }
         ensures refused { IfErr result (LeavesOut self.old (line_of text.now) self.new) }
     {
@@ -89,8 +84,6 @@ impl<A: Allocator + Copy> Draft<A> {
         ensures capture { OnOk result (add_line self.old.line (line_of text.now)
             (capture_so_far self.old) ≡ Ok (capture_so_far self.new)) }
         ensures line { OnOk result (self.new.line ≡ next_line self.old.line) }
-        ensures fit { OnOk result (AreFitSoFar self.old.instruments.items
-            → AreFitSoFar self.new.instruments.items) }
         ensures known { OnOk result (HasBytesOf (line_of text.now) self.new) }
         ensures refused { IfErr result (LeavesOut self.old (line_of text.now) self.new) }
     {

@@ -2,7 +2,6 @@ use Rattle.std.proofs.Common.{◌≡◌, ◌<◌, ◌++◌, [], ℕ, List, Ok, E
 use Rattle.std.specs.Prelude.{IfSome}
 use Rattle.std.specs.Io.KnownBytes.{IsAtEnd}
 use Rattle.std.proofs.lemmas.Result.{err_from_is_err_and, IfOk-weaker, IfErr-weaker}
-use Rattle.mdp_templates.specs.Instrument.{AreFit}
 use Rattle.mdp_capture.specs.Capture.{IsFaultOf, IsTextFaultOf, capture_of}
 use Rattle.mdp_capture.specs.Reading.{HasRead}
 use Rattle.mdp_capture.proofs.Following.{as_fault, comes_to, fails_there, goes_on, never_input, no_input, says_nothing, starts, whole_buffer}
@@ -27,12 +26,6 @@ returns-in-Ok-eq0-clause-capture g c =
     let read = rw none at c.in-Ok-eq0.ensures.bytes.0 in
     IfOk-weaker c.finish.result (λ capture. (text : List ℕ) → HasRead c.loop-reading.reading text → capture_of text ≡ Ok capture) (λ capture. IfSome whole (λ text. capture_of text ≡ Ok capture))
     (λ capture is. comes_to (λ text. capture_of text ≡ Ok capture) whole old new at.0 at.2 read (c.in-Ok-eq0.ensures.bytes.1 none room) (is at.0 at.1)) c.finish.ensures.capture
-
-pub returns-in-Ok-eq0-clause-fit : goal.returns-in-Ok-eq0-clause-fit
-returns-in-Ok-eq0-clause-fit g c =
-    let at = c.loop-reading.invariant.read in
-    IfOk-weaker c.finish.result (λ capture. (text : List ℕ) → HasRead c.loop-reading.reading text → AreFit capture.instruments) (λ capture. AreFit capture.instruments)
-    (λ capture fit. fit at.0 at.1) c.finish.ensures.fit
 
 pub returns-in-Ok-eq0-clause-end : goal.returns-in-Ok-eq0-clause-end
 returns-in-Ok-eq0-clause-end g c =

@@ -24,7 +24,6 @@ loop-line-preserved g c =
           ∙ ap (capture_after at.self) (next_contents left further x rest steps.0)
           ∙ content_added at.self c.add_line.new.self (content_of x) (contents_of further ++ rest) added.capture added.line;
       depths = let all : ListDepths (x ∷ further) = rw steps.0 at at.invariant.depths in All-tail (λ line. ListsDepth (content_of line)) x further all;
-      fit = λ before. added.fit (at.invariant.fit before);
       left =
           let was = at.invariant.left in
           let gone = steps.1 in

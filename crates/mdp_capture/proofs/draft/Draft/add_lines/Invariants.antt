@@ -1,6 +1,5 @@
 use Rattle.std.proofs.Common.{◌≡◌, ◌++◌, List, length}
 use Rattle.std.specs.Vec.Iter.{into_iter_items, into_iter_len}
-use Rattle.mdp_capture.specs.Draft.{AreFitSoFar}
 use Rattle.mdp_capture.specs.Line.{LineContent}
 use Rattle.mdp_capture.specs.Part.{ListDepths, capture_after, contents_of}
 use Rattle.mdp_capture.proofs.draft.Draft.add_lines.Given as goal
@@ -10,6 +9,5 @@ abbrev pub invariant-loop-line : goal.invariant-loop-line
 invariant-loop-line g l = record {
   capture : (rest : List LineContent) → capture_after l.initial.self (contents_of l.fn.lines.items ++ rest) ≡ capture_after l.self (contents_of (into_iter_items l.line-iterator) ++ rest);
   depths : ListDepths (into_iter_items l.line-iterator);
-  fit : AreFitSoFar l.initial.self.instruments.items → AreFitSoFar l.self.instruments.items;
   left : into_iter_len l.line-iterator ≡ length (into_iter_items l.line-iterator);
 }

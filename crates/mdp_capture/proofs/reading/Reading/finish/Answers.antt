@@ -1,9 +1,8 @@
 use Rattle.std.proofs.Common.{◌≡◌, ℕ, List, Ok, ◌∙◌}
 use Rattle.std.specs.Str.Lines.{lines}
 use Rattle.std.proofs.lemmas.Result.{err_from_is_err_and, IfErr-weaker, IfOk-weaker}
-use Rattle.mdp_templates.specs.Instrument.{AreFit}
 use Rattle.mdp_capture.specs.Capture.{IsTextFaultOf, capture_of, needs_instrument}
-use Rattle.mdp_capture.specs.Draft.{AreFitSoFar, HoldsLines, capture_so_far}
+use Rattle.mdp_capture.specs.Draft.{HoldsLines, capture_so_far}
 use Rattle.mdp_capture.specs.Reading.{HasRead}
 use Rattle.mdp_capture.proofs.Drafts.{end_refused, read_all, whole_text}
 use Rattle.mdp_capture.proofs.Pieces.{same_fault}
@@ -20,13 +19,6 @@ returns-clause-capture g c =
     let held : (text : List ℕ) → HasRead c.args.self text → HoldsLines draft (lines text) = λ text read. read_all c.args.self draft text c.in_ok-end.ensures.taken read in
     IfOk-weaker c.finish.result (λ capture. needs_instrument (Ok (capture_so_far draft)) ≡ Ok capture) (λ capture. (text : List ℕ) → HasRead c.args.self text → capture_of text ≡ Ok capture)
     (λ capture is text read. whole_text draft text (held text read) ∙ is) c.finish.ensures.capture
-
-pub returns-clause-fit : goal.returns-clause-fit
-returns-clause-fit g c =
-    let draft = c.end.new.taker in
-    let held : (text : List ℕ) → HasRead c.args.self text → HoldsLines draft (lines text) = λ text read. read_all c.args.self draft text c.in_ok-end.ensures.taken read in
-    IfOk-weaker c.finish.result (λ capture. AreFitSoFar draft.instruments.items → AreFit capture.instruments) (λ capture. (text : List ℕ) → HasRead c.args.self text → AreFit capture.instruments)
-    (λ capture fit text read. fit (held text read).fit) c.finish.ensures.fit
 
 pub returns-clause-refused : goal.returns-clause-refused
 returns-clause-refused g c =

@@ -12,4 +12,4 @@ pub returns-clause-taken : goal.returns-clause-taken
 returns-clause-taken g c before taken =
     let part = c.args.part in
     let added = c.in_ok-add_lines.ensures in
-    part_taken c.args.self.now _ before c.args.text.now part.rest.now part.lines.items taken c.requires.none c.requires.is_read.says added.capture added.fit c.in_ok-hold.ensures
+    part_taken c.args.self.now (record { cutter = c.hold.new.self; draft = c.add_lines.new.self }) before c.args.text.now part.rest.now part.lines.items taken c.requires.none c.requires.is_read.says added.capture c.in_ok-hold.ensures

@@ -1,13 +1,10 @@
 use Rattle.std.proofs.lemmas.Result.{IfErr-weaker, on_ok_weaker}
-use Rattle.mdp_capture.specs.Capture.{IfRefused}
-use Rattle.mdp_capture.specs.Cutting.{BeginsWithLines, IsStopped}
-use Rattle.mdp_capture.specs.Draft.{IsRefusedAt, TakesTexts}
 use Rattle.mdp_capture.specs.Reading.{RefusesPiece}
 use Rattle.mdp_capture.proofs.Drafts.{piece_refused, piece_taken}
 use Rattle.mdp_capture.proofs.reading.Reading.take_piece.Goals as goal
 
 pub returns-clause-taken : goal.returns-clause-taken
-returns-clause-taken g c = on_ok_weaker c.take_piece.result (λ cut. piece_taken c.args.self.now _ c.args.piece.now cut) c.take_piece.ensures.taken
+returns-clause-taken g c = on_ok_weaker c.take_piece.result (λ cut. piece_taken c.args.self.now (record { cutter = c.take_piece.new.self; draft = c.take_piece.new.taker }) c.args.piece.now cut) c.take_piece.ensures.taken
 
 pub returns-clause-refused : goal.returns-clause-refused
 returns-clause-refused g c = IfErr-weaker c.take_piece.result _ (RefusesPiece c.args.self.now c.args.piece.now) (λ fault stop. piece_refused c.args.self.now c.take_piece.new.taker c.args.piece.now fault stop) c.take_piece.ensures.refused
