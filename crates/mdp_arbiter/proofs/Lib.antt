@@ -4,6 +4,7 @@ pub mod Standings
 pub mod Bases
 pub mod Renewals
 pub mod Jumps
+pub mod Jumping
 pub mod NoLoss
 pub mod Joining
 pub mod Passing

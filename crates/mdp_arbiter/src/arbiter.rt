@@ -7,7 +7,7 @@ ghost use Rattle.mdp_templates.specs.Instrument.{AreFit};
 ghost use Rattle.mdp_arbiter.specs.Channel.{channel_of};
 ghost use Rattle.mdp_arbiter.specs.Accepted.{Event};
 ghost use Rattle.mdp_arbiter.specs.Accepted.Event.{came, recovered, closed};
-ghost use Rattle.mdp_arbiter.specs.Machine.{first_state, is_lost};
+ghost use Rattle.mdp_arbiter.specs.Machine.{first_state, is_lost, least_last, snapshots_of};
 ghost use Rattle.mdp_arbiter.specs.Arbiter.{is_lost_now, least_held, state, steps_left};
 ghost use Rattle.mdp_arbiter.specs.Fates.{fate_of, fate_of_snapshot, first_stale, packet_fate, snapshot_fate, waiting};
 ghost use Rattle.mdp_arbiter.specs.Packets.{LetsPass, Receives, is_taken_in, passes_at_once};
@@ -15,7 +15,7 @@ ghost use Rattle.mdp_arbiter.specs.Snapshots.{IsNewsAt, IsNotTaken, Renews};
 ghost use Rattle.mdp_arbiter.specs.Moves.{Answers, Moves, seen_move};
 ghost use Rattle.mdp_arbiter.specs.Standing.{HasPassed, StandsAt, StepsAs};
 
-use crate::base::{Base, no_bases, take_newest};
+use crate::base::{Base, least_base, no_bases, take_newest};
 use crate::fate::{PacketFate, SnapshotFate};
 use crate::fresh_front::FreshFront;
 use crate::newest::{least_number, none_for, renews};
@@ -149,12 +149,30 @@ impl<A: Allocator + Copy, W: Window<Packet<A>> + Drop> Arbiter<A, W> {
         self.bases[slot].among(&self.newest[slot])
     }
 
+    /// Tells the least of the numbers of the packets that the snapshots of the latest jump include last, from 0 to
+    /// 4294967295: the jump went on at the number after it. None where there was no jump. It looks at each listed
+    /// security.
+    pub fn least_base(&self) -> Option<u32>
+        ensures { result ≡ least_last (snapshots_of self.now.bases) }
+    {
+        least_base(&self.newest, &self.bases)
+    }
+
     /// Lends the newest snapshot of each listed security, in listed order, where there is one. Right after a jump these
     /// are the ones that it took.
     pub fn newest(&self) -> &[Option<Snapshot>]
         ensures { result.now ≡ self.now.newest }
     {
         &self.newest
+    }
+
+    /// Tells how many numbers after the next one a packet gives that one up, from 1 to 65536: the window's room.
+    pub fn room(&self) -> u64
+        ensures room { result ≡ self.now.channel.room }
+        ensures least { 1 ≤ result }
+        ensures most { result ≤ 65536 }
+    {
+        self.room
     }
 
     /// Tells the highest number of a packet that came, or the one before the next, if that is greater.

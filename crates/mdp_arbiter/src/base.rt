@@ -1,9 +1,11 @@
 //! Which snapshot of a security the latest jump took.
 
-ghost use Rattle.std.specs.Prelude.{◌≡◌, length, map, option_copied, IfOk, None};
-ghost use Rattle.mdp_arbiter.specs.Bases.{base_of, kept_base};
+ghost use Rattle.std.specs.Prelude.{◌≡◌, length, map, option_copied, fold, [], ◌∷◌, IfOk, None};
+ghost use Rattle.mdp_arbiter.specs.Bases.{base_of, bases_of, kept_base};
+ghost use Rattle.mdp_arbiter.specs.Machine.{least_last, lesser, snapshots_of};
 ghost use Rattle.mdp_arbiter.specs.declared.base.Base.TheVariants.{Newest, Older};
 
+use crate::newest::lesser_number;
 use mdp_templates::{Instrument, Memory, Snapshot};
 use std::alloc::Allocator;
 
@@ -58,4 +60,25 @@ pub(crate) fn take_newest(bases: &mut [Base])
     for slot in 0..bases.len() {
         bases[slot] = Base::Newest;
     }
+}
+
+// Tells the lesser of the number so far and that of a security's snapshot, where the latest jump took one.
+fn lesser_with(least: Option<u32>, newest: &Option<Snapshot>, base: &Base) -> Option<u32>
+    ensures { result ≡ fold lesser least (snapshots_of (base_of newest.now base.now ∷ [])) }
+{
+    match base.among(newest) {
+        Some(snapshot) => Some(lesser_number(least, snapshot)),
+        None => least,
+    }
+}
+
+/// Tells the least number of the snapshots that the latest jump took.
+pub(crate) fn least_base(newest: &[Option<Snapshot>], bases: &[Base]) -> Option<u32>
+    ensures { result ≡ least_last (snapshots_of (bases_of newest.now bases.now)) }
+{
+    let mut least = None;
+    for slot in 0..newest.len().min(bases.len()) {
+        least = lesser_with(least, &newest[slot], &bases[slot]);
+    }
+    least
 }

@@ -42,8 +42,8 @@ pub(crate) fn is_fresh_enough(snapshot: &Option<Snapshot>, top: u64, room: u64) 
     }
 }
 
-// Tells the lesser of the number so far and that of a snapshot.
-fn lesser_number(so_far: Option<u32>, snapshot: &Snapshot) -> u32
+/// Tells the lesser of the number so far and that of a snapshot.
+pub(crate) fn lesser_number(so_far: Option<u32>, snapshot: &Snapshot) -> u32
     ensures { Some result ≡ lesser so_far snapshot.now }
 {
     match so_far {
