@@ -1,6 +1,6 @@
 //! A handler of one channel, which takes datagrams as they come.
 
-ghost use Rattle.std.specs.Prelude.{◌≡◌, ◌≤◌, ◌++◌, [], ◌∷◌, ℕ, List, true, false, map, slice_get, option_copied, IfOk, IfErr, IsErr, OnErr, OnOk, IfSome};
+ghost use Rattle.std.specs.Prelude.{◌≡◌, ◌≤◌, ◌++◌, [], ◌∷◌, ℕ, List, true, false, map, slice_get, option_and_then, option_copied, IfOk, IfErr, IsErr, OnErr, OnOk, IfSome};
 ghost use Rattle.std.specs.Option.{option_map};
 ghost use Rattle.mdp_sbe.specs.Framing.{IsHeader};
 ghost use Rattle.mdp_templates.specs.Incremental.{IsPacket};
@@ -256,7 +256,8 @@ impl<A: Allocator + Copy> Handler<A> {
     /// Gives the consolidated levels of the book at a slot; none where the book is faulty or no security is listed
     /// there.
     pub fn consolidated(&self, slot: usize) -> Option<Consolidated>
-        ensures { IfSome (slice_get self.now.desks slot) (λ d. result ≡ consolidation_of d.book) }
+        ensures { result
+            ≡ option_and_then (λ d. consolidation_of d.book) (slice_get self.now.desks slot) }
     {
         match self.desk(slot) {
             Some(desk) => desk.book.consolidated(),
@@ -267,7 +268,8 @@ impl<A: Allocator + Copy> Handler<A> {
     /// Gives the best level of each consolidated side of the book at a slot; none where the book is faulty or no
     /// security is listed there.
     pub fn best(&self, slot: usize) -> Option<TopOfBook>
-        ensures { IfSome (slice_get self.now.desks slot) (λ d. result ≡ top_of_book d.book) }
+        ensures { result
+            ≡ option_and_then (λ d. top_of_book d.book) (slice_get self.now.desks slot) }
     {
         match self.desk(slot) {
             Some(desk) => best_of(desk.book.book()),
