@@ -18,9 +18,11 @@ use Rattle.mdp_engine.specs.Engine.{HasBrokenOff, HoldsBook, Stands, View}
 use Rattle.mdp_engine.specs.Honest.{IsHonest}
 use Rattle.mdp_engine.specs.Owed.{lines, steps_of}
 use Rattle.mdp_receiver.specs.Copies.{IsPacketOf}
+use Rattle.mdp_receiver.specs.Moved.{moved_by}
 use Rattle.mdp_receiver.specs.Said.{IsSaid, Said, brought_by, kind_of, refusal_in}
 use Rattle.mdp_receiver.specs.Taken.{refusal_told, taken_of}
 use Rattle.mdp_receiver.specs.declared.handler.ChannelState.{ChannelState}
+use Rattle.mdp_receiver.specs.declared.moved.Moved.{Moved}
 use Rattle.mdp_receiver.specs.declared.taken.Taken.{Taken}
 
 -- A handler of this channel has taken in these events. Of the lines that they owe this text was handed on, and the rest
@@ -46,6 +48,17 @@ pub record TakesSaid (said : Said) (taken : Taken) (old new : View) : Type 0 whe
 abbrev pub TakesDatagram : Feed → List ℕ → Taken → View → View → Type 0
 TakesDatagram feed bytes taken old new =
     (said : Said) × IsSaid (kind_of feed) bytes said × TakesSaid said taken old new
+
+-- wherever a handler stood, what a datagram says moved this
+abbrev pub HasMoved : Said → Moved → View → Type 0
+HasMoved said moved old =
+    (listed : List Instrument) (before : List Event) (sent : _) → Stands listed before sent old
+    → moved ≡ moved_by old.arbiter.channel before (brought_by said)
+
+-- a datagram of a feed was taken in, as it says, and moved this
+abbrev pub MovesDatagram : Feed → List ℕ → Taken → Moved → View → View → Type 0
+MovesDatagram feed bytes taken moved old new =
+    (said : Said) × IsSaid (kind_of feed) bytes said × TakesSaid said taken old new × HasMoved said moved old
 
 -- Memory ran out at a datagram of a feed: what was handed on and what is held begin the lines of all events, those that
 -- it brings among them.

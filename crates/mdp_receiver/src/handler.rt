@@ -12,18 +12,20 @@ ghost use Rattle.mdp_quotes.specs.Consolidation.{consolidation_of, quotes_of};
 ghost use Rattle.mdp_quotes.specs.Top.{top_of_book, top_of_quotes};
 ghost use Rattle.mdp_templates.specs.declared.instrument.Instrument.{Instrument};
 ghost use Rattle.mdp_arbiter.specs.Accepted.{Event as Accepted, came, closed, recovered};
-ghost use Rattle.mdp_arbiter.specs.Machine.{is_lost, state_at};
+ghost use Rattle.mdp_arbiter.specs.Machine.{is_lost, least_last, snapshots_of, state_at};
 ghost use Rattle.mdp_engine.specs.Engine.{HasBrokenOff, Stands};
 ghost use Rattle.mdp_arbiter.specs.Arbiter.{is_lost_now};
 ghost use Rattle.mdp_engine.specs.Steps.{event_of};
 ghost use Rattle.mdp_receiver.specs.Copies.{IsPacketOf};
-ghost use Rattle.mdp_receiver.specs.Handling.{GoesOn, Handles, HasBrokenOffAt, IsCopy, IsPast, TakesDatagram, TakesSaid, is_current, is_within, state_of};
+ghost use Rattle.mdp_receiver.specs.Handling.{GoesOn, Handles, HasBrokenOffAt, IsCopy, IsPast, MovesDatagram, TakesDatagram, TakesSaid, is_current, is_within, state_of};
+ghost use Rattle.mdp_receiver.specs.Moved.{jump_told, moved_told};
 ghost use Rattle.mdp_receiver.specs.Said.{IsSaid, brings, brought_by, kind_of, said_of};
 
 use crate::decoding::{Decoded, decode};
 use crate::last_packet::LastPacket;
+use crate::moved::{Jump, Moved, loss_told, packet_number};
 use crate::taken::{SnapshotCounts, Taken};
-use mdp_arbiter::Start;
+use mdp_arbiter::{Standing, Start};
 use mdp_books::{Book, Sides};
 use mdp_desks::Desk;
 use mdp_engine::{Engine, Event};
@@ -161,6 +163,37 @@ impl<A: Allocator + Copy> Handler<A> {
         answer
     }
 
+    /// Takes a datagram of a feed as [`datagram`](Handler::datagram) does, and tells beside what became of it what it
+    /// moved: that it made the receiver lost, that recovery jumped, both or neither. After a jump every book has
+    /// changed. At a jump it looks at each listed security once more than `datagram` does.
+    ///
+    /// # Errors
+    ///
+    /// Memory ran out, now or in an earlier call.
+    pub fn datagram_with_moves(
+        &mut self,
+        alloc: A,
+        feed: Feed,
+        bytes: &[u8],
+    ) -> Result<(Taken, Moved), Memory>
+        ensures taken { IfOk result
+            (λ told. MovesDatagram feed bytes.now told.0 told.1 self.old self.new) }
+        ensures sound { OnOk result (self.old.has_failed ≡ false) }
+        ensures fails { IfErr result (λ _. self.new.has_failed ≡ true) }
+        ensures err { OnErr result (BeginsWith self.new.held self.old.held) }
+        ensures begins { OnErr result (HasBrokenOffAt feed bytes.now self.old self.new) }
+        ensures stays { self.old.has_failed ≡ true → IsErr result }
+        ensures rests { self.old.has_failed ≡ true → self.new ≡ self.old }
+    {
+        let before = Standing {
+            next: self.next(),
+            lost: self.lost(),
+        };
+        let taken = self.datagram(alloc, feed, bytes)?;
+        let moved = self.moves_since(before, taken, packet_number(bytes));
+        Ok((taken, moved))
+    }
+
     /// Closes the channel: from now on no packet passes, and no snapshot counts.
     ///
     /// # Errors
@@ -290,6 +323,40 @@ impl<A: Allocator + Copy> Handler<A> {
         ensures { option_copied result ≡ slice_get self.now.desks slot }
     {
         self.engine.desks().get(slot)
+    }
+
+    // Tells what a datagram moved, of which this became, with the number of its packet, where the channel stood so
+    // before it.
+    fn moves_since(&self, before: Standing, taken: Taken, number: u32) -> Moved
+        requires { before.next ≤ 4294967296 }
+        ensures { result ≡ moved_told before taken number self.now.arbiter }
+    {
+        let loss = loss_told(before, self.engine.arbiter().room(), taken, number);
+        let was_lost = before.lost || loss.is_some();
+        Moved {
+            loss,
+            jump: self.jump_since(was_lost, before.next),
+        }
+    }
+
+    // Tells the jump from a number, where the receiver was lost, and is no more.
+    fn jump_since(&self, was_lost: bool, old: u64) -> Option<Jump>
+        ensures { result ≡ jump_told was_lost (is_lost_now self.now.arbiter) old
+            (least_last (snapshots_of self.now.arbiter.bases)) }
+    {
+        if !was_lost {
+            return None;
+        }
+        if self.lost() {
+            return None;
+        }
+        match self.engine.arbiter().least_base() {
+            Some(last) => Some(Jump {
+                old,
+                new: u64::from(last) + 1,
+            }),
+            None => None,
+        }
     }
 
     // Tells whether the snapshot of the book at a slot includes no packet that is still to come.

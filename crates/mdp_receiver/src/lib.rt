@@ -6,9 +6,11 @@ mod decoding;
 mod handler;
 mod last_packet;
 mod laws;
+mod moved;
 mod taken;
 
 pub use decoding::{Decoded, decode};
 pub use handler::{ChannelState, Handler};
 pub use laws::{law_of_current_books, law_of_handlers};
+pub use moved::{Jump, Loss, Moved};
 pub use taken::{SnapshotCounts, Taken};
