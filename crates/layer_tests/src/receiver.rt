@@ -6,7 +6,7 @@ ghost use Rattle.mdp_templates.specs.Instrument.{AreFit};
 use mdp_arbiter::{PacketFate, Start};
 use mdp_capture::{Capture, CountingReader, Record, read_capture};
 use mdp_quotes::Total;
-use mdp_receiver::{ChannelState, Handler, SnapshotCounts, Taken};
+use mdp_receiver::{ChannelState, Handler, Jump, Loss, Moved, SnapshotCounts, Taken};
 use mdp_sbe::Refusal;
 use mdp_templates::{Feed, Memory};
 use refusing::Refusing;
@@ -271,5 +271,181 @@ fn a_packet_passes_however_long_its_datagram_is(rt: HostRuntime) -> Result<(), F
     let mut handler = Handler::new(alloc, capture.instruments(), 4, Start::FromOne)?;
     let lengths = [22, 2047, 2048, 2049, 22, 4096, 2048, 2049];
     assert_eq!(rt; pass_all(alloc, &mut handler, &lengths)?, lengths.len());
+    Ok(())
+}
+
+/// Nothing moved.
+const NOTHING: Moved = Moved {
+    loss: None,
+    jump: None,
+};
+
+/// The packet of a number is given up, since this one came.
+fn loss(next: u64, highest: u64) -> Option<Loss> {
+    Some(Loss { next, highest })
+}
+
+/// Recovery went on from one number at another.
+fn jump(old: u64, new: u64) -> Option<Jump> {
+    Some(Jump { old, new })
+}
+
+/// Tells what a packet of this number moves, which says nothing of any book.
+fn packet_moves<A: Allocator + Copy>(
+    alloc: A,
+    handler: &mut Handler<A>,
+    number: u8,
+) -> Result<Moved, Memory> {
+    let mut text = vec![in alloc; 0u8; 22]?;
+    fill_with_one_message(text.as_mut_slice(), number);
+    let (_taken, moved) = handler.datagram_with_moves(alloc, Feed::A, text.as_slice())?;
+    Ok(moved)
+}
+
+/// Gives one byte of a datagram of empty snapshots, of securities 1, 2 and so on, which include these packets last.
+fn byte_of_snapshots(place: usize, lasts: &[u8]) -> u8 {
+    if place < 12 {
+        return 0;
+    }
+    let behind = place.saturating_sub(12);
+    let slot = behind / 29;
+    match behind % 29 {
+        0 => 29,
+        2 => 16,
+        4 => 52,
+        6 => 1,
+        10 => match lasts.get(slot) {
+            Some(last) => *last,
+            None => 0,
+        },
+        18 => ((slot % 255) as u8).saturating_add(1),
+        26 => 22,
+        _ => 0,
+    }
+}
+
+/// Tells what a datagram moves with an empty snapshot of each of three securities, in listed order, which include these
+/// packets last.
+fn snapshots_move<A: Allocator + Copy>(
+    alloc: A,
+    handler: &mut Handler<A>,
+    lasts: &[u8],
+) -> Result<Moved, Memory> {
+    let mut text = vec![in alloc; 0u8; 99]?;
+    for place in 0..text.len() {
+        text[place] = byte_of_snapshots(place, lasts);
+    }
+    let (_taken, moved) = handler.datagram_with_moves(alloc, Feed::S, text.as_slice())?;
+    Ok(moved)
+}
+
+/// Each of these packets moves nothing.
+fn none_moves<A: Allocator + Copy, T: Abort>(
+    rt: &T,
+    alloc: A,
+    handler: &mut Handler<A>,
+    numbers: &[u8],
+) -> Result<(), Memory> {
+    for number in numbers {
+        assert_eq!(rt; packet_moves(alloc, handler, *number)?, NOTHING);
+    }
+    Ok(())
+}
+
+/// Checks a loss, which comes once, and then a jump. With a window of four places packet 6 gives packet 2 up. Packet 7
+/// is the highest, so that each snapshot must include packet 3, and recovery goes on after the least of them.
+fn loses_and_then_jumps<A: Allocator + Copy, T: Abort>(
+    rt: &T,
+    alloc: A,
+    handler: &mut Handler<A>,
+) -> Result<(), Memory> {
+    none_moves(rt, alloc, handler, &[1, 1, 5])?;
+    let lost = Moved {
+        loss: loss(2, 6),
+        jump: None,
+    };
+    assert_eq!(rt; packet_moves(alloc, handler, 6)?, lost);
+    none_moves(rt, alloc, handler, &[6, 7])?;
+    assert_eq!(rt; snapshots_move(alloc, handler, &[2, 4, 4])?, NOTHING);
+    let recovered = Moved {
+        loss: None,
+        jump: jump(2, 4),
+    };
+    assert_eq!(rt; snapshots_move(alloc, handler, &[3, 4, 4])?, recovered);
+    assert_eq!(rt; snapshots_move(alloc, handler, &[3, 4, 4])?, NOTHING);
+    none_moves(rt, alloc, handler, &[4, 7])
+}
+
+/// Checks a packet that loses and jumps, since snapshots stand ready, and one behind which a datagram of snapshots
+/// jumps at its second: the third, which is newer, moves nothing. Packets 4 to 7 have passed before, so that 8 is next.
+fn loses_and_jumps_at_once<A: Allocator + Copy, T: Abort>(
+    rt: &T,
+    alloc: A,
+    handler: &mut Handler<A>,
+) -> Result<(), Memory> {
+    assert_eq!(rt; snapshots_move(alloc, handler, &[9, 9, 10])?, NOTHING);
+    none_moves(rt, alloc, handler, &[11])?;
+    let both = Moved {
+        loss: loss(8, 12),
+        jump: jump(8, 10),
+    };
+    assert_eq!(rt; packet_moves(alloc, handler, 12)?, both);
+    let lost = Moved {
+        loss: loss(10, 14),
+        jump: None,
+    };
+    assert_eq!(rt; packet_moves(alloc, handler, 14)?, lost);
+    let recovered = Moved {
+        loss: None,
+        jump: jump(10, 11),
+    };
+    assert_eq!(rt; snapshots_move(alloc, handler, &[11, 12, 20])?, recovered);
+    let (_taken, moved) = handler.datagram_with_moves(alloc, Feed::B, b"short")?;
+    assert_eq!(rt; moved, NOTHING);
+    handler.close()?;
+    none_moves(rt, alloc, handler, &[10, 11, 40])
+}
+
+/// Checks a receiver that joins: it has no loss, and its first jump begins at packet 1.
+fn joins<A: Allocator + Copy, T: Abort>(
+    rt: &T,
+    alloc: A,
+    handler: &mut Handler<A>,
+) -> Result<(), Memory> {
+    none_moves(rt, alloc, handler, &[9])?;
+    let joined = Moved {
+        loss: None,
+        jump: jump(1, 8),
+    };
+    assert_eq!(rt; snapshots_move(alloc, handler, &[8, 7, 9])?, joined);
+    none_moves(rt, alloc, handler, &[8, 9])?;
+    let lost = Moved {
+        loss: loss(10, 14),
+        jump: None,
+    };
+    assert_eq!(rt; packet_moves(alloc, handler, 14)?, lost);
+    Ok(())
+}
+
+#[test]
+fn a_handler_tells_each_loss_and_each_jump(rt: HostRuntime) -> Result<(), Fail> {
+    let alloc = rt.alloc();
+    let Some(capture) = recovery(alloc) else {
+        return Err("no capture".into());
+    };
+    let mut handler = Handler::new(alloc, capture.instruments(), 4, Start::FromOne)?;
+    loses_and_then_jumps(&rt, alloc, &mut handler)?;
+    loses_and_jumps_at_once(&rt, alloc, &mut handler)?;
+    Ok(())
+}
+
+#[test]
+fn a_handler_that_joins_tells_its_first_jump(rt: HostRuntime) -> Result<(), Fail> {
+    let alloc = rt.alloc();
+    let Some(capture) = recovery(alloc) else {
+        return Err("no capture".into());
+    };
+    let mut handler = Handler::new(alloc, capture.instruments(), 4, Start::Join)?;
+    joins(&rt, alloc, &mut handler)?;
     Ok(())
 }
