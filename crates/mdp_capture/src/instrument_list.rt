@@ -27,7 +27,8 @@ pub enum ListedLine {
 }
 
 /// The instruments of a channel, at most 512, seen as a list in the order in which they were listed. Each fits after
-/// those before it: its id is none of theirs, and a calendar spread's legs are two outrights among them.
+/// those before it: its id and its name are none of theirs, by what `add` and `take_line` take, and a calendar spread's
+/// legs are two outrights among them.
 #[derive(Drop)]
 pub struct InstrumentList<A: Allocator> {
     instruments: Vec<Instrument, A>,

@@ -1,24 +1,24 @@
--- Marks that are taken away, one after another.
-use Rattle.std.proofs.Common.{◌≡◌, ◌<◌, ℕ, zero, suc, ◌+◌, Bool, true, false, cond, List, [], ◌∷◌, length, map, get_or, set, refl, ap, ◌∙◌, arith}
-use Rattle.mdp_desks.specs.Beside.{AreClear}
+-- Marks that are all taken away.
+use Rattle.std.proofs.Common.{◌≡◌, ◌≤◌, ℕ, zero, suc, Bool, false, List, [], ◌∷◌, length, map, get_or, replicate, refl, sym, ap, ◌∙◌, arith, inl, inr}
+use Rattle.std.proofs.lemmas.Bool.{cases_lt}
+use Rattle.std.proofs.lemmas.List.{length-replicate}
+use Rattle.mdp_desks.specs.Beside.{AreWithin, marks_in}
 
--- how many are set
-abbrev pub set_in : List Bool → ℕ
-set_in [] = 0
-set_in (b ∷ marks) = cond b 1 0 + set_in marks
+-- zeros are put in the place of all bytes
+pub filled : (old new : List ℕ) (count : ℕ) → new ≡ replicate count 0 → length new ≡ length old → marks_in new ≡ map (λ _. false) (marks_in old)
+filled old new count is long = ap marks_in (is ∙ ap (λ (n : ℕ). replicate n 0) many) ∙ each old
+  where
+    many : count ≡ length old
+    many = sym (length-replicate count 0) ∙ sym (ap length is) ∙ long
 
--- one is taken away
-pub fewer_set : (marks : List Bool) (n : ℕ) → get_or marks n false ≡ true → set_in (set marks n false) < set_in marks
-fewer_set [] n is = absurd cc
-fewer_set (true ∷ marks) zero is = omega arith
-fewer_set (false ∷ marks) zero is = absurd cc
-fewer_set (b ∷ marks) (suc n) is = omega (arith, fewer_set marks n is)
+    each : (bytes : List ℕ) → marks_in (replicate (length bytes) 0) ≡ map (λ _. false) (marks_in bytes)
+    each [] = refl
+    each (b ∷ bytes) = ap (λ (bs : List Bool). false ∷ bs) (each bytes)
 
--- none is left
-pub all_clear : (old now : List Bool) → length now ≡ length old → AreClear 0 (length now) now → now ≡ map (λ _. false) old
-all_clear [] [] long off = refl
-all_clear [] (b ∷ now) long off = absurd (omega (arith, long))
-all_clear (a ∷ old) [] long off = absurd (omega (arith, long))
-all_clear (a ∷ old) (b ∷ now) long off =
-    ap (λ (c : Bool). c ∷ now) (off 0 (omega arith) (omega arith))
-    ∙ ap (λ (bs : List Bool). false ∷ bs) (all_clear old now (omega (arith, long)) (λ k _ inside. off (suc k) (omega arith) (omega (arith, inside))))
+all_off : (marks : List Bool) → ((n : ℕ) → get_or marks n false ≡ false) → marks ≡ map (λ _. false) marks
+all_off [] off = refl
+all_off (b ∷ marks) off = ap (λ (c : Bool). c ∷ marks) (off zero) ∙ ap (λ (bs : List Bool). false ∷ bs) (all_off marks (λ n. off (suc n)))
+
+-- none is set where there is no place between the bounds
+pub clear_already : (marks : List Bool) (low high : ℕ) → high ≤ low → AreWithin low high marks → marks ≡ map (λ _. false) marks
+clear_already marks low high past within = all_off marks (λ n. elim (cases_lt n low) [ inl under ↦ within.before n under | inr from ↦ within.behind n (omega (arith, from, past)) ])

@@ -3,6 +3,7 @@ pub mod Hearing
 pub mod Searching
 pub mod Clearing
 pub mod Waiting
+pub mod Printing
 pub mod Ripening
 pub mod Passing
 pub mod Showing

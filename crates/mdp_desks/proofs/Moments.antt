@@ -10,7 +10,7 @@ use Rattle.mdp_books.specs.Feed.{Sent}
 use Rattle.mdp_arbiter.specs.Machine.{Move}
 use Rattle.mdp_desks.specs.Lines.{Seen}
 use Rattle.mdp_desks.specs.Shown.{Standing, standing_after, standing_through}
-use Rattle.mdp_desks.specs.Moments.{Moment, Walk, moment_text, moment_at, moments_through, moments_of, moments_on, moments_after, text_of_moments, shown_lines}
+use Rattle.mdp_desks.specs.Moments.{Moment, Walk, moment_text, moment_at, moments_through, moments_of, moments, moments_on, moments_after, text_of_moments, shown_lines}
 
 -- what two walks have in common: where they stand alike, a message of this kind shows the same of both, and they stand alike behind it
 pub record Alike {S T : Type 0} (P : Sent → Type 0) (R : S → T → Type 0) (one : Walk S) (other : Walk T) : Type 0 where
@@ -43,6 +43,6 @@ pub shown_lines-append : (listed : List Instrument) (moves more : List Move) →
 shown_lines-append listed moves more =
     ap (flat_map moment_text) (moments-append listed [] moves more) ∙ flat_map-append moment_text (moments_after listed [] moves) (moments_after listed moves more)
 
-pub shown_lines-push : (listed : List Instrument) (moves : List Move) (move : Move) → shown_lines listed (moves ++ move ∷ []) ≡ shown_lines listed moves ++ text_of_moments (moments_of (standing_after listed moves) move)
-shown_lines-push listed moves move =
-    shown_lines-append listed moves (move ∷ []) ∙ ap (λ (ms : List Moment). shown_lines listed moves ++ text_of_moments ms) (append-nil (moments_of (standing_after listed moves) move))
+pub moments-push : (listed : List Instrument) (moves : List Move) (move : Move) → moments listed (moves ++ move ∷ []) ≡ moments listed moves ++ moments_of (standing_after listed moves) move
+moments-push listed moves move =
+    moments-append listed [] moves (move ∷ []) ∙ ap (λ (ms : List Moment). moments listed moves ++ ms) (append-nil (moments_of (standing_after listed moves) move))

@@ -10,13 +10,12 @@ use Rattle.mdp_templates.specs.declared.instrument.Instrument.{Instrument}
 use Rattle.mdp_books.specs.declared.book.Book.{Book}
 use Rattle.mdp_books.specs.Feed.{Sent, sent_in, is_named_in, book_after, book_from, behind}
 use Rattle.mdp_books.proofs.Feeds.{book_from-push, behind-push}
-use Rattle.mdp_print.specs.Texts.{jump_line}
 use Rattle.mdp_desks.specs.declared.desk.Desk.{Desk}
 use Rattle.mdp_desks.specs.Lines.{Seen}
 use Rattle.mdp_arbiter.specs.Machine.{Move}
 use Rattle.mdp_desks.specs.Shown.{Start, Standing, starts_before_jump, standing_after, standing_through, starts_at_jump, book_since, start_seen}
-use Rattle.mdp_desks.specs.Moments.{moments_from, moments_of, text_of_moments, shown_lines, walk_from}
-use Rattle.mdp_desks.proofs.Moments.{same_moments, shown_lines-push}
+use Rattle.mdp_desks.specs.Moments.{Moment, leapt, moments, moments_from, moments_of, walk_from}
+use Rattle.mdp_desks.proofs.Moments.{same_moments, moments-push}
 use Rattle.mdp_desks.specs.Due.{is_due, is_printed}
 use Rattle.mdp_arbiter.specs.Machine.Move.{passed, jumped}
 use Rattle.mdp_desks.specs.Desks.{desk_at_start, desk_with_message, desk_after, desk_seen, desks_after, desks_walk, passed_desks, passed_moments, desk_jumped, rebased_desks}
@@ -155,13 +154,13 @@ jump_shows (s ∷ snapshots) (d ∷ ds) long = (record { instrument = refl; base
 pub standing_after-push : (listed : List Instrument) (moves : List Move) (move : Move) → standing_after listed (moves ++ move ∷ []) ≡ standing_through listed (standing_after listed moves) move
 standing_after-push listed moves move = fold_push (standing_through listed) (standing_after listed []) moves move
 
-text_grows : (listed : List Instrument) (moves : List Move) (move : Move) (text more after : List ℕ) → text ≡ shown_lines listed moves → after ≡ text ++ more → more ≡ text_of_moments (moments_of (standing_after listed moves) move) → after ≡ shown_lines listed (moves ++ move ∷ [])
-text_grows listed moves move text more after so_far grown says =
-    grown ∙ ap (λ (t : List ℕ). t ++ more) so_far ∙ ap (λ (t : List ℕ). shown_lines listed moves ++ t) says ∙ sym (shown_lines-push listed moves move)
+moments_grow : (listed : List Instrument) (moves : List Move) (move : Move) (shown more after : List Moment) → shown ≡ moments listed moves → after ≡ shown ++ more → more ≡ moments_of (standing_after listed moves) move → after ≡ moments listed (moves ++ move ∷ [])
+moments_grow listed moves move shown more after so_far grown says =
+    grown ∙ ap (λ (t : List Moment). t ++ more) so_far ∙ ap (λ (t : List Moment). moments listed moves ++ t) says ∙ sym (moments-push listed moves move)
 
 -- a packet passes
-pub shows_passed : (listed : List Instrument) (moves : List Move) (packet : PacketContent) (old new : List Desk) (text after : List ℕ) → new ≡ passed_desks (sent_in packet) old → after ≡ text ++ text_of_moments (passed_moments (sent_in packet) old) → Shows listed moves old text → Shows listed (moves ++ passed packet ∷ []) new after
-shows_passed listed moves packet old new text after desks grown so_far =
+pub shows_passed : (listed : List Instrument) (moves : List Move) (packet : PacketContent) (old new : List Desk) (shown after : List Moment) → new ≡ passed_desks (sent_in packet) old → after ≡ shown ++ passed_moments (sent_in packet) old → Shows listed moves old shown → Shows listed (moves ++ passed packet ∷ []) new after
+shows_passed listed moves packet old new shown after desks grown so_far =
     let sh = standing_after listed moves in
     let stands = pass_shows (sent_in packet) sh.since sh.starts old so_far.each in
     record {
@@ -169,12 +168,12 @@ shows_passed listed moves packet old new text after desks grown so_far =
       each =
           subst (λ (s : Standing). AllZip (DeskShows s.since) s.starts new) (sym (standing_after-push listed moves (passed packet)))
           (subst (λ (ds : List Desk). AllZip (DeskShows (sh.since ++ sent_in packet)) sh.starts ds) (sym desks) stands);
-      text_is = text_grows listed moves (passed packet) text (text_of_moments (passed_moments (sent_in packet) old)) after so_far.text_is grown (ap text_of_moments (pass_moments (sent_in packet) sh.since sh.starts old so_far.each));
+      shown_is = moments_grow listed moves (passed packet) shown (passed_moments (sent_in packet) old) after so_far.shown_is grown (pass_moments (sent_in packet) sh.since sh.starts old so_far.each);
     }
 
 -- a jump
-pub shows_jumped : (listed : List Instrument) (moves : List Move) (from to : ℕ) (snapshots : List SnapshotContent) (old new : List Desk) (text after : List ℕ) → length snapshots ≡ length listed → new ≡ rebased_desks (map (λ (s : SnapshotContent). Some s) snapshots) old → after ≡ text ++ jump_line from to → Shows listed moves old text → Shows listed (moves ++ jumped from to snapshots ∷ []) new after
-shows_jumped listed moves from to snapshots old new text after long desks grown so_far =
+pub shows_jumped : (listed : List Instrument) (moves : List Move) (from to : ℕ) (snapshots : List SnapshotContent) (old new : List Desk) (shown after : List Moment) → length snapshots ≡ length listed → new ≡ rebased_desks (map (λ (s : SnapshotContent). Some s) snapshots) old → after ≡ shown ++ leapt from to ∷ [] → Shows listed moves old shown → Shows listed (moves ++ jumped from to snapshots ∷ []) new after
+shows_jumped listed moves from to snapshots old new shown after long desks grown so_far =
     let based = rebased_desks (all_based snapshots) old in
     let each_has : length snapshots ≡ length old = long ∙ ap length (sym so_far.listed_are) ∙ length-map old (λ (d : Desk). d.instrument) in
     let stands : AllZip (DeskShows []) (starts_at_jump listed snapshots) based = subst (λ (is : List Instrument). AllZip (DeskShows []) (starts_at_jump is snapshots) based) so_far.listed_are (jump_shows snapshots old each_has) in
@@ -183,7 +182,7 @@ shows_jumped listed moves from to snapshots old new text after long desks grown 
       each =
           subst (λ (s : Standing). AllZip (DeskShows s.since) s.starts new) (sym (standing_after-push listed moves (jumped from to snapshots)))
           (subst (λ (ds : List Desk). AllZip (DeskShows []) (starts_at_jump listed snapshots) ds) (sym desks) stands);
-      text_is = text_grows listed moves (jumped from to snapshots) text (jump_line from to) after so_far.text_is grown (sym (append-nil (jump_line from to)));
+      shown_is = moments_grow listed moves (jumped from to snapshots) shown (leapt from to ∷ []) after so_far.shown_is grown refl;
     }
 
 -- before any move
@@ -196,4 +195,4 @@ start_shows [] = tt
 start_shows (i ∷ is) = (record { instrument = refl; base = refl; book = refl; marked = refl }, start_shows is)
 
 pub shows_nothing : (listed : List Instrument) (desks : List Desk) → desks ≡ map desk_at_start listed → Shows listed [] desks []
-shows_nothing listed desks are = record { listed_are = ap listed_in are ∙ start_listed listed; each = subst (λ (ds : List Desk). AllZip (DeskShows []) (starts_before_jump listed) ds) (sym are) (start_shows listed); text_is = refl }
+shows_nothing listed desks are = record { listed_are = ap listed_in are ∙ start_listed listed; each = subst (λ (ds : List Desk). AllZip (DeskShows []) (starts_before_jump listed) ds) (sym are) (start_shows listed); shown_is = refl }

@@ -5,6 +5,7 @@ pub mod Desks
 pub mod Beside
 pub mod Standing
 pub mod Moments
+pub mod Changed
 pub mod Shares
 pub mod Reports
 pub mod ShareLaws

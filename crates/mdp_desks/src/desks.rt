@@ -4,6 +4,7 @@ ghost use Rattle.std.specs.Prelude.{◌≡◌, ◌≢◌, ◌<◌, ◌++◌, ◌
 ghost use Rattle.std.specs.List.{flat_map};
 ghost use Rattle.mdp_templates.specs.Instrument.{HasDepth, ids_of};
 ghost use Rattle.mdp_desks.specs.Beside.{AreAmong, AreDueAt, AreDueBefore, listed_in, marks_of};
+ghost use Rattle.mdp_desks.specs.Changed.{is_seen_printed, with_marks};
 ghost use Rattle.mdp_desks.specs.Desks.{desk_at_start, desk_heard, desk_jumped, desk_settled, desk_standing, desks_through, rebased_desks, snapshots_at};
 ghost use Rattle.mdp_desks.specs.Lines.{text_of};
 ghost use Rattle.mdp_print.specs.Pieces.{BreaksOff};
@@ -93,6 +94,34 @@ fn put_marked<A: Allocator>(
         from = n + 1;
     }
     Ok(())
+}
+
+// Sets the mark of a marked desk whose book an event end in this packet prints, if there is a mark for it.
+fn mark_one_printed<A: Allocator>(changed: &mut Marked<A>, slot: usize, desk: &Desk, packet: u32)
+    ensures { changed.new ≡ if nat_lt desk.now.base packet && nat_lt slot (length changed.old)
+        then set changed.old slot true else changed.old }
+{
+    if packet > desk.base && slot < changed.len() {
+        changed.put(slot, true);
+    }
+}
+
+// Sets the mark of each desk whose book an event end in this packet prints, as far as there are marks.
+fn mark_due_printed<A: Allocator>(
+    changed: &mut Marked<A>,
+    desks: &[Desk],
+    due: &Marked<A>,
+    packet: u32,
+)
+    requires { AreDueAt packet due.now desks.now }
+    ensures { changed.new ≡ with_marks changed.old
+        (map is_seen_printed (map (desk_standing packet) desks.now)) }
+{
+    let mut from = 0;
+    while let Some(n) = due.next_from(from) {
+        mark_one_printed(changed, n, &desks[n], packet);
+        from = n + 1;
+    }
 }
 
 // Forgets the marks of the desks that are due where an event ended. The others stay as they are: each is not marked, or
@@ -382,6 +411,15 @@ impl<A: Allocator + Copy> Desks<A> {
             out.new.items) }
     {
         put_marked(out, end, &self.desks, self.due_at(end.packet))
+    }
+
+    /// Sets a mark for each desk whose book an event end in packet `packet` prints, among marks in listed order; those
+    /// that are set stay.
+    pub fn mark_printed(&self, changed: &mut Marked<A>, packet: u32)
+        ensures { changed.new ≡ with_marks changed.old
+            (map is_seen_printed (map (desk_standing packet) self.now)) }
+    {
+        mark_due_printed(changed, &self.desks, self.due_at(packet), packet);
     }
 
     /// Forgets the marks where an event ended in packet `packet`.

@@ -1,4 +1,5 @@
-//! Which desks have lines due at the next event end, kept apart from the desks so that one scan is cheap.
+//! A mark for each place of a list, kept apart from what it marks so that one scan is cheap: which desks have lines due
+//! at the next event end, and whose books were printed.
 
 ghost use Rattle.std.specs.Prelude.{◌≡◌, ◌+◌, ◌<◌, ◌≤◌, IfOk, IfSome, IfNone, true, false, get_or, length, map, max, replicate, set};
 ghost use Rattle.mdp_desks.specs.Beside.{AreClear, IsFirstSet, marks_in};
@@ -84,6 +85,13 @@ impl<A: Allocator> Marked<A> {
         })
     }
 
+    /// Tells how many places there are.
+    pub fn len(&self) -> usize
+        ensures { result ≡ length self.now }
+    {
+        self.marks.len()
+    }
+
     /// Tells whether the mark at a place is set.
     pub fn is_set(&self, slot: usize) -> bool
         requires { slot < length self.now }
@@ -96,6 +104,7 @@ impl<A: Allocator> Marked<A> {
     pub fn next_from(&self, from: usize) -> Option<usize>
         ensures some { IfSome result (λ n. IsFirstSet from (length self.now) n self.now) }
         ensures none { IfNone result (AreClear from (length self.now) self.now) }
+        ensures most { IfSome result (λ n. n < 18446744073709551615) }
     {
         first_marked(&self.marks, from.max(self.low), self.high)
     }
@@ -141,8 +150,10 @@ impl<A: Allocator> Marked<A> {
     pub fn clear(&mut self)
         ensures { self.new ≡ map (λ _. false) self.old }
     {
-        while let Some(n) = self.next_from(0) {
-            self.put(n, false);
+        if self.low < self.high {
+            self.marks.fill(0);
+            self.low = 0;
+            self.high = 0;
         }
     }
 }

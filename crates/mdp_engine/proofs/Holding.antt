@@ -80,7 +80,7 @@ all_hold feed next since (i ∷ fs) (d ∷ desks) fed same is =
     (desk_holds feed next i since d fed same.0 is.0, all_hold feed next since fs desks fed same.1 is.1)
 
 pub law_of_owed_books : LawOfOwedBooks
-law_of_owed_books listed feed es drained v honest stands =
+law_of_owed_books listed feed es gone v honest stands =
     let channel = v.arbiter.channel in
     let moves = trace channel es in
     let sh = standing_after listed moves in

@@ -3,6 +3,7 @@ pub mod Agreeing
 pub mod Honesty
 pub mod HonestFeeds
 pub mod GivingUp
+pub mod Keeping
 pub mod Moving
 pub mod Breaking
 pub mod Auditing

@@ -23,6 +23,7 @@ use Rattle.mdp_arbiter.specs.Machine.Move.{passed}
 use Rattle.mdp_arbiter.proofs.Appended.{closed-came, first-apart, highest-more, newest-same, packets-came, snapshots-came}
 use Rattle.mdp_arbiter.proofs.Runs.{law_of_events, settle_settles}
 use Rattle.mdp_arbiter.proofs.Standings.{receives_stands}
+use Rattle.mdp_desks.specs.Moments.{Moment}
 use Rattle.mdp_desks.specs.Standing.{Shows}
 use Rattle.mdp_engine.specs.Engine.{View, IsSettled, Stands}
 
@@ -133,7 +134,7 @@ adds_nothing listed es p v is old =
       moves = more.0 ∙ append-nil (trace v.channel es);
     }
 
-pub old_stands : (listed : List Instrument) (es : List Event) (drained : List ℕ) (p : PacketContent) (v : View) → p.number < v.arbiter.next → Stands listed es drained v → Stands listed (es ++ came p ∷ []) drained v
-old_stands listed es drained p v old is =
+pub old_stands : (listed : List Instrument) (es : List Event) (gone : List Moment) (p : PacketContent) (v : View) → p.number < v.arbiter.next → Stands listed es gone v → Stands listed (es ++ came p ∷ []) gone v
+old_stands listed es gone p v old is =
     let more = adds_nothing listed es p v.arbiter is.settled old in
-    record { settled = more.settled; shows = subst (λ (ms : List Move). Shows listed ms v.desks (drained ++ v.held)) (sym more.moves) is.shows }
+    record { settled = more.settled; others = is.others; shows = subst (λ (ms : List Move). Shows listed ms v.desks (gone ++ is.others)) (sym more.moves) is.shows; holds = is.holds }

@@ -1,4 +1,4 @@
--- What an engine holds, and what that says of the events that came and the text that was drained.
+-- What an engine holds, and what that says of the events that came and the moments that were let go.
 use Rattle.std.specs.Prelude.{◌≡◌, ℕ, ◌-◌, ◌++◌, Bool, List, max, take, refl}
 use Rattle.std.specs.List.{AllZip}
 use Rattle.std.specs.Coded.{Coded, code_by, coded×, coded_ℕ, coded_bool, coded_list}
@@ -14,27 +14,40 @@ use Rattle.mdp_arbiter.specs.Codes.{view_code as arbiter_code}
 use Rattle.mdp_arbiter.specs.Standing.{StandsAt}
 use Rattle.mdp_desks.specs.declared.desk.Desk.{Desk}
 use Rattle.mdp_desks.specs.contracts.desk.Desk as desk
-use Rattle.mdp_engine.specs.Owed.{lines, steps_of}
+use Rattle.mdp_engine.specs.Owed.{owed_moments, steps_of}
 use Rattle.mdp_desks.specs.Due.{is_due}
-use Rattle.mdp_desks.specs.Moments.{shown_lines}
+use Rattle.mdp_desks.specs.Changed.{changed_in}
+use Rattle.mdp_desks.specs.Moments.{Moment, moments}
 use Rattle.mdp_desks.specs.Shown.{Start, standing_after}
 use Rattle.mdp_desks.specs.Standing.{Shows}
 use Rattle.mdp_engine.specs.Honest.{IsHonest}
+use Rattle.mdp_engine.specs.Kept.{kept_lines}
 
--- an engine as contracts see it: its arbiter, its desks, the lines that it holds, and whether memory ran out
+-- an engine as contracts see it: its arbiter, its desks, the lines that it holds, a mark for each listed security whose
+-- book was printed since these were let go last, whether it keeps lines at all, and whether memory ran out
 pub record View : Type 0 where
   pub arbiter : ArbiterView
   pub desks : List Desk
   pub held : List ℕ
+  pub changed : List Bool
+  pub keeps_lines : Bool
   pub has_failed : Bool
 
 -- it is stored as the tuple of its fields
 abbrev pub view_code : Coded View
 view_code =
-    code_by (ArbiterView × (List Desk × (List ℕ × Bool)))
-    (coded× arbiter_code (coded× (coded_list desk.the_row.coded) (coded× (coded_list coded_ℕ) coded_bool)))
-    (λ v. (v.arbiter, (v.desks, (v.held, v.has_failed))))
-    (λ t. record { arbiter = t.0; desks = t.1.0; held = t.1.1.0; has_failed = t.1.1.1 })
+    code_by (ArbiterView × (List Desk × (List ℕ × (List Bool × (Bool × Bool)))))
+    (coded× arbiter_code (coded× (coded_list desk.the_row.coded) (coded× (coded_list coded_ℕ)
+    (coded× (coded_list coded_bool) (coded× coded_bool coded_bool)))))
+    (λ v. (v.arbiter, (v.desks, (v.held, (v.changed, (v.keeps_lines, v.has_failed))))))
+    (λ t. record {
+      arbiter = t.0;
+      desks = t.1.0;
+      held = t.1.1.0;
+      changed = t.1.1.1.0;
+      keeps_lines = t.1.1.1.1.0;
+      has_failed = t.1.1.1.1.1;
+    })
     (λ _. refl)
 
 -- its arbiter stands at the events and has made all their moves
@@ -43,26 +56,41 @@ pub record IsSettled (listed : List Instrument) (es : List Event) (v : ArbiterVi
   pub ids : v.channel.ids ≡ ids_of listed
   pub state : state v ≡ state_at v.channel es
 
--- An engine stands at these events, of which this text was drained: its desks and its text are what the moves show.
-pub record Stands (listed : List Instrument) (es : List Event) (drained : List ℕ) (v : View) : Type 0 where
-  pub settled : IsSettled listed es v.arbiter
-  pub shows : Shows listed (trace v.arbiter.channel es) v.desks (drained ++ v.held)
+-- of these moments it holds the lines, where it keeps any, and whose books they print
+pub record Holds (listed : List Instrument) (moments : List Moment) (v : View) : Type 0 where
+  pub lines_are : v.held ≡ kept_lines v.keeps_lines moments
+  pub changed_are : v.changed ≡ changed_in listed moments
 
--- Memory ran out at these further events: wherever the engine stood before, and whatever text had been drained, that
--- text and what the engine now holds begin the lines that the moves of all events show.
+-- An engine stands at these events: its desks are what the moves show. Of the moments that they show these were let go,
+-- and it holds the others.
+pub record Stands (listed : List Instrument) (es : List Event) (gone : List Moment) (v : View) : Type 0 where
+  pub settled : IsSettled listed es v.arbiter
+  pub others : List Moment
+  pub shows : Shows listed (trace v.arbiter.channel es) v.desks (gone ++ others)
+  pub holds : Holds listed others v
+
+-- of all moments these were let go, and the marks are those of the securities whose books the others print
+abbrev pub AreChanged : List Instrument → List Moment → List Moment → List Bool → Type 0
+AreChanged listed all gone marks =
+    (others : List Moment) × (all ≡ gone ++ others) × (marks ≡ changed_in listed others)
+
+-- Memory ran out at these further events: wherever the engine stood before, and whatever moments were let go, their
+-- lines and what the engine now holds begin the lines of the moments that the moves of all events show.
 abbrev pub HasBrokenOff : List Event → View → View → Type 0
 HasBrokenOff further old new =
-    (listed : List Instrument) (es : List Event) (drained : List ℕ) → Stands listed es drained old
-    → BeginsWith (shown_lines listed (trace old.arbiter.channel (es ++ further))) (drained ++ new.held)
+    (listed : List Instrument) (es : List Event) (gone : List Moment) → Stands listed es gone old
+    → BeginsWith (kept_lines old.keeps_lines (moments listed (trace old.arbiter.channel (es ++ further))))
+    (kept_lines old.keeps_lines gone ++ new.held)
 
 -- ---- under a complete feed that the events agree with
 
--- the text is the lines that the feed owes
+-- the lines so far, where lines are kept, are those of the moments that the feed owes
 abbrev pub LawOfOwedText : Type 0
 LawOfOwedText =
-    (listed : List Instrument) (feed : List PacketContent) (es : List Event) (drained : List ℕ) (v : View)
-    → IsHonest listed feed es
-    → Stands listed es drained v → drained ++ v.held ≡ lines listed feed (steps_of (trace v.arbiter.channel es))
+    (listed : List Instrument) (feed : List PacketContent) (es : List Event) (gone : List Moment) (v : View)
+    → IsHonest listed feed es → Stands listed es gone v
+    → kept_lines v.keeps_lines gone ++ v.held
+    ≡ kept_lines v.keeps_lines (owed_moments listed feed (steps_of (trace v.arbiter.channel es)))
 
 -- A desk has its security's book of the complete feed right before packet `next`, or right after its base where that is
 -- later, and is marked if the security is due.
@@ -75,19 +103,21 @@ pub record HoldsBook (feed : List PacketContent) (next : ℕ) (i : Start) (desk 
 -- and so has each desk of the listed securities, after the moves of the events
 abbrev pub LawOfOwedBooks : Type 0
 LawOfOwedBooks =
-    (listed : List Instrument) (feed : List PacketContent) (es : List Event) (drained : List ℕ) (v : View)
+    (listed : List Instrument) (feed : List PacketContent) (es : List Event) (gone : List Moment) (v : View)
     → IsHonest listed feed es
-    → Stands listed es drained v → AllZip (HoldsBook feed v.arbiter.next)
+    → Stands listed es gone v → AllZip (HoldsBook feed v.arbiter.next)
     (standing_after listed (trace v.arbiter.channel es)).starts v.desks
 
 -- ---- moves one after another
 
 -- an engine has taken in these events and shown these moves, and may make more
-pub record IsUnderWay (listed : List Instrument) (es : List Event) (moves : List Move) (drained : List ℕ)
+pub record IsUnderWay (listed : List Instrument) (es : List Event) (moves : List Move) (gone : List Moment)
     (v : View) : Type 0 where
   pub stands : StandsAt es v.arbiter
   pub ids : v.arbiter.channel.ids ≡ ids_of listed
-  pub shows : Shows listed moves v.desks (drained ++ v.held)
+  pub others : List Moment
+  pub shows : Shows listed moves v.desks (gone ++ others)
+  pub holds : Holds listed others v
 
 -- from one arbiter's view to another the moves that are possible were made, until none is: these
 pub record HasMoved (es : List Event) (old new : ArbiterView) (made : List Move) : Type 0 where
@@ -97,16 +127,17 @@ pub record HasMoved (es : List Event) (old new : ArbiterView) (made : List Move)
 -- from one view to another the moves that are possible were made, and shown
 abbrev pub Advances : View → View → Type 0
 Advances old new =
-    (listed : List Instrument) (es : List Event) (moves : List Move) (drained : List ℕ)
-    → IsUnderWay listed es moves drained old
+    (listed : List Instrument) (es : List Event) (moves : List Move) (gone : List Moment)
+    → IsUnderWay listed es moves gone old
     → (made : List Move) × HasMoved es old.arbiter new.arbiter made
-    × IsUnderWay listed es (moves ++ made) drained new
+    × IsUnderWay listed es (moves ++ made) gone new
 
--- Memory ran out on the way: whatever moves had been shown, the text that was drained and what it holds begin the lines
--- of these and of all moves that are then possible.
+-- Memory ran out on the way: whatever moves had been shown, the lines of the moments that were let go and what it holds
+-- begin the lines of these and of all moves that are then possible.
 abbrev pub BreaksOffOnWay : View → View → Type 0
 BreaksOffOnWay old new =
-    (listed : List Instrument) (es : List Event) (moves : List Move) (drained : List ℕ)
-    → IsUnderWay listed es moves drained old
-    → BeginsWith (shown_lines listed (moves ++ settle old.arbiter.channel es (state old.arbiter)))
-    (drained ++ new.held)
+    (listed : List Instrument) (es : List Event) (moves : List Move) (gone : List Moment)
+    → IsUnderWay listed es moves gone old
+    → BeginsWith (kept_lines old.keeps_lines
+    (moments listed (moves ++ settle old.arbiter.channel es (state old.arbiter))))
+    (kept_lines old.keeps_lines gone ++ new.held)

@@ -4,6 +4,7 @@ pub mod Agreed
 pub mod Spreads
 pub mod Parts
 pub mod Honest
+pub mod Kept
 pub mod Engine
 pub mod Steps
 pub mod Marks

@@ -1,8 +1,8 @@
--- What the code takes in, whether that passes at once, and what a step makes of desks and text, as functions.
-use Rattle.std.specs.Prelude.{ℕ, Bool, false, List, Option}
+-- What the code takes in, whether that passes at once, and which desks a step leaves and which moments it shows, as
+-- functions.
+use Rattle.std.specs.Prelude.{Bool, false, List, [], ◌∷◌, Option}
 use Rattle.mdp_templates.specs.Snapshot.{SnapshotContent}
 use Rattle.mdp_books.specs.Feed.{sent_in}
-use Rattle.mdp_print.specs.Texts.{jump_line}
 use Rattle.mdp_arbiter.specs.Accepted.{Event as Accepted}
 use Rattle.mdp_arbiter.specs.Accepted.Event.{came, recovered, closed}
 use Rattle.mdp_arbiter.specs.Arbiter.{View as ArbiterView}
@@ -13,7 +13,7 @@ use Rattle.mdp_desks.specs.declared.desk.Desk.{Desk}
 use Rattle.mdp_engine.specs.declared.event.Event.{Event}
 use Rattle.mdp_engine.specs.declared.event.Event.TheVariants.{Packet, Snapshot, Close}
 use Rattle.mdp_desks.specs.Desks.{passed_desks, passed_moments, rebased_desks}
-use Rattle.mdp_desks.specs.Moments.{text_of_moments}
+use Rattle.mdp_desks.specs.Moments.{Moment, leapt}
 
 -- the event of the recovery machine that came
 abbrev pub event_of : {A : Type 0} → Event A → Accepted
@@ -32,7 +32,7 @@ abbrev pub stepped_desks : {A : Type 0} → Step A → List (Option SnapshotCont
 stepped_desks (Pass packet) bases desks = passed_desks (sent_in packet) desks
 stepped_desks (Jump old new) bases desks = rebased_desks bases desks
 
--- the lines that a step adds
-abbrev pub stepped_text : {A : Type 0} → Step A → List Desk → List ℕ
-stepped_text (Pass packet) desks = text_of_moments (passed_moments (sent_in packet) desks)
-stepped_text (Jump old new) desks = jump_line old new
+-- the moments that a step adds
+abbrev pub stepped_moments : {A : Type 0} → Step A → List Desk → List Moment
+stepped_moments (Pass packet) desks = passed_moments (sent_in packet) desks
+stepped_moments (Jump old new) desks = leapt old new ∷ []

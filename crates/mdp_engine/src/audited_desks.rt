@@ -1,16 +1,18 @@
 //! The desks of all listed securities, with their calendar spreads.
 
-ghost use Rattle.std.specs.Prelude.{◌≡◌, ◌++◌, ◌≤◌, IfOk, OnErr, OnOk, map, length};
+ghost use Rattle.std.specs.Prelude.{◌≡◌, ◌++◌, ◌∷◌, [], ◌≤◌, IfOk, OnErr, OnOk, map, length};
 ghost use Rattle.std.specs.List.{flat_map};
 ghost use Rattle.mdp_templates.specs.Instrument.{AreFit};
 ghost use Rattle.mdp_books.specs.Feed.{sent_as, sent_in};
 ghost use Rattle.mdp_print.specs.Pieces.{BreaksOff};
-ghost use Rattle.mdp_print.specs.Texts.{jump_line};
 ghost use Rattle.mdp_desks.specs.Desks.{desk_at_start, desk_settled, desk_standing, desks_after, desks_moment, desks_through, passed_desks, passed_moments, rebased_desks};
 ghost use Rattle.mdp_desks.specs.Lines.{audit_text, lines_as};
-ghost use Rattle.mdp_desks.specs.Moments.{text_of_moments};
+ghost use Rattle.mdp_desks.specs.Moments.{ended, leapt};
+ghost use Rattle.mdp_desks.specs.Changed.{changed_by, changed_through};
+ghost use Rattle.mdp_engine.specs.Kept.{kept_lines};
 
 use crate::audits::put_due_audits;
+use crate::held::Held;
 use crate::parts::{mark_spreads, parts_of};
 use crate::spreads::{Spread, spreads_of};
 use mdp_books::EventEnd;
@@ -110,6 +112,26 @@ impl<A: Allocator + Copy> AuditedDesks<A> {
         self.put_spreads(out, end)
     }
 
+    // Shows an event end: marks the desks whose books it prints and, where lines are kept, appends its lines.
+    fn show(&mut self, out: &mut Held<A>, end: EventEnd) -> Result<(), Memory>
+        ensures same { self.new ≡ self.old }
+        ensures text { OnOk result (out.new.text.items ≡ out.old.text.items
+            ++ kept_lines out.old.keeps_lines
+            (ended end (map (desk_standing end.packet) self.old) ∷ [])) }
+        ensures changed { out.new.changed ≡ changed_by out.old.changed
+            (ended end (map (desk_standing end.packet) self.old)) }
+        ensures keeps { out.new.keeps_lines ≡ out.old.keeps_lines }
+        ensures err { OnErr result (BreaksOff (kept_lines out.old.keeps_lines
+            (ended end (map (desk_standing end.packet) self.old) ∷ []))
+            out.old.text.items out.new.text.items) }
+    {
+        self.desks.mark_printed(&mut out.changed, end.packet);
+        if !out.keeps_lines {
+            return Ok(());
+        }
+        self.put(&mut out.text, end)
+    }
+
     // Finds the desks that an event end in this packet has lines of, where some waited for it.
     fn ripen(&mut self, packet: u32)
         ensures { self.new ≡ self.old }
@@ -124,40 +146,47 @@ impl<A: Allocator + Copy> AuditedDesks<A> {
         self.desks.settle(packet);
     }
 
-    // Takes a message, and appends the lines that are owed where it ends an event.
+    // Takes a message, and shows the event that it ends, if it does.
     fn take(
         &mut self,
-        out: &mut Vec<u8, A>,
+        out: &mut Held<A>,
         packet: u32,
         message: u64,
         taken: &Message<'_>,
     ) -> Result<(), Memory>
         ensures desks { OnOk result (self.new
             ≡ desks_after (sent_as packet message taken.now) self.old) }
-        ensures text { OnOk result (out.new.items ≡ out.old.items
-            ++ text_of_moments (desks_moment (sent_as packet message taken.now) self.old)) }
-        ensures err { OnErr result (BreaksOff
-            (text_of_moments (desks_moment (sent_as packet message taken.now) self.old))
-            out.old.items out.new.items) }
+        ensures text { OnOk result (out.new.text.items ≡ out.old.text.items
+            ++ kept_lines out.old.keeps_lines
+            (desks_moment (sent_as packet message taken.now) self.old)) }
+        ensures changed { OnOk result (out.new.changed ≡ changed_through out.old.changed
+            (desks_moment (sent_as packet message taken.now) self.old)) }
+        ensures keeps { out.new.keeps_lines ≡ out.old.keeps_lines }
+        ensures err { OnErr result (BreaksOff (kept_lines out.old.keeps_lines
+            (desks_moment (sent_as packet message taken.now) self.old))
+            out.old.text.items out.new.text.items) }
     {
         self.hear(packet, message, taken.entries());
         if taken.is_end() {
             self.ripen(packet);
-            self.put(out, EventEnd { packet, message })?;
+            self.show(out, EventEnd { packet, message })?;
             self.settle(packet);
         }
         Ok(())
     }
 
-    /// Passes a packet, and appends the lines that its event ends owe. After want of memory they break off, and the
-    /// desks are of no more use.
-    pub fn pass(&mut self, out: &mut Vec<u8, A>, packet: &Packet<A>) -> Result<(), Memory>
+    /// Passes a packet, and shows the event ends in it: it marks the desks whose books they print and, where lines are
+    /// kept, appends their lines. After want of memory these break off, and the desks are of no more use.
+    pub fn pass(&mut self, out: &mut Held<A>, packet: &Packet<A>) -> Result<(), Memory>
         ensures desks { OnOk result (self.new ≡ passed_desks (sent_in packet.now) self.old) }
-        ensures text { OnOk result (out.new.items ≡ out.old.items
-            ++ text_of_moments (passed_moments (sent_in packet.now) self.old)) }
+        ensures text { OnOk result (out.new.text.items ≡ out.old.text.items
+            ++ kept_lines out.old.keeps_lines (passed_moments (sent_in packet.now) self.old)) }
+        ensures changed { OnOk result (out.new.changed ≡ changed_through out.old.changed
+            (passed_moments (sent_in packet.now) self.old)) }
+        ensures keeps { out.new.keeps_lines ≡ out.old.keeps_lines }
         ensures err { OnErr result (BreaksOff
-            (text_of_moments (passed_moments (sent_in packet.now) self.old)) out.old.items
-            out.new.items) }
+            (kept_lines out.old.keeps_lines (passed_moments (sent_in packet.now) self.old))
+            out.old.text.items out.new.text.items) }
     {
         let number = packet.number();
         for n in 0..packet.len() {
@@ -173,21 +202,26 @@ impl<A: Allocator + Copy> AuditedDesks<A> {
         self.desks.rebase(bases);
     }
 
-    /// Jumps from packet number `old` to `new`: appends the line of the jump, and replaces each book by its security's
-    /// snapshot, listed side by side, where there is one. After want of memory nothing is appended, and the desks are
-    /// of no more use.
+    /// Jumps from packet number `old` to `new`: where lines are kept, appends the line of the jump; and replaces each
+    /// book by its security's snapshot, listed side by side, where there is one. After want of memory nothing is
+    /// appended, and the desks are of no more use.
     pub fn jump(
         &mut self,
-        out: &mut Vec<u8, A>,
+        out: &mut Held<A>,
         old: u64,
         new: u64,
         bases: &[Option<Snapshot>],
     ) -> Result<(), Memory>
         ensures desks { OnOk result (self.new ≡ rebased_desks bases.now self.old) }
-        ensures text { OnOk result (out.new.items ≡ out.old.items ++ jump_line old new) }
-        ensures err { OnErr result (out.new.items ≡ out.old.items) }
+        ensures text { OnOk result (out.new.text.items ≡ out.old.text.items
+            ++ kept_lines out.old.keeps_lines (leapt old new ∷ [])) }
+        ensures changed { out.new.changed ≡ out.old.changed }
+        ensures keeps { out.new.keeps_lines ≡ out.old.keeps_lines }
+        ensures err { OnErr result (out.new.text.items ≡ out.old.text.items) }
     {
-        put_jump(out, old, new)?;
+        if out.keeps_lines {
+            put_jump(&mut out.text, old, new)?;
+        }
         self.rebase(bases);
         Ok(())
     }

@@ -6,30 +6,34 @@ ghost use Rattle.mdp_templates.specs.Packet.{PacketContent};
 ghost use Rattle.mdp_templates.specs.Instrument.{AreFit};
 ghost use Rattle.mdp_templates.specs.declared.instrument.Instrument.{Instrument};
 ghost use Rattle.mdp_arbiter.specs.Accepted.{Event as Accepted, came, recovered};
-ghost use Rattle.mdp_arbiter.specs.Machine.{is_lost, moves_of, state_at};
+ghost use Rattle.mdp_arbiter.specs.Machine.{is_lost, moves_of, state_at, trace};
 ghost use Rattle.mdp_arbiter.specs.Channel.{channel_of};
 ghost use Rattle.mdp_arbiter.specs.Arbiter.{is_lost_now, state};
 ghost use Rattle.mdp_arbiter.specs.Packets.{passes_at_once};
 ghost use Rattle.mdp_arbiter.specs.Standing.{StandsAt};
 ghost use Rattle.mdp_print.specs.Pieces.{BeginsWith, BreaksOff};
-ghost use Rattle.mdp_desks.specs.Moments.{shown_lines};
-ghost use Rattle.mdp_engine.specs.Engine.{Advances, BreaksOffOnWay, HasBrokenOff, Stands};
+ghost use Rattle.mdp_desks.specs.Moments.{Moment, moments, shown_lines};
+ghost use Rattle.mdp_engine.specs.Kept.{kept_lines};
+ghost use Rattle.mdp_desks.specs.Changed.{changed_through};
+ghost use Rattle.mdp_engine.specs.Engine.{Advances, AreChanged, BreaksOffOnWay, HasBrokenOff, Stands};
 ghost use Rattle.mdp_engine.specs.Honest.{IsHonest};
 ghost use Rattle.mdp_engine.specs.Owed.{lines, steps_of};
-ghost use Rattle.mdp_engine.specs.Steps.{event_of, passes_now, stepped_desks, stepped_text};
+ghost use Rattle.mdp_engine.specs.Steps.{event_of, passes_now, stepped_desks, stepped_moments};
 
 use crate::audited_desks::AuditedDesks;
 use crate::event::Event;
+use crate::held::Held;
 use crate::taking::take_in;
 use mdp_arbiter::{Arbiter, Start, Step};
-use mdp_desks::Desk;
+use mdp_desks::{Desk, Marked};
 use mdp_templates::{Instrument, Memory, Packet, Snapshot};
 use mdp_window::Window;
 use std::alloc::Allocator;
 use std::marker::Model;
 
 /// Arbitrates the feeds of a channel, keeps its books, and holds the lines that are owed until they leave it: they are
-/// drained into a text, or lent by `lines` and, once they were handed on, forgotten by `clear_lines`.
+/// drained into a text, or lent by `lines` and, once they were handed on, let go by `clear_lines`. Beside them it marks
+/// whose books were printed. It can be made to keep no lines.
 ///
 /// Once memory has run out the engine has failed: it takes in nothing more and drains nothing more. What was drained
 /// or handed on before, with what a failed engine holds behind it, is a beginning of the lines, and may break off
@@ -38,7 +42,7 @@ use std::marker::Model;
 pub struct Engine<A: Allocator, W: Window<Packet<A>> + Drop> {
     arbiter: Arbiter<A, W>,
     desks: AuditedDesks<A>,
-    held: Vec<u8, A>,
+    held: Held<A>,
     has_failed: bool,
 }
 
@@ -52,7 +56,9 @@ impl<A: Allocator, W: Window<Packet<A>> + Drop> Model for Engine<A, W> {
     ghost view = { λ e. record {
       arbiter = e.arbiter;
       desks = e.desks;
-      held = e.held.items;
+      held = e.held.text.items;
+      changed = e.held.changed;
+      keeps_lines = e.held.keeps_lines;
       has_failed = e.has_failed;
     } };
 }
@@ -74,11 +80,12 @@ impl<A: Allocator + Copy, W: Window<Packet<A>> + Drop> Engine<A, W> {
             ≡ channel_of (record { listed = instruments.now; room = (W.view window).room; start = start })) }
         ensures sound { IfOk result (λ engine. engine.has_failed ≡ false) }
         ensures empty { IfOk result (λ engine. engine.held ≡ []) }
+        ensures keeps { IfOk result (λ engine. engine.keeps_lines ≡ true) }
     {
         Ok(Engine {
             arbiter: Arbiter::new(alloc, instruments, window, start)?,
             desks: AuditedDesks::new(alloc, instruments)?,
-            held: Vec::new(alloc),
+            held: Held::nothing(alloc, instruments)?,
             has_failed: false,
         })
     }
@@ -88,8 +95,8 @@ impl<A: Allocator + Copy, W: Window<Packet<A>> + Drop> Engine<A, W> {
         ensures next { result ≡ self.now.arbiter.next }
         ensures least { 1 ≤ result }
         ensures most { result ≤ 4294967296 }
-        ensures stands { (listed : List Instrument) (es : List Accepted) (drained : List ℕ)
-            → Stands listed es drained self.now
+        ensures stands { (listed : List Instrument) (es : List Accepted) (gone : List Moment)
+            → Stands listed es gone self.now
             → result ≡ (state_at self.now.arbiter.channel es).next }
     {
         self.arbiter.next()
@@ -99,8 +106,8 @@ impl<A: Allocator + Copy, W: Window<Packet<A>> + Drop> Engine<A, W> {
     /// the next one is given up.
     pub fn lost(&self) -> bool
         ensures now { result ≡ is_lost_now self.now.arbiter }
-        ensures stands { (listed : List Instrument) (es : List Accepted) (drained : List ℕ)
-            → Stands listed es drained self.now
+        ensures stands { (listed : List Instrument) (es : List Accepted) (gone : List Moment)
+            → Stands listed es gone self.now
             → result ≡ is_lost self.now.arbiter.channel es (state_at self.now.arbiter.channel es) }
     {
         self.arbiter.lost()
@@ -111,9 +118,9 @@ impl<A: Allocator + Copy, W: Window<Packet<A>> + Drop> Engine<A, W> {
     pub fn is_past(&self, number: u32) -> bool
         ensures now { result ≡ nat_lt number self.now.arbiter.next }
         ensures stands { result ≡ true → (listed : List Instrument) (es : List Accepted)
-            (drained : List ℕ) (packet : PacketContent)
-            → packet.number ≡ number → Stands listed es drained self.now
-            → Stands listed (es ++ came packet ∷ []) drained self.now }
+            (gone : List Moment) (packet : PacketContent)
+            → packet.number ≡ number → Stands listed es gone self.now
+            → Stands listed (es ++ came packet ∷ []) gone self.now }
     {
         u64::from(number) < self.next()
     }
@@ -151,12 +158,12 @@ impl<A: Allocator + Copy, W: Window<Packet<A>> + Drop> Engine<A, W> {
     /// # Errors
     ///
     /// Memory ran out, now or in an earlier call.
-    #[tactic(auto, using(crate::proofs::Breaking::broken_off_before))]
     pub fn on(&mut self, event: Event<A>) -> Result<(), Memory>
         ensures stands { OnOk result ((listed : List Instrument) (es : List Accepted)
-            (drained : List ℕ) → Stands listed es drained self.old
-            → Stands listed (es ++ event_of event ∷ []) drained self.new) }
+            (gone : List Moment) → Stands listed es gone self.old
+            → Stands listed (es ++ event_of event ∷ []) gone self.new) }
         ensures channel { OnOk result (self.new.arbiter.channel ≡ self.old.arbiter.channel) }
+        ensures keeps { self.new.keeps_lines ≡ self.old.keeps_lines }
         ensures sound { OnOk result (self.new.has_failed ≡ false) }
         ensures fails { IfErr result (λ _. self.new.has_failed ≡ true) }
         ensures front { BeginsWith self.new.held self.old.held }
@@ -178,12 +185,12 @@ impl<A: Allocator + Copy, W: Window<Packet<A>> + Drop> Engine<A, W> {
     /// # Errors
     ///
     /// Memory ran out, now or in an earlier call.
-    #[tactic(auto, using(crate::proofs::Breaking::broken_off_before))]
     pub fn on_snapshot(&mut self, snapshot: &Snapshot) -> Result<(), Memory>
         ensures stands { OnOk result ((listed : List Instrument) (es : List Accepted)
-            (drained : List ℕ) → Stands listed es drained self.old
-            → Stands listed (es ++ recovered snapshot.now ∷ []) drained self.new) }
+            (gone : List Moment) → Stands listed es gone self.old
+            → Stands listed (es ++ recovered snapshot.now ∷ []) gone self.new) }
         ensures channel { OnOk result (self.new.arbiter.channel ≡ self.old.arbiter.channel) }
+        ensures keeps { self.new.keeps_lines ≡ self.old.keeps_lines }
         ensures sound { OnOk result (self.new.has_failed ≡ false) }
         ensures fails { IfErr result (λ _. self.new.has_failed ≡ true) }
         ensures front { BeginsWith self.new.held self.old.held }
@@ -207,15 +214,15 @@ impl<A: Allocator + Copy, W: Window<Packet<A>> + Drop> Engine<A, W> {
     /// # Errors
     ///
     /// Memory ran out, now or in an earlier call.
-    #[tactic(auto, using(crate::proofs::Breaking::broken_off_before))]
     pub fn on_next(&mut self, packet: &Packet<A>) -> Result<bool, Memory>
         ensures tells { IfOk result (λ passed. passed
             ≡ passes_at_once packet.now.number self.old.arbiter) }
         ensures passed { IfOk result (λ passed. passed ≡ true
-            → (listed : List Instrument) (es : List Accepted) (drained : List ℕ)
-            → Stands listed es drained self.old → Stands listed (es ++ came packet.now ∷ []) drained self.new) }
+            → (listed : List Instrument) (es : List Accepted) (gone : List Moment)
+            → Stands listed es gone self.old → Stands listed (es ++ came packet.now ∷ []) gone self.new) }
         ensures kept { IfOk result (λ passed. passed ≡ false → self.new ≡ self.old) }
         ensures channel { OnOk result (self.new.arbiter.channel ≡ self.old.arbiter.channel) }
+        ensures keeps { self.new.keeps_lines ≡ self.old.keeps_lines }
         ensures sound { OnOk result (self.new.has_failed ≡ false) }
         ensures fails { IfErr result (λ _. self.new.has_failed ≡ true) }
         ensures front { BeginsWith self.new.held self.old.held }
@@ -231,23 +238,37 @@ impl<A: Allocator + Copy, W: Window<Packet<A>> + Drop> Engine<A, W> {
         Ok(passed)
     }
 
-    /// Appends the lines that are held, and holds none from then on.
+    /// Keeps no lines from now on, for those who read books alone, and forgets those that it holds. The marks of what
+    /// changed stay, and `clear_lines` lets them go as before.
+    #[tactic(auto, using(crate::proofs::Moving::stands_unkept))]
+    pub fn keep_no_lines(&mut self)
+        ensures none { self.new ≡ record self.old { held = []; keeps_lines = false } }
+        ensures stands { (listed : List Instrument) (es : List Accepted) (gone : List Moment)
+            → Stands listed es gone self.old → Stands listed es gone self.new }
+    {
+        self.held.text.clear();
+        self.held.keeps_lines = false;
+    }
+
+    /// Appends the lines that are held, and lets go what is held.
     ///
     /// # Errors
     ///
     /// Memory ran out, now or in an earlier call. Then nothing is appended, and what is held stays.
+    #[tactic(auto, using(crate::proofs::Moving::stands_cleared))]
     pub fn drain_lines(&mut self, out: &mut Vec<u8, A>) -> Result<(), Memory>
         ensures text { OnOk result (out.new.items ≡ out.old.items ++ self.old.held) }
-        ensures drained { OnOk result (self.new ≡ record self.old { held = [] }) }
+        ensures gone { OnOk result (self.new
+            ≡ record self.old { held = []; changed = map (λ _. false) self.old.changed }) }
         ensures stands { OnOk result ((listed : List Instrument) (es : List Accepted)
-            (drained : List ℕ) → Stands listed es drained self.old
-            → Stands listed es (drained ++ self.old.held) self.new) }
+            (gone : List Moment) → Stands listed es gone self.old
+            → Stands listed es (moments listed (trace self.old.arbiter.channel es)) self.new) }
         ensures kept { IfErr result (λ _. out.new.items ≡ out.old.items) }
         ensures fails { OnErr result (self.new ≡ record self.old { has_failed = true }) }
         ensures stays { self.old.has_failed ≡ true → IsErr result }
     {
         self.still_sound()?;
-        if out.extend_from_slice(&self.held).is_err() {
+        if out.extend_from_slice(&self.held.text).is_err() {
             self.has_failed = true;
             return Err(Memory);
         }
@@ -259,16 +280,31 @@ impl<A: Allocator + Copy, W: Window<Packet<A>> + Drop> Engine<A, W> {
     pub fn lines(&self) -> &[u8]
         ensures { result.now ≡ self.now.held }
     {
-        self.held.as_slice()
+        self.held.text.as_slice()
     }
 
-    /// Forgets the lines that are held, since they were handed on, and keeps the room that they took for those that
-    /// come.
+    /// Lends a mark for each listed security, in listed order. It is set for those whose book an event end printed
+    /// since lines were let go last. After want of memory nothing is known of the marks.
+    #[tactic(auto, using(crate::proofs::Moving::changed_since))]
+    pub fn changed(&self) -> &Marked<A>
+        ensures now { result.now ≡ self.now.changed }
+        ensures stands { (listed : List Instrument) (es : List Accepted) (gone : List Moment)
+            → Stands listed es gone self.now
+            → AreChanged listed (moments listed (trace self.now.arbiter.channel es)) gone
+            result.now }
+    {
+        &self.held.changed
+    }
+
+    /// Lets go the lines that are held, since they were handed on, and the marks of what changed. The room that the
+    /// lines took is kept for those that come.
+    #[tactic(auto, using(crate::proofs::Moving::stands_cleared))]
     pub fn clear_lines(&mut self)
-        ensures drained { self.new ≡ record self.old { held = [] } }
-        ensures stands { (listed : List Instrument) (es : List Accepted) (drained : List ℕ)
-            → Stands listed es drained self.old
-            → Stands listed es (drained ++ self.old.held) self.new }
+        ensures gone { self.new
+            ≡ record self.old { held = []; changed = map (λ _. false) self.old.changed } }
+        ensures stands { (listed : List Instrument) (es : List Accepted) (gone : List Moment)
+            → Stands listed es gone self.old
+            → Stands listed es (moments listed (trace self.old.arbiter.channel es)) self.new }
     {
         self.held.clear();
     }
@@ -285,12 +321,12 @@ impl<A: Allocator + Copy, W: Window<Packet<A>> + Drop> Engine<A, W> {
     }
 
     // Takes in an event, and makes moves until none is possible.
-    #[tactic(auto, using(crate::proofs::Breaking::broken_off_before))]
     fn advance(&mut self, event: Event<A>) -> Result<(), Memory>
         ensures stands { OnOk result ((listed : List Instrument) (es : List Accepted)
-            (drained : List ℕ) → Stands listed es drained self.old
-            → Stands listed (es ++ event_of event ∷ []) drained self.new) }
+            (gone : List Moment) → Stands listed es gone self.old
+            → Stands listed (es ++ event_of event ∷ []) gone self.new) }
         ensures channel { OnOk result (self.new.arbiter.channel ≡ self.old.arbiter.channel) }
+        ensures keeps { self.new.keeps_lines ≡ self.old.keeps_lines }
         ensures sound { OnOk result (self.new.has_failed ≡ self.old.has_failed) }
         ensures front { BeginsWith self.new.held self.old.held }
         ensures begins { OnErr result (HasBrokenOff (event_of event ∷ []) self.old self.new) }
@@ -306,9 +342,10 @@ impl<A: Allocator + Copy, W: Window<Packet<A>> + Drop> Engine<A, W> {
     // Takes in a snapshot that is lent, and makes moves until none is possible.
     fn recover(&mut self, snapshot: &Snapshot) -> Result<(), Memory>
         ensures stands { OnOk result ((listed : List Instrument) (es : List Accepted)
-            (drained : List ℕ) → Stands listed es drained self.old
-            → Stands listed (es ++ recovered snapshot.now ∷ []) drained self.new) }
+            (gone : List Moment) → Stands listed es gone self.old
+            → Stands listed (es ++ recovered snapshot.now ∷ []) gone self.new) }
         ensures channel { OnOk result (self.new.arbiter.channel ≡ self.old.arbiter.channel) }
+        ensures keeps { self.new.keeps_lines ≡ self.old.keeps_lines }
         ensures sound { OnOk result (self.new.has_failed ≡ self.old.has_failed) }
         ensures front { BeginsWith self.new.held self.old.held }
         ensures begins { OnErr result
@@ -335,10 +372,11 @@ impl<A: Allocator + Copy, W: Window<Packet<A>> + Drop> Engine<A, W> {
         ensures tells { IfOk result (λ passed. passed
             ≡ passes_now (event_of event.now) self.old.arbiter) }
         ensures passed { IfOk result (λ passed. passed ≡ true
-            → (listed : List Instrument) (es : List Accepted) (drained : List ℕ)
-            → Stands listed es drained self.old → Stands listed (es ++ event_of event.now ∷ []) drained self.new) }
+            → (listed : List Instrument) (es : List Accepted) (gone : List Moment)
+            → Stands listed es gone self.old → Stands listed (es ++ event_of event.now ∷ []) gone self.new) }
         ensures kept { IfOk result (λ passed. passed ≡ false → self.new ≡ self.old) }
         ensures channel { OnOk result (self.new.arbiter.channel ≡ self.old.arbiter.channel) }
+        ensures keeps { self.new.keeps_lines ≡ self.old.keeps_lines }
         ensures sound { OnOk result (self.new.has_failed ≡ self.old.has_failed) }
         ensures front { BeginsWith self.new.held self.old.held }
         ensures begins { OnErr result (HasBrokenOff (event_of event.now ∷ []) self.old self.new) }
@@ -354,10 +392,11 @@ impl<A: Allocator + Copy, W: Window<Packet<A>> + Drop> Engine<A, W> {
         ensures tells { IfOk result (λ passed. passed
             ≡ passes_at_once packet.now.number self.old.arbiter) }
         ensures passed { IfOk result (λ passed. passed ≡ true
-            → (listed : List Instrument) (es : List Accepted) (drained : List ℕ)
-            → Stands listed es drained self.old → Stands listed (es ++ came packet.now ∷ []) drained self.new) }
+            → (listed : List Instrument) (es : List Accepted) (gone : List Moment)
+            → Stands listed es gone self.old → Stands listed (es ++ came packet.now ∷ []) gone self.new) }
         ensures kept { IfOk result (λ passed. passed ≡ false → self.new ≡ self.old) }
         ensures channel { OnOk result (self.new.arbiter.channel ≡ self.old.arbiter.channel) }
+        ensures keeps { self.new.keeps_lines ≡ self.old.keeps_lines }
         ensures sound { OnOk result (self.new.has_failed ≡ self.old.has_failed) }
         ensures front { BeginsWith self.new.held self.old.held }
         ensures begins { OnErr result (HasBrokenOff (came packet.now ∷ []) self.old self.new) }
@@ -384,6 +423,7 @@ impl<A: Allocator + Copy, W: Window<Packet<A>> + Drop> Engine<A, W> {
     fn move_on(&mut self) -> Result<(), Memory>
         ensures advances { OnOk result (Advances self.old self.new) }
         ensures channel { OnOk result (self.new.arbiter.channel ≡ self.old.arbiter.channel) }
+        ensures keeps { self.new.keeps_lines ≡ self.old.keeps_lines }
         ensures sound { OnOk result (self.new.has_failed ≡ self.old.has_failed) }
         ensures front { BeginsWith self.new.held self.old.held }
         ensures begins { OnErr result (BreaksOffOnWay self.old self.new) }
@@ -399,10 +439,14 @@ impl<A: Allocator + Copy, W: Window<Packet<A>> + Drop> Engine<A, W> {
         ensures desks { OnOk result (self.new.desks
             ≡ stepped_desks step self.old.arbiter.newest self.old.desks) }
         ensures text { OnOk result (self.new.held ≡ self.old.held
-            ++ stepped_text step self.old.desks) }
+            ++ kept_lines self.old.keeps_lines (stepped_moments step self.old.desks)) }
+        ensures changed { OnOk result (self.new.changed
+            ≡ changed_through self.old.changed (stepped_moments step self.old.desks)) }
+        ensures keeps { self.new.keeps_lines ≡ self.old.keeps_lines }
         ensures arbiter { OnOk result (self.new.arbiter ≡ self.old.arbiter) }
         ensures sound { OnOk result (self.new.has_failed ≡ self.old.has_failed) }
-        ensures err { OnErr result (BreaksOff (stepped_text step self.old.desks) self.old.held
+        ensures err { OnErr result (BreaksOff
+            (kept_lines self.old.keeps_lines (stepped_moments step self.old.desks)) self.old.held
             self.new.held) }
     {
         match step {

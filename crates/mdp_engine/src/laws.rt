@@ -12,8 +12,8 @@ pub fn honest_moves_agree()
     ensures { HonestMovesAgree }
 {}
 
-/// Proves that what an engine has given out and holds, whose events agree with a complete feed, is the lines that the
-/// feed owes.
+/// Proves that the lines of the moments that an engine let go and those that it holds are, where it keeps lines, the
+/// lines that each complete feed owes that agrees with its events.
 pub fn law_of_owed_text()
     ensures { LawOfOwedText }
 {}

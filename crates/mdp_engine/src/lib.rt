@@ -5,6 +5,7 @@ mod audited_desks;
 mod audits;
 mod engine;
 mod event;
+mod held;
 mod laws;
 mod parts;
 mod spreads;

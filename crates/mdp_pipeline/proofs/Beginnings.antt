@@ -12,6 +12,7 @@ use Rattle.mdp_arbiter.specs.Machine.{go_on, moves_of, stands_after, state_at, t
 use Rattle.mdp_arbiter.specs.Channel.{Channel, ListedChannel, channel_of}
 use Rattle.mdp_arbiter.proofs.Runs.{law_of_fronts}
 use Rattle.mdp_desks.specs.Moments.{moments_after, shown_lines, text_of_moments}
+use Rattle.mdp_engine.proofs.Owing.{text_so_far}
 use Rattle.mdp_pipeline.specs.declared.progress.Run.{Run}
 use Rattle.mdp_pipeline.specs.Merge.{Arrival, FeedRecords, in_order}
 use Rattle.mdp_pipeline.specs.Reading.{Reading, Says, IsReading, AreReadings, by_feed, events_of, refusals_text}
@@ -116,7 +117,8 @@ begins_so_far channel arrivals done left start taken taken' run n parts went so_
     let over = so_far.over.run in
     let held = run.handler.held in
     let shown : so_far.sent ++ held ≡ shown_lines channel.listed (moves_of channel (events_of readings)) =
-    over.stands.shows.text_is
+    ap (λ (t : List ℕ). t ++ held) over.stands.sent_is
+    ∙ text_so_far channel.listed (events_of readings) over.stands.gone run.handler over.stands.keeps over.stands.stands
     ∙ ap (λ (c : Channel). shown_lines channel.listed (trace c (events_of readings))) over.channel_is in
     record {
       text = text_of channel all;

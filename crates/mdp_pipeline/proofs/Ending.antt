@@ -9,6 +9,7 @@ use Rattle.mdp_arbiter.specs.Machine.{go_on, is_lost, moves_of, stands_after, st
 use Rattle.mdp_arbiter.proofs.Runs.{law_of_fronts}
 use Rattle.mdp_desks.specs.Moments.{Moment, moments, moments_after, shown_lines, text_of_moments}
 use Rattle.mdp_engine.specs.Engine.{View, Stands}
+use Rattle.mdp_engine.proofs.Owing.{text_so_far}
 use Rattle.mdp_arbiter.specs.declared.arbiter.Standing.{Standing}
 use Rattle.mdp_crew.specs.declared.fault.RunFault.{RunFault}
 use Rattle.mdp_crew.specs.Outlets.{out}
@@ -33,7 +34,9 @@ use Rattle.mdp_pipeline.specs.Running.{BeginsAll, EndsAs, EndsEarly, HandsOn, Ha
 -- what was sent and what is held is what the moves show
 shown_so_far : (channel : ListedChannel) (events : List Event) (start taken : List ℕ) (engine : View) → (so_far : HasWritten channel events start taken engine) → so_far.sent ++ engine.held ≡ shown_lines channel.listed (moves_of channel events)
 shown_so_far channel events start taken engine so_far =
-    so_far.stands.shows.text_is ∙ ap (λ (c : Channel). shown_lines channel.listed (trace c events)) so_far.channel_is
+    ap (λ (t : List ℕ). t ++ engine.held) so_far.stands.sent_is
+    ∙ text_so_far channel.listed events so_far.stands.gone engine so_far.stands.keeps so_far.stands.stands
+    ∙ ap (λ (c : Channel). shown_lines channel.listed (trace c events)) so_far.channel_is
 
 -- what more events show
 abbrev shown_later : ListedChannel → List Event → List Event → List ℕ
@@ -79,13 +82,13 @@ early_none channel events refusals start = record { sent = []; rest = shown_outp
 -- ---- the end
 
 abbrev pub Tells : View → Standing → Type 0
-Tells engine standing = (listed : List Instrument) (es : List Event) (drained : List ℕ) → Stands listed es drained engine → standing ≡ stands_at engine.arbiter.channel es
+Tells engine standing = (listed : List Instrument) (es : List Event) (gone : List Moment) → Stands listed es gone engine → standing ≡ stands_at engine.arbiter.channel es
 
 pub tells_both : (engine : View) (next : ℕ) (lost : Bool)
-    → ((listed : List Instrument) (es : List Event) (drained : List ℕ) → Stands listed es drained engine → next ≡ (state_at engine.arbiter.channel es).next)
-    → ((listed : List Instrument) (es : List Event) (drained : List ℕ) → Stands listed es drained engine → lost ≡ is_lost engine.arbiter.channel es (state_at engine.arbiter.channel es))
+    → ((listed : List Instrument) (es : List Event) (gone : List Moment) → Stands listed es gone engine → next ≡ (state_at engine.arbiter.channel es).next)
+    → ((listed : List Instrument) (es : List Event) (gone : List Moment) → Stands listed es gone engine → lost ≡ is_lost engine.arbiter.channel es (state_at engine.arbiter.channel es))
     → Tells engine (record { next = next; lost = lost })
-tells_both engine next lost next_is lost_is = λ listed es drained stands i. record { next = next_is listed es drained stands i; lost = lost_is listed es drained stands i }
+tells_both engine next lost next_is lost_is = λ listed es gone stands i. record { next = next_is listed es gone stands i; lost = lost_is listed es gone stands i }
 
 pub ends_as : (channel : ListedChannel) (events : List Event) (start taken taken' : List ℕ) (engine : View) (end : List ℕ) (refusals : RefusalTexts) (standing : Standing)
     → taken' ≡ (taken ++ engine.held) ++ end → end ≡ end_text (joined_texts refusals) standing → Tells engine standing
@@ -93,7 +96,7 @@ pub ends_as : (channel : ListedChannel) (events : List Event) (start taken taken
 ends_as channel events start taken taken' engine end refusals standing went end_is tells so_far =
     let held = engine.held in
     let front = so_far.sent ++ held in
-    let there : standing ≡ stands_after channel events = tells channel.listed events so_far.sent so_far.stands ∙ ap (λ (c : Channel). stands_at c events) so_far.channel_is in
+    let there : standing ≡ stands_after channel events = tells channel.listed events so_far.stands.gone so_far.stands.stands ∙ ap (λ (c : Channel). stands_at c events) so_far.channel_is in
     let ending : end ≡ end_lines channel (joined_texts refusals) events = end_is ∙ ap (end_text (joined_texts refusals)) there in (
       front ++ end,
       went ∙ ap (λ (t : List ℕ). (t ++ held) ++ end) so_far.taken_is ∙ ap (λ (t : List ℕ). t ++ end) (append_assoc start so_far.sent held) ∙ append_assoc start front end,

@@ -87,7 +87,12 @@ read_more : {A : Type 0} (channel : ListedChannel) (readings : List Reading) (fe
 read_more channel readings feed entry sent old new takes run =
     let reading = reading_of (record { feed = feed; entry = entry }) takes.said in
     record {
-      stands = subst (λ (es : List Event). Stands channel.listed es sent new.handler) (sym (events-push readings reading)) (takes.takes.goes.stands channel.listed (events_of readings) sent run.stands);
+      stands = record {
+        gone = run.stands.gone;
+        stands = subst (λ (es : List Event). Stands channel.listed es run.stands.gone new.handler) (sym (events-push readings reading)) (takes.takes.goes.stands channel.listed (events_of readings) run.stands.gone run.stands.stands);
+        keeps = takes.takes.goes.keeps ∙ run.stands.keeps;
+        sent_is = run.stands.sent_is;
+      };
       channel_is = takes.takes.goes.channel ∙ run.channel_is;
       refusals_are = takes.takes.refusals ∙ ap (with_told feed entry.line (refusal_in takes.said)) run.refusals_are ∙ sym (refusals-push readings feed entry takes.said);
     }

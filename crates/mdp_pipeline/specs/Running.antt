@@ -1,10 +1,11 @@
 -- What a run has come to after these readings.
-use Rattle.std.specs.Prelude.{◌≡◌, ℕ, List, ◌++◌}
+use Rattle.std.specs.Prelude.{◌≡◌, ℕ, true, List, ◌++◌}
 use Rattle.mdp_templates.specs.declared.instrument.Instrument.{Instrument}
 use Rattle.mdp_templates.specs.declared.feed.Feed.{Feed}
 use Rattle.mdp_templates.specs.declared.feed.Feed.TheVariants as feeds
 use Rattle.mdp_arbiter.specs.Channel.{ListedChannel, channel_of}
 use Rattle.mdp_arbiter.specs.Accepted.{Event}
+use Rattle.mdp_desks.specs.Moments.{Moment, text_of_moments}
 use Rattle.mdp_engine.specs.Engine.{View, Stands}
 use Rattle.mdp_capture.specs.Record.{Received}
 use Rattle.mdp_pipeline.specs.Merge.{Arrival, arrival_on}
@@ -44,10 +45,17 @@ abbrev pub TakesOn : {A : Type 0} → Feed → ℕ → Received → Run A → Ru
 TakesOn feed line received old new =
     TakesAs (kind_of feed) (arrival_on feed (record { line = line; received = received })) old new
 
--- the engine stands at the events of these readings, of which this text was sent
+-- an engine that keeps lines stands at these events, of whose lines this text was sent; it holds the rest
+pub record StandsSent (listed : List Instrument) (events : List Event) (sent : List ℕ) (engine : View) : Type 0 where
+  pub gone : List Moment
+  pub stands : Stands listed events gone engine
+  pub keeps : engine.keeps_lines ≡ true
+  pub sent_is : sent ≡ text_of_moments gone
+
+-- the engine stands at the events of these readings, of whose lines this text was sent
 pub record HasRun {A : Type 0} (channel : ListedChannel) (readings : List Reading) (sent : List ℕ)
     (now : Run A) : Type 0 where
-  pub stands : Stands channel.listed (events_of readings) sent now.handler
+  pub stands : StandsSent channel.listed (events_of readings) sent now.handler
   pub channel_is : now.handler.arbiter.channel ≡ channel_of channel
   pub refusals_are : now.refusals ≡ refusals_of readings
 
@@ -74,7 +82,7 @@ pub record HasWritten (channel : ListedChannel) (events : List Event) (start tak
     (engine : View) : Type 0 where
   pub sent : List ℕ
   pub taken_is : taken ≡ start ++ sent
-  pub stands : Stands channel.listed events sent engine
+  pub stands : StandsSent channel.listed events sent engine
   pub channel_is : engine.arbiter.channel ≡ channel_of channel
 
 -- lines that the engine held went out: wherever it stood, after whatever text was sent before, it
@@ -83,7 +91,7 @@ pub record HandsOn {A : Type 0} (taken taken' : List ℕ) (old new : Run A) : Ty
   pub sent : List ℕ
   pub went : taken' ≡ taken ++ sent
   pub stands : (listed : List Instrument) (events : List Event) (before : List ℕ)
-      → Stands listed events before old.handler → Stands listed events (before ++ sent) new.handler
+      → StandsSent listed events before old.handler → StandsSent listed events (before ++ sent) new.handler
   pub channel : new.handler.arbiter.channel ≡ old.handler.arbiter.channel
   pub refusals : new.refusals ≡ old.refusals
 

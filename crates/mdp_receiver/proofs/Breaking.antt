@@ -1,5 +1,5 @@
 -- Where memory runs out at a datagram, what was handed on and what is held begin the lines of all events.
-use Rattle.std.proofs.Common.{◌≡◌, ◌<◌, ◌+◌, ℕ, List, [], ◌∷◌, ◌++◌, map, take, drop, length, get_or, refl, sym, ap, subst, ◌∙◌, append_assoc}
+use Rattle.std.proofs.Common.{◌≡◌, ◌<◌, ◌+◌, ℕ, Bool, List, [], ◌∷◌, ◌++◌, map, take, drop, length, get_or, refl, sym, ap, subst, ◌∙◌, append_assoc}
 use Rattle.std.proofs.lemmas.List.{map-append, take-append-drop}
 use Rattle.mdp_sbe.specs.Answer.{HasOneAnswer}
 use Rattle.mdp_sbe.specs.Answer.HasOneAnswer.{is_good, is_refused}
@@ -16,7 +16,8 @@ use Rattle.mdp_print.specs.Pieces.{BeginsWith}
 use Rattle.mdp_arbiter.specs.Accepted.{Event, came, recovered}
 use Rattle.mdp_arbiter.specs.Channel.{Channel}
 use Rattle.mdp_arbiter.specs.Machine.{trace}
-use Rattle.mdp_desks.specs.Moments.{shown_lines}
+use Rattle.mdp_desks.specs.Moments.{moments}
+use Rattle.mdp_engine.specs.Kept.{kept_lines}
 use Rattle.mdp_engine.specs.Engine.{HasBrokenOff, View}
 use Rattle.mdp_engine.proofs.Breaking.{broken_off_before, broken_off_more}
 use Rattle.mdp_receiver.specs.Handling.{GoesOn, HasBrokenOffAt}
@@ -51,10 +52,11 @@ packet_brought bytes packet old new is broken = (brings (came packet ∷ []), (p
 
 -- behind events that were taken in
 broken_off_behind : (events further : List Event) (first now new : View) → GoesOn events first now → HasBrokenOff further now new → HasBrokenOff (events ++ further) first new
-broken_off_behind events further first now new goes broken = λ listed es drained stands.
-    subst (λ (c : Channel). BeginsWith (shown_lines listed (trace c (es ++ (events ++ further)))) (drained ++ new.held)) goes.channel
-    (subst (λ (xs : List Event). BeginsWith (shown_lines listed (trace now.arbiter.channel xs)) (drained ++ new.held)) (append_assoc es events further)
-    (broken listed (es ++ events) drained (goes.stands listed es drained stands)))
+broken_off_behind events further first now new goes broken = λ listed es gone stands.
+    subst (λ (b : Bool). BeginsWith (kept_lines b (moments listed (trace first.arbiter.channel (es ++ (events ++ further))))) (kept_lines b gone ++ new.held)) goes.keeps
+    (subst (λ (c : Channel). BeginsWith (kept_lines now.keeps_lines (moments listed (trace c (es ++ (events ++ further))))) (kept_lines now.keeps_lines gone ++ new.held)) goes.channel
+    (subst (λ (xs : List Event). BeginsWith (kept_lines now.keeps_lines (moments listed (trace now.arbiter.channel xs))) (kept_lines now.keeps_lines gone ++ new.held)) (append_assoc es events further)
+    (broken listed (es ++ events) gone (goes.stands listed es gone stands))))
 
 -- at one of the snapshots
 pub broken_off_at : (snapshots : List SnapshotContent) (i : ℕ) (s : SnapshotContent) (first now new : View) → i < length snapshots → s ≡ get_or snapshots i s

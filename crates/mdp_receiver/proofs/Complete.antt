@@ -1,5 +1,5 @@
 -- What a handler's text and books have to do with a complete feed that agrees with its events.
-use Rattle.std.proofs.Common.{◌≡◌, ℕ, ◌-◌, ◌<◌, Bool, true, false, List, take, refl, ap, subst, ◌∙◌, arith}
+use Rattle.std.proofs.Common.{◌≡◌, ℕ, ◌-◌, ◌<◌, ◌++◌, Bool, true, false, List, take, refl, ap, subst, ◌∙◌, arith}
 use Rattle.std.specs.Prelude.{◌&&◌, max, slice_get, Option, Some, None, IsSomeAnd, MatchOption}
 use Rattle.std.specs.List.{AllZip}
 use Rattle.std.proofs.lemmas.Bool.Decides.{nat_tests}
@@ -7,24 +7,35 @@ use Rattle.std.proofs.lemmas.Slice.Zip.{AllZip-right}
 use Rattle.mdp_templates.specs.Packet.{PacketContent}
 use Rattle.mdp_books.specs.Feed.{book_at, sent_by}
 use Rattle.mdp_arbiter.specs.Channel.{Channel}
-use Rattle.mdp_arbiter.specs.Machine.{trace}
-use Rattle.mdp_desks.specs.Moments.{shown_lines}
+use Rattle.mdp_arbiter.specs.Machine.{moves_of, trace}
+use Rattle.mdp_desks.specs.Moments.{Moment, moments}
 use Rattle.mdp_desks.specs.Shown.{Start, standing_after}
 use Rattle.mdp_desks.specs.declared.desk.Desk.{Desk}
-use Rattle.mdp_engine.specs.Engine.{HoldsBook}
-use Rattle.mdp_engine.specs.Owed.{lines, steps_of}
+use Rattle.mdp_engine.specs.Engine.{AreChanged, HoldsBook}
 use Rattle.mdp_engine.proofs.Holding.{law_of_owed_books}
-use Rattle.mdp_engine.proofs.Owing.{law_of_owed_text}
+use Rattle.mdp_engine.specs.Kept.{kept_lines}
+use Rattle.mdp_engine.proofs.Moving.{changed_since, lines_so_far}
+use Rattle.mdp_engine.proofs.Owing.{law_of_honest_moments}
 use Rattle.mdp_receiver.specs.Handling.{LawOfCurrentBooks, LawOfHandlers, is_within}
 
 pub law_of_handlers : LawOfHandlers
-law_of_handlers channel events sent v h =
-    let listed = channel.listed in (
-      h.stands.shows.text_is ∙ ap (λ (c : Channel). shown_lines listed (trace c events)) h.channel_is,
+law_of_handlers channel events gone v h =
+    let listed = channel.listed in
+    let changed : AreChanged listed (moments listed (moves_of channel events)) gone v.changed =
+    subst (λ (c : Channel). AreChanged listed (moments listed (trace c events)) gone v.changed) h.channel_is (changed_since listed events gone v h.stands) in
+    let text : kept_lines v.keeps_lines gone ++ v.held ≡ kept_lines v.keeps_lines (moments listed (moves_of channel events)) =
+    lines_so_far listed events gone v h.stands ∙ ap (λ (c : Channel). kept_lines v.keeps_lines (moments listed (trace c events))) h.channel_is in (
+      record {
+        text = text;
+        changed = changed;
+      },
       λ feed honest. (
-        law_of_owed_text listed feed events sent v honest h.stands ∙ ap (λ (c : Channel). lines listed feed (steps_of (trace c events))) h.channel_is,
+        record {
+          text = text ∙ ap (kept_lines v.keeps_lines) (law_of_honest_moments channel feed events honest);
+          changed = subst (λ (ms : List Moment). AreChanged listed ms gone v.changed) (law_of_honest_moments channel feed events honest) changed;
+        },
         subst (λ (c : Channel). AllZip (HoldsBook feed v.arbiter.next) (standing_after listed (trace c events)).starts v.desks) h.channel_is
-            (law_of_owed_books listed feed events sent v honest h.stands),
+            (law_of_owed_books listed feed events gone v honest h.stands),
       ),
     )
 
@@ -40,8 +51,8 @@ current feed next desk (Some i) holds before =
     holds.book ∙ ap (λ (n : ℕ). book_at i.instrument (sent_by (take n feed))) same ∙ rw (holds.instrument) refl
 
 pub law_of_current_books : LawOfCurrentBooks
-law_of_current_books channel events sent v feed slot desk h honest is at =
-    let each = law_of_owed_books channel.listed feed events sent v honest h.stands in
+law_of_current_books channel events gone v feed slot desk h honest is at =
+    let each = law_of_owed_books channel.listed feed events gone v honest h.stands in
     let starts = (standing_after channel.listed (trace v.arbiter.channel events)).starts in
     let there = subst (λ (o : Option Desk). MatchOption o (Unit {0}) (λ (d : Desk). IsSomeAnd (slice_get starts slot) (λ (i : Start). HoldsBook feed v.arbiter.next i d))) at
     (AllZip-right (HoldsBook feed v.arbiter.next) starts v.desks each slot) in

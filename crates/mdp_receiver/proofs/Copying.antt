@@ -11,6 +11,7 @@ use Rattle.mdp_arbiter.specs.Fates.{packet_fate}
 use Rattle.mdp_arbiter.specs.Machine.{State, state_at}
 use Rattle.mdp_arbiter.specs.Standing.{StandsAt}
 use Rattle.mdp_arbiter.specs.declared.fate.PacketFate.{PacketFate}
+use Rattle.mdp_desks.specs.Moments.{Moment}
 use Rattle.mdp_engine.specs.Engine.{Stands, View}
 use Rattle.mdp_receiver.specs.Copies.{IsPacketOf}
 use Rattle.mdp_receiver.specs.Handling.{IsCopy, TakesDatagram}
@@ -18,8 +19,8 @@ use Rattle.mdp_receiver.specs.Said.{IsSaid, brings, kind_of}
 use Rattle.mdp_receiver.specs.declared.taken.Taken.TheVariants.{Packet}
 
 -- the fate of a packet, as an arbiter that stands at the events tells it, is the one that they decide
-pub packet_taken : (listed : List Instrument) (before : List Event) (sent : List ℕ) (v : View) (number : ℕ) (fate : PacketFate) → ((es : List Event) → StandsAt es v.arbiter → fate ≡ packet_fate v.arbiter.channel es (state v.arbiter) number) → Stands listed before sent v → fate ≡ packet_fate v.arbiter.channel before (state_at v.arbiter.channel before) number
-packet_taken listed before sent v number fate told stands =
+pub packet_taken : (listed : List Instrument) (before : List Event) (gone : List Moment) (v : View) (number : ℕ) (fate : PacketFate) → ((es : List Event) → StandsAt es v.arbiter → fate ≡ packet_fate v.arbiter.channel es (state v.arbiter) number) → Stands listed before gone v → fate ≡ packet_fate v.arbiter.channel before (state_at v.arbiter.channel before) number
+packet_taken listed before gone v number fate told stands =
     subst (λ (s : State). fate ≡ packet_fate v.arbiter.channel before s number) stands.settled.state (told before stands.settled.stands)
 
 pub takes_copy : (feed : Feed) (bytes : List ℕ) (number : ℕ) (fate : PacketFate) (v : View) → ((es : List Event) → StandsAt es v.arbiter → fate ≡ packet_fate v.arbiter.channel es (state v.arbiter) number) → IsCopy feed bytes number v → TakesDatagram feed bytes (Packet fate) v v
@@ -29,9 +30,9 @@ takes_copy feed bytes number fate v told copy =
       brings (came packet ∷ []),
       says,
       record {
-        goes = record { stands = λ listed before sent stands. copy.past listed before sent packet copy.packet.2 stands; channel = refl };
+        goes = record { stands = λ listed before gone stands. copy.past listed before gone packet copy.packet.2 stands; channel = refl; keeps = refl };
         refused_is = refl;
-        taken_is = λ listed before sent stands. rw copy.packet.2 (let e = packet_taken listed before sent v number fate told stands in cc);
+        taken_is = λ listed before gone stands. rw copy.packet.2 (let e = packet_taken listed before gone v number fate told stands in cc);
       },
     )
 

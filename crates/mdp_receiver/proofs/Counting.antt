@@ -9,6 +9,7 @@ use Rattle.mdp_arbiter.specs.Fates.{snapshot_fate}
 use Rattle.mdp_arbiter.specs.Standing.{StandsAt}
 use Rattle.mdp_arbiter.specs.declared.fate.SnapshotFate.{SnapshotFate}
 use Rattle.mdp_arbiter.specs.declared.fate.SnapshotFate.TheVariants as fates
+use Rattle.mdp_desks.specs.Moments.{Moment}
 use Rattle.mdp_engine.specs.Engine.{Stands, View}
 use Rattle.mdp_receiver.specs.Handling.{GoesOn, TakesSaid}
 use Rattle.mdp_receiver.specs.Said.{brings}
@@ -20,12 +21,12 @@ use Rattle.mdp_receiver.proofs.Going.{goes_more}
 -- of these snapshots the first ones are counted: wherever the handler stood at first, the others make of this count what all make of none
 abbrev pub AreCounted : List SnapshotContent → ℕ → View → SnapshotCounts → Type 0
 AreCounted snapshots i first counts =
-    (listed : List Instrument) (before : List Event) (sent : List ℕ) → Stands listed before sent first
+    (listed : List Instrument) (before : List Event) (gone : List Moment) → Stands listed before gone first
     → counts_after first.arbiter.channel.ids before (map recovered snapshots) no_counts
     ≡ counts_after first.arbiter.channel.ids (before ++ map recovered (take i snapshots)) (map recovered (drop i snapshots)) counts
 
 pub counted_none : (snapshots : List SnapshotContent) (first : View) → AreCounted snapshots 0 first no_counts
-counted_none snapshots first = λ listed before sent stands.
+counted_none snapshots first = λ listed before gone stands.
     ap (λ (es : List Event). counts_after first.arbiter.channel.ids es (map recovered snapshots) no_counts) (sym (append-nil before))
 
 pub taken_so : (snapshots : List SnapshotContent) (i : ℕ) → i < length snapshots → (s : SnapshotContent) → s ≡ get_or snapshots i s → map recovered (take i snapshots) ++ recovered s ∷ [] ≡ map recovered (take (i + 1) snapshots)
@@ -39,13 +40,13 @@ left_so snapshots i within s at =
     ap (map recovered) (drop_more snapshots i s within) ∙ ap (λ (x : SnapshotContent). recovered x ∷ map recovered (drop (i + 1) snapshots)) (sym at)
 
 pub counted_more : (snapshots : List SnapshotContent) (i : ℕ) (s : SnapshotContent) (first now : View) (counts : SnapshotCounts) (fate : SnapshotFate) → i < length snapshots → s ≡ get_or snapshots i s → GoesOn (map recovered (take i snapshots)) first now → ((es : List Event) → StandsAt es now.arbiter → fate ≡ snapshot_fate now.arbiter.channel.ids es s) → AreCounted snapshots i first counts → AreCounted snapshots (i + 1) first (with_fate fate counts)
-counted_more snapshots i s first now counts fate within at goes told so_far = λ listed before sent stands.
+counted_more snapshots i s first now counts fate within at goes told so_far = λ listed before gone stands.
     let ids = first.arbiter.channel.ids in
     let es = before ++ map recovered (take i snapshots) in
     let here : fate ≡ snapshot_fate ids es s =
-    subst (λ (c : Channel). fate ≡ snapshot_fate c.ids es s) goes.channel (told es (goes.stands listed before sent stands).settled.stands) in
+    subst (λ (c : Channel). fate ≡ snapshot_fate c.ids es s) goes.channel (told es (goes.stands listed before gone stands).settled.stands) in
     let counted : counts_after ids before (map recovered snapshots) no_counts ≡ counts_after ids es (recovered s ∷ map recovered (drop (i + 1) snapshots)) counts =
-    so_far listed before sent stands ∙ ap (λ (more : List Event). counts_after ids es more counts) (left_so snapshots i within s at) in
+    so_far listed before gone stands ∙ ap (λ (more : List Event). counts_after ids es more counts) (left_so snapshots i within s at) in
     let events : es ++ recovered s ∷ [] ≡ before ++ map recovered (take (i + 1) snapshots) =
     append_assoc before (map recovered (take i snapshots)) (recovered s ∷ []) ∙ ap (λ (more : List Event). before ++ more) (taken_so snapshots i within s at) in
     counted
@@ -66,9 +67,9 @@ pub counted_all : (snapshots : List SnapshotContent) (i : ℕ) (first now : View
 counted_all snapshots i first now counts none all goes so_far = record {
   goes = subst (λ (ss : List SnapshotContent). GoesOn (map recovered ss) first now) all goes;
   refused_is = refl;
-  taken_is = λ listed before sent stands.
+  taken_is = λ listed before gone stands.
       let es = before ++ map recovered (take i snapshots) in
-      let counted : counts_after first.arbiter.channel.ids before (map recovered snapshots) no_counts ≡ counts = so_far listed before sent stands ∙ ap (λ (ss : List SnapshotContent). counts_after first.arbiter.channel.ids es (map recovered ss) counts) none in
+      let counted : counts_after first.arbiter.channel.ids before (map recovered snapshots) no_counts ≡ counts = so_far listed before gone stands ∙ ap (λ (ss : List SnapshotContent). counts_after first.arbiter.channel.ids es (map recovered ss) counts) none in
       ap (λ (c : SnapshotCounts). Snapshots c) (sym counted) ∙ sym (taken_snapshots first.arbiter.channel before snapshots);
 }
 

@@ -22,8 +22,8 @@ use Rattle.mdp_arbiter.proofs.Appended.{highest-more, packets-after_close, packe
 use Rattle.mdp_arbiter.proofs.Jumping.{jump_or_none, lost-recovered, lost_at, pass_on}
 use Rattle.mdp_arbiter.proofs.Runs.{law_of_fronts, settle_settles}
 use Rattle.mdp_engine.specs.Engine.{View}
-use Rattle.mdp_receiver.specs.Handling.{HasMoved, TakesSaid}
-use Rattle.mdp_receiver.specs.Moved.{came_in_time, jump_in, jump_told, loss_of, loss_told, moved_by, moved_told}
+use Rattle.mdp_receiver.specs.Handling.{TakesSaid, TellsMoved}
+use Rattle.mdp_receiver.specs.Moved.{MovesAs, came_while_open, jump_told, jumps_in, loss_of, loss_told, moved_told, one_jump}
 use Rattle.mdp_receiver.specs.Said.{IsSaid, Said, brings, brought_by, refused}
 use Rattle.mdp_receiver.specs.Taken.{taken_by, taken_of}
 use Rattle.mdp_receiver.specs.declared.moved.Jump.{Jump}
@@ -34,28 +34,25 @@ use Rattle.mdp_receiver.specs.declared.taken.Taken.TheVariants.{Packet, Refused}
 
 -- ---- jumps among moves
 
-none_in : (ms : List Move) → HaveNoJump ms → jump_in ms ≡ None
+none_in : (ms : List Move) → HaveNoJump ms → jumps_in ms ≡ []
 none_in [] none = refl
 none_in (passed p ∷ ms) none = none_in ms none
 none_in (jumped old new snapshots ∷ ms) none = absurd none
 
-later_jump : (xs ys : List Move) → jump_in xs ≡ None → jump_in (xs ++ ys) ≡ jump_in ys
-later_jump [] ys none = refl
-later_jump (passed p ∷ xs) ys none = later_jump xs ys none
-later_jump (jumped old new snapshots ∷ xs) ys none = cc
+jumps-append : (xs ys : List Move) → jumps_in (xs ++ ys) ≡ jumps_in xs ++ jumps_in ys
+jumps-append [] ys = refl
+jumps-append (passed p ∷ xs) ys = jumps-append xs ys
+jumps-append (jumped old new snapshots ∷ xs) ys = ap (λ (js : List Jump). (record { old = old; new = new }) ∷ js) (jumps-append xs ys)
 
-first_jump : (xs ys : List Move) (j : Jump) → jump_in xs ≡ Some j → jump_in (xs ++ ys) ≡ Some j
-first_jump [] ys j is = cc
-first_jump (passed p ∷ xs) ys j is = first_jump xs ys j is
-first_jump (jumped old new snapshots ∷ xs) ys j is = is
+later_jumps : (xs ys : List Move) → jumps_in xs ≡ [] → jumps_in (xs ++ ys) ≡ jumps_in ys
+later_jumps xs ys none = jumps-append xs ys ∙ ap (λ (js : List Jump). js ++ jumps_in ys) none
 
-jumps_once : (xs ys : List Move) (next : ℕ) (least : Option ℕ) → jump_in xs ≡ jump_told true false next least → jump_in ys ≡ None → jump_in (xs ++ ys) ≡ jump_told true false next least
-jumps_once xs ys next None is none = later_jump xs ys is ∙ none
-jumps_once xs ys next (Some least) is none = first_jump xs ys _ is
+earlier_jumps : (xs ys : List Move) → jumps_in ys ≡ [] → jumps_in (xs ++ ys) ≡ jumps_in xs
+earlier_jumps xs ys none = jumps-append xs ys ∙ ap (λ (js : List Jump). jumps_in xs ++ js) none ∙ append-nil (jumps_in xs)
 
--- From one state to another these moves were made. The first jump among them is the one that is told by whether the receiver was lost before and after. Where it was not, none jumps; where it stays so, the next number stays.
+-- From one state to another these moves were made. Among them is the one jump that is told by whether the receiver was lost before and after, or none. Where it was not, none jumps; where it stays so, the next number stays.
 record Tells (lost still : Bool) (s t : State) (ms : List Move) : Type 0 where
-  tells : jump_in ms ≡ jump_told lost still s.next (least_last (snapshots_of t.bases))
+  tells : jumps_in ms ≡ one_jump (jump_told lost still s.next (least_last (snapshots_of t.bases)))
   found : lost ≡ false → (still ≡ false) × (t.bases ≡ s.bases)
   stays : lost ≡ true → still ≡ true → t.next ≡ s.next
 
@@ -67,19 +64,19 @@ tells_more : (a b c : Bool) (s t u : State) (xs ys : List Move) → Tells a b s 
 tells_more false true c s t u xs ys one two = absurd (let e : true ≡ false = (one.found refl).0 in cc)
 tells_more false false true s t u xs ys one two = absurd (let e : true ≡ false = (two.found refl).0 in cc)
 tells_more false false false s t u xs ys one two = record {
-  tells = later_jump xs ys one.tells ∙ two.tells;
+  tells = later_jumps xs ys one.tells ∙ two.tells;
   found = λ e. (refl, (two.found refl).1 ∙ (one.found refl).1);
   stays = λ e f. cc;
 }
 tells_more true true c s t u xs ys one two = record {
-  tells = later_jump xs ys one.tells ∙ two.tells ∙ ap (λ (n : ℕ). jump_told true c n (least_last (snapshots_of u.bases))) (one.stays refl refl);
+  tells = later_jumps xs ys one.tells ∙ two.tells ∙ ap (λ (n : ℕ). one_jump (jump_told true c n (least_last (snapshots_of u.bases)))) (one.stays refl refl);
   found = λ e. cc;
   stays = λ e f. two.stays refl f ∙ one.stays refl refl;
 }
 tells_more true false true s t u xs ys one two = absurd (let e : true ≡ false = (two.found refl).0 in cc)
 tells_more true false false s t u xs ys one two = record {
-  tells = jumps_once xs ys s.next (least_last (snapshots_of t.bases)) one.tells two.tells
-      ∙ ap (λ bases. jump_told true false s.next (least_last (snapshots_of bases))) (sym (two.found refl).1);
+  tells = earlier_jumps xs ys two.tells ∙ one.tells
+      ∙ ap (λ bases. one_jump (jump_told true false s.next (least_last (snapshots_of bases)))) (sym (two.found refl).1);
   found = λ e. cc;
   stays = λ e f. cc;
 }
@@ -94,9 +91,10 @@ settled_by channel es ms s true e is = elim (jump_or_none channel es ms s is e) 
   | inl none ↦ subst (λ (xs : List Move). Tells true (is_lost channel es (after_all s xs)) s (after_all s xs) xs) (sym none)
       (subst (λ (b : Bool). Tells true b s s []) (sym e) (tells_none true s))
   | inr j ↦
-      let told : jump_told true false s.next (least_last (snapshots_of (after_all s ms).bases)) ≡ Some (record { old = s.next; new = j.least + 1 }) =
-      ap (jump_told true false s.next) j.least_is in
-      let first : jump_in ms ≡ Some (record { old = s.next; new = j.least + 1 }) = ap jump_in j.is in
+      let told : one_jump (jump_told true false s.next (least_last (snapshots_of (after_all s ms).bases))) ≡ (record { old = s.next; new = j.least + 1 }) ∷ [] =
+      ap (λ (least : Option ℕ). one_jump (jump_told true false s.next least)) j.least_is in
+      let first : jumps_in ms ≡ (record { old = s.next; new = j.least + 1 }) ∷ [] =
+      ap jumps_in j.is ∙ ap (λ (js : List Jump). (record { old = s.next; new = j.least + 1 }) ∷ js) (none_in j.later j.none) in
       subst (λ (b : Bool). Tells true b s (after_all s ms) ms) (sym j.found) (record { tells = first ∙ sym told; found = λ e. cc; stays = λ e f. cc })
 ]
 
@@ -170,7 +168,7 @@ lost_grows : (joined : Bool) (n h top : ℕ) → h ≤ top → not joined || leb
 lost_grows false n h top on lost = refl
 lost_grows true n h top on lost = let far : n ≤ h = leb-true _ _ lost in le-leb _ _ (omega (arith, far, on))
 
-time_of : (shut past late repeat : Bool) → came_in_time (Packet (cond shut fates.AfterClose (cond past fates.Past (cond late fates.Late (cond repeat fates.Repeat fates.First))))) ≡ not shut
+time_of : (shut past late repeat : Bool) → came_while_open (Packet (cond shut fates.AfterClose (cond past fates.Past (cond late fates.Late (cond repeat fates.Repeat fates.First))))) ≡ not shut
 time_of true past late repeat = refl
 time_of false true late repeat = refl
 time_of false false true repeat = refl
@@ -187,14 +185,14 @@ record AreTold (channel : Channel) (es further : List Event) (taken : Taken) (nu
   grows : is_lost channel es (state_at channel es) ≡ true → is_lost channel (es ++ further) (state_at channel es) ≡ true
   jump : TellsOn channel es (state_at channel es) further
 
-packet_by : (channel : Channel) (es : List Event) (p : PacketContent) (became : PacketFate) (shut : Bool) → is_closed es ≡ shut → came_in_time (Packet became) ≡ not shut
+packet_by : (channel : Channel) (es : List Event) (p : PacketContent) (became : PacketFate) (shut : Bool) → is_closed es ≡ shut → came_while_open (Packet became) ≡ not shut
     → AreTold channel es (came p ∷ []) (Packet became) p.number
 packet_by channel es p became true e time =
     let s = state_at channel es in
     let same : highest (es ++ came p ∷ []) ≡ highest es = ap highest_of (packets-after_close es (came p) e) in
     let lost : is_lost channel (es ++ came p ∷ []) s ≡ is_lost channel es s = ap (λ (top : ℕ). not s.joined || leb (s.next + channel.room) top) same in
     record {
-      loss = loss_none (is_lost channel es s) (came_in_time (Packet became)) (leb (s.next + channel.room) p.number) _ (Some (record { next = s.next; highest = highest (es ++ came p ∷ []) })) time
+      loss = loss_none (is_lost channel es s) (came_while_open (Packet became)) (leb (s.next + channel.room) p.number) _ (Some (record { next = s.next; highest = highest (es ++ came p ∷ []) })) time
           ∙ ap (λ (b : Bool). cond (not (is_lost channel es s) && b) (let l : Option Loss = Some (record { next = s.next; highest = highest (es ++ came p ∷ []) }) in l) None) (sym lost);
       grows = λ was. lost ∙ was;
       jump = packet_tells channel es s p;
@@ -212,18 +210,18 @@ packet_by channel es p became false e time =
 packet_told : (channel : Channel) (es : List Event) (p : PacketContent) → AreTold channel es (came p ∷ []) (Packet (packet_fate channel es (state_at channel es) p.number)) p.number
 packet_told channel es p = packet_by channel es p (packet_fate channel es (state_at channel es) p.number) (is_closed es) refl (time_of (is_closed es) _ _ _)
 
-snapshots_told : (channel : Channel) (es : List Event) (ss : List SnapshotContent) (taken : Taken) (number : ℕ) → came_in_time taken ≡ false → AreTold channel es (map recovered ss) taken number
+snapshots_told : (channel : Channel) (es : List Event) (ss : List SnapshotContent) (taken : Taken) (number : ℕ) → came_while_open taken ≡ false → AreTold channel es (map recovered ss) taken number
 snapshots_told channel es ss taken number time =
     let s = state_at channel es in
     let lost : is_lost channel (es ++ map recovered ss) s ≡ is_lost channel es s = lost-snapshots channel ss es s in
     record {
-      loss = loss_none (is_lost channel es s) (came_in_time taken) (leb (s.next + channel.room) number) _ (Some (record { next = s.next; highest = highest (es ++ map recovered ss) })) time
+      loss = loss_none (is_lost channel es s) (came_while_open taken) (leb (s.next + channel.room) number) _ (Some (record { next = s.next; highest = highest (es ++ map recovered ss) })) time
           ∙ ap (λ (b : Bool). cond (not (is_lost channel es s) && b) (let l : Option Loss = Some (record { next = s.next; highest = highest (es ++ map recovered ss) }) in l) None) (sym lost);
       grows = λ was. lost ∙ was;
       jump = snapshots_tell channel ss es s;
     }
 
-taken_late : (channel : Channel) (es : List Event) (ss : List SnapshotContent) → came_in_time (taken_by channel es (map recovered ss)) ≡ false
+taken_late : (channel : Channel) (es : List Event) (ss : List SnapshotContent) → came_while_open (taken_by channel es (map recovered ss)) ≡ false
 taken_late channel es [] = refl
 taken_late channel es (s ∷ ss) = refl
 
@@ -252,14 +250,11 @@ state-more channel es further =
     ap (after_all (first_state channel)) (law_of_fronts channel es further)
     ∙ fold-append after (first_state channel) (trace channel es) (go_on channel es (state_at channel es) further)
 
-same_moved : (a b : Option Loss) (c d : Option Jump) → a ≡ b → c ≡ d → (let m : Moved = record { loss = a; jump = c } in m) ≡ record { loss = b; jump = d }
-same_moved a b c d p q = rw (p, q) refl
-
 same_jump : (a b c d : Bool) (n : ℕ) (x y : Option ℕ) → a ≡ b → c ≡ d → x ≡ y → jump_told a c n x ≡ jump_told b d n y
 same_jump a b c d n x y p q r = rw (p, q, r) refl
 
 moves_by : (channel : Channel) (es further : List Event) (taken : Taken) (number : ℕ) (v : ArbiterView) → v.channel ≡ channel → state v ≡ state_at channel (es ++ further) → is_lost_now v ≡ is_lost channel (es ++ further) (state v)
-    → AreTold channel es further taken number → moved_told (place channel es) taken number v ≡ moved_by channel es further
+    → AreTold channel es further taken number → MovesAs channel es further (moved_told (place channel es) taken number v)
 moves_by channel es further taken number v same_channel state_is lost_is told =
     let s = state_at channel es in
     let t = after_all s (go_on channel es s further) in
@@ -272,18 +267,18 @@ moves_by channel es further taken number v same_channel state_is lost_is told =
     ∙ lost_between (is_lost channel es s) (is_lost channel (es ++ further) s) (record { next = s.next; highest = highest (es ++ further) }) told.grows in
     let still : is_lost_now v ≡ is_lost channel (es ++ further) t = lost_is ∙ ap (is_lost channel (es ++ further)) reached in
     let least : least_last (snapshots_of v.bases) ≡ least_last (snapshots_of t.bases) = ap (λ (x : State). least_last (snapshots_of x.bases)) reached in
-    same_moved _ _ _ _ loss (same_jump _ _ _ _ s.next _ _ between still least ∙ sym told.jump.tells)
+    record { loss_is = loss; jump_is = ap one_jump (same_jump _ _ _ _ s.next _ _ between still least) ∙ sym told.jump.tells }
 
 pub same_place : (a b : ℕ) (c d : Bool) → a ≡ b → c ≡ d → (let p : Standing = record { next = a; lost = c } in p) ≡ record { next = b; lost = d }
 same_place a b c d p q = rw (p, q) refl
 
 -- what a handler tells is what the datagram moved
 pub has_moved : (kind : Kind) (bytes : List ℕ) (said : Said) (number : ℕ) (taken : Taken) (old new : View) → IsSaid kind bytes said → ((packet : PacketContent) → IsPacket bytes packet → number ≡ packet.number) → TakesSaid said taken old new
-    → HasMoved said (moved_told (record { next = old.arbiter.next; lost = is_lost_now old.arbiter }) taken number new.arbiter) old
-has_moved kind bytes said number taken old new is of takes = λ listed es sent stands.
+    → TellsMoved said (moved_told (record { next = old.arbiter.next; lost = is_lost_now old.arbiter }) taken number new.arbiter) old
+has_moved kind bytes said number taken old new is of takes = λ listed es gone stands.
     let channel = old.arbiter.channel in
     let all = es ++ brought_by said in
-    let later = takes.goes.stands listed es sent stands in
+    let later = takes.goes.stands listed es gone stands in
     let reached : state new.arbiter ≡ state_at channel all = later.settled.state ∙ ap (λ (c : Channel). state_at c all) takes.goes.channel in
     let lost : is_lost_now new.arbiter ≡ is_lost channel all (state new.arbiter) =
     lost_at all new.arbiter later.settled.stands ∙ ap (λ (c : Channel). is_lost c all (state new.arbiter)) takes.goes.channel in
@@ -291,6 +286,6 @@ has_moved kind bytes said number taken old new is of takes = λ listed es sent s
     let at : (let p : Standing = record { next = old.arbiter.next; lost = is_lost_now old.arbiter } in p) ≡ place channel es =
     same_place _ _ _ _ (ap (λ (x : State). x.next) begun) (lost_at es old.arbiter stands.settled.stands ∙ ap (is_lost channel es) begun) in
     let told : AreTold channel es (brought_by said) taken number =
-    subst (λ (x : Taken). AreTold channel es (brought_by said) x number) (sym (takes.taken_is listed es sent stands)) (said_told kind bytes said number is of channel es) in
-    ap (λ (p : Standing). moved_told p taken number new.arbiter) at
-    ∙ moves_by channel es (brought_by said) taken number new.arbiter takes.goes.channel reached lost told
+    subst (λ (x : Taken). AreTold channel es (brought_by said) x number) (sym (takes.taken_is listed es gone stands)) (said_told kind bytes said number is of channel es) in
+    subst (MovesAs channel es (brought_by said)) (sym (ap (λ (p : Standing). moved_told p taken number new.arbiter) at))
+    (moves_by channel es (brought_by said) taken number new.arbiter takes.goes.channel reached lost told)

@@ -22,7 +22,7 @@ pub takes_refused : (bytes : List ℕ) (r : Refusal) (v : View) → IsRefusedAs 
 takes_refused bytes r v is = (
   refused r,
   is,
-  record { goes = goes_none v; refused_is = refl; taken_is = λ listed before sent stands. refl },
+  record { goes = goes_none v; refused_is = refl; taken_is = λ listed before gone stands. refl },
 )
 
 pub takes_packet : (bytes : List ℕ) (packet : PacketContent) (fate : PacketFate) (old new : View) → IsPacket bytes packet → ((es : List Event) → StandsAt es old.arbiter → fate ≡ packet_fate old.arbiter.channel es (state old.arbiter) packet.number) → GoesOn (came packet ∷ []) old new → TakesDatagram feeds.A bytes (Packet fate) old new
@@ -32,6 +32,6 @@ takes_packet bytes packet fate old new is told goes = (
   record {
     goes = goes;
     refused_is = refl;
-    taken_is = λ listed before sent stands. let e = packet_taken listed before sent old packet.number fate told stands in cc;
+    taken_is = λ listed before gone stands. let e = packet_taken listed before gone old packet.number fate told stands in cc;
   },
 )

@@ -11,37 +11,39 @@ use Rattle.mdp_arbiter.specs.Arbiter.{is_lost_now}
 use Rattle.mdp_arbiter.specs.Channel.{ListedChannel, channel_of}
 use Rattle.mdp_arbiter.specs.Fates.{first_stale, waiting}
 use Rattle.mdp_arbiter.specs.Machine.{moves_of}
-use Rattle.mdp_desks.specs.Moments.{shown_lines}
+use Rattle.mdp_desks.specs.Moments.{Moment, moments}
 use Rattle.mdp_desks.specs.Shown.{standing_after}
 use Rattle.mdp_desks.specs.declared.desk.Desk.{Desk}
-use Rattle.mdp_engine.specs.Engine.{HasBrokenOff, HoldsBook, Stands, View}
+use Rattle.mdp_engine.specs.Engine.{AreChanged, HasBrokenOff, HoldsBook, Stands, View}
 use Rattle.mdp_engine.specs.Honest.{IsHonest}
-use Rattle.mdp_engine.specs.Owed.{lines, steps_of}
+use Rattle.mdp_engine.specs.Kept.{kept_lines}
+use Rattle.mdp_engine.specs.Owed.{owed_moments, steps_of}
 use Rattle.mdp_receiver.specs.Copies.{IsPacketOf}
-use Rattle.mdp_receiver.specs.Moved.{moved_by}
+use Rattle.mdp_receiver.specs.Moved.{MovesAs}
 use Rattle.mdp_receiver.specs.Said.{IsSaid, Said, brought_by, kind_of, refusal_in}
 use Rattle.mdp_receiver.specs.Taken.{refusal_told, taken_of}
 use Rattle.mdp_receiver.specs.declared.handler.ChannelState.{ChannelState}
 use Rattle.mdp_receiver.specs.declared.moved.Moved.{Moved}
 use Rattle.mdp_receiver.specs.declared.taken.Taken.{Taken}
 
--- A handler of this channel has taken in these events. Of the lines that they owe this text was handed on, and the rest
--- is held.
-pub record Handles (channel : ListedChannel) (events : List Event) (sent : List ℕ) (v : View) : Type 0 where
-  pub stands : Stands channel.listed events sent v
+-- A handler of this channel has taken in these events. Of the moments that their moves show these were let go, and it
+-- holds the others.
+pub record Handles (channel : ListedChannel) (events : List Event) (gone : List Moment) (v : View) : Type 0 where
+  pub stands : Stands channel.listed events gone v
   pub channel_is : v.arbiter.channel ≡ channel_of channel
 
--- events were taken in: wherever it stood, after whatever text was handed on, it stands at these events more
+-- events were taken in: wherever it stood, whatever moments were let go, it stands at these events more
 pub record GoesOn (events : List Event) (old new : View) : Type 0 where
-  pub stands : (listed : List Instrument) (before : List Event) (sent : List ℕ) → Stands listed before sent old
-      → Stands listed (before ++ events) sent new
+  pub stands : (listed : List Instrument) (before : List Event) (gone : List Moment) → Stands listed before gone old
+      → Stands listed (before ++ events) gone new
   pub channel : new.arbiter.channel ≡ old.arbiter.channel
+  pub keeps : new.keeps_lines ≡ old.keeps_lines
 
 -- what a datagram says was taken in, and this became of it
 pub record TakesSaid (said : Said) (taken : Taken) (old new : View) : Type 0 where
   pub goes : GoesOn (brought_by said) old new
   pub refused_is : refusal_told taken ≡ refusal_in said
-  pub taken_is : (listed : List Instrument) (before : List Event) (sent : List ℕ) → Stands listed before sent old
+  pub taken_is : (listed : List Instrument) (before : List Event) (gone : List Moment) → Stands listed before gone old
       → taken ≡ taken_of old.arbiter.channel before said
 
 -- a datagram of a feed was taken in, as it says
@@ -50,18 +52,18 @@ TakesDatagram feed bytes taken old new =
     (said : Said) × IsSaid (kind_of feed) bytes said × TakesSaid said taken old new
 
 -- wherever a handler stood, what a datagram says moved this
-abbrev pub HasMoved : Said → Moved → View → Type 0
-HasMoved said moved old =
-    (listed : List Instrument) (before : List Event) (sent : _) → Stands listed before sent old
-    → moved ≡ moved_by old.arbiter.channel before (brought_by said)
+abbrev pub TellsMoved : Said → Moved → View → Type 0
+TellsMoved said moved old =
+    (listed : List Instrument) (before : List Event) (gone : List Moment) → Stands listed before gone old
+    → MovesAs old.arbiter.channel before (brought_by said) moved
 
 -- a datagram of a feed was taken in, as it says, and moved this
-abbrev pub MovesDatagram : Feed → List ℕ → Taken → Moved → View → View → Type 0
-MovesDatagram feed bytes taken moved old new =
-    (said : Said) × IsSaid (kind_of feed) bytes said × TakesSaid said taken old new × HasMoved said moved old
+abbrev pub MovesDatagram : Feed → List ℕ → Taken × Moved → View → View → Type 0
+MovesDatagram feed bytes told old new =
+    (said : Said) × IsSaid (kind_of feed) bytes said × TakesSaid said told.0 old new × TellsMoved said told.1 old
 
--- Memory ran out at a datagram of a feed: what was handed on and what is held begin the lines of all events, those that
--- it brings among them.
+-- Memory ran out at a datagram of a feed: the lines of what was let go and what is held begin the lines of all events,
+-- those that it brings among them.
 abbrev pub HasBrokenOffAt : Feed → List ℕ → View → View → Type 0
 HasBrokenOffAt feed bytes old new =
     (said : Said) × IsSaid (kind_of feed) bytes said × HasBrokenOff (brought_by said) old new
@@ -69,8 +71,8 @@ HasBrokenOffAt feed bytes old new =
 -- a packet of this number changes nothing, since it has passed or was given up
 abbrev pub IsPast : ℕ → View → Type 0
 IsPast number v =
-    (listed : List Instrument) (before : List Event) (sent : List ℕ) (packet : PacketContent)
-    → packet.number ≡ number → Stands listed before sent v → Stands listed (before ++ came packet ∷ []) sent v
+    (listed : List Instrument) (before : List Event) (gone : List Moment) (packet : PacketContent)
+    → packet.number ≡ number → Stands listed before gone v → Stands listed (before ++ came packet ∷ []) gone v
 
 -- a datagram of this feed is such a packet
 pub record IsCopy (feed : Feed) (bytes : List ℕ) (number : ℕ) (v : View) : Type 0 where
@@ -99,21 +101,27 @@ is_current v slot = not (is_lost_now v.arbiter) && is_within v.arbiter.next (sli
 
 -- ---- laws
 
--- All text so far is what the moves of the events show. It is what every complete feed owes that agrees with them, and
--- each security's book is that feed's: right before the packet that comes next, or right after its snapshot's packet
--- where that is later.
+-- of these moments some were let go: their lines with those that are held are the lines of all, where lines are kept,
+-- and what changed are the securities whose books the others print
+pub record TellsSo (listed : List Instrument) (all gone : List Moment) (v : View) : Type 0 where
+  pub text : kept_lines v.keeps_lines gone ++ v.held ≡ kept_lines v.keeps_lines all
+  pub changed : AreChanged listed all gone v.changed
+
+-- What it has told and tells is what the moves of the events show. It is what every complete feed owes that agrees with
+-- them, and each security's book is that feed's: right before the packet that comes next, or right after its snapshot's
+-- packet where that is later.
 abbrev pub LawOfHandlers : Type 0
 LawOfHandlers =
-    (channel : ListedChannel) (events : List Event) (sent : List ℕ) (v : View) → Handles channel events sent v
-    → (sent ++ v.held ≡ shown_lines channel.listed (moves_of channel events))
+    (channel : ListedChannel) (events : List Event) (gone : List Moment) (v : View) → Handles channel events gone v
+    → TellsSo channel.listed (moments channel.listed (moves_of channel events)) gone v
     × ((feed : List PacketContent) → IsHonest channel.listed feed events
-    → (sent ++ v.held ≡ lines channel.listed feed (steps_of (moves_of channel events)))
+    → TellsSo channel.listed (owed_moments channel.listed feed (steps_of (moves_of channel events))) gone v
     × AllZip (HoldsBook feed v.arbiter.next) (standing_after channel.listed (moves_of channel events)).starts v.desks)
 
 -- a book that is told to be current is that of every such feed right before the packet that comes next
 abbrev pub LawOfCurrentBooks : Type 0
 LawOfCurrentBooks =
-    (channel : ListedChannel) (events : List Event) (sent : List ℕ) (v : View) (feed : List PacketContent)
-    (slot : ℕ) (desk : Desk) → Handles channel events sent v → IsHonest channel.listed feed events
+    (channel : ListedChannel) (events : List Event) (gone : List Moment) (v : View) (feed : List PacketContent)
+    (slot : ℕ) (desk : Desk) → Handles channel events gone v → IsHonest channel.listed feed events
     → is_current v slot ≡ true → slice_get v.desks slot ≡ Some desk
     → desk.book ≡ book_at desk.instrument (sent_by (take (v.arbiter.next - 1) feed))

@@ -1,6 +1,6 @@
 //! A handler of one channel, which takes datagrams as they come.
 
-ghost use Rattle.std.specs.Prelude.{◌≡◌, ◌≤◌, ◌++◌, [], ◌∷◌, ℕ, List, true, false, map, slice_get, option_and_then, option_copied, IfOk, IfErr, IsErr, OnErr, OnOk, IfSome};
+ghost use Rattle.std.specs.Prelude.{◌≡◌, ◌≤◌, [], ◌∷◌, List, true, false, map, slice_get, option_and_then, option_copied, IfOk, IfErr, IsErr, OnErr, OnOk, IfSome};
 ghost use Rattle.std.specs.Option.{option_map};
 ghost use Rattle.mdp_sbe.specs.Framing.{IsHeader};
 ghost use Rattle.mdp_templates.specs.Incremental.{IsPacket};
@@ -12,8 +12,9 @@ ghost use Rattle.mdp_quotes.specs.Consolidation.{consolidation_of, quotes_of};
 ghost use Rattle.mdp_quotes.specs.Top.{top_of_book, top_of_quotes};
 ghost use Rattle.mdp_templates.specs.declared.instrument.Instrument.{Instrument};
 ghost use Rattle.mdp_arbiter.specs.Accepted.{Event as Accepted, came, closed, recovered};
-ghost use Rattle.mdp_arbiter.specs.Machine.{is_lost, least_last, snapshots_of, state_at};
-ghost use Rattle.mdp_engine.specs.Engine.{HasBrokenOff, Stands};
+ghost use Rattle.mdp_arbiter.specs.Machine.{is_lost, least_last, snapshots_of, state_at, trace};
+ghost use Rattle.mdp_desks.specs.Moments.{Moment, moments};
+ghost use Rattle.mdp_engine.specs.Engine.{AreChanged, HasBrokenOff, Stands};
 ghost use Rattle.mdp_arbiter.specs.Arbiter.{is_lost_now};
 ghost use Rattle.mdp_engine.specs.Steps.{event_of};
 ghost use Rattle.mdp_receiver.specs.Copies.{IsPacketOf};
@@ -27,7 +28,7 @@ use crate::moved::{Jump, Moved, loss_told, packet_number};
 use crate::taken::{SnapshotCounts, Taken};
 use mdp_arbiter::{Standing, Start};
 use mdp_books::{Book, Sides};
-use mdp_desks::Desk;
+use mdp_desks::{Desk, Marked};
 use mdp_engine::{Engine, Event};
 use mdp_print::put_last;
 use mdp_quotes::{Consolidated, TopOfBook, are_in_order, merged_top};
@@ -80,10 +81,12 @@ fn best_of(book: &Book) -> Option<TopOfBook>
 
 /// A handler of one channel. It takes the datagrams of the channel's feeds as they come, keeps the books of the listed
 /// securities, and holds the lines of the event ends until they are cleared; nothing else of it grows, but for room for
-/// a packet of some 10 KB. A slot is a security's place among the instruments, from 0.
+/// a packet of some 10 KB. It marks whose books were printed, and can be made to keep no lines. A slot is a security's
+/// place among the instruments, from 0.
 ///
 /// Once memory has run out the handler has failed: it takes no more datagrams. What was handed on, with what it holds
-/// behind it, is a beginning of the lines, and may break off anywhere. All else is answered as before.
+/// behind it, is a beginning of the lines, and may break off anywhere; of the marks of what changed nothing is known.
+/// All else is answered as before.
 #[derive(Drop)]
 pub struct Handler<A: Allocator + Copy> {
     engine: Engine<A, RingWindow<Packet<A>, A>>,
@@ -122,6 +125,7 @@ impl<A: Allocator + Copy> Handler<A> {
             (record { listed = instruments.now; room = window; start = start }) [] []) }
         ensures sound { IfOk result (λ handler. handler.has_failed ≡ false) }
         ensures empty { IfOk result (λ handler. handler.held ≡ []) }
+        ensures keeps { IfOk result (λ handler. handler.keeps_lines ≡ true) }
     {
         let ring = RingWindow::new(alloc, u64::from(window))?;
         Ok(Handler {
@@ -129,6 +133,16 @@ impl<A: Allocator + Copy> Handler<A> {
             last: LastPacket::new(alloc),
             room: Packet::new(alloc, 0),
         })
+    }
+
+    /// Keeps no lines from now on, for those who read books alone, and forgets those that it holds. The marks of what
+    /// changed stay, and `clear_lines` lets them go as before.
+    pub fn keep_no_lines(&mut self)
+        ensures none { self.new ≡ record self.old { held = []; keeps_lines = false } }
+        ensures stands { (listed : List Instrument) (events : List Accepted) (gone : List Moment)
+            → Stands listed events gone self.old → Stands listed events gone self.new }
+    {
+        self.engine.keep_no_lines();
     }
 
     /// Takes a datagram of a feed, and tells what became of it. What it brings is taken in, all moves that are then
@@ -147,6 +161,7 @@ impl<A: Allocator + Copy> Handler<A> {
     pub fn datagram(&mut self, alloc: A, feed: Feed, bytes: &[u8]) -> Result<Taken, Memory>
         ensures taken { IfOk result (λ taken. TakesDatagram feed bytes.now taken self.old self.new) }
         ensures sound { OnOk result (self.old.has_failed ≡ false) }
+        ensures keeps { self.new.keeps_lines ≡ self.old.keeps_lines }
         ensures fails { IfErr result (λ _. self.new.has_failed ≡ true) }
         ensures err { OnErr result (BeginsWith self.new.held self.old.held) }
         ensures begins { OnErr result (HasBrokenOffAt feed bytes.now self.old self.new) }
@@ -177,8 +192,9 @@ impl<A: Allocator + Copy> Handler<A> {
         bytes: &[u8],
     ) -> Result<(Taken, Moved), Memory>
         ensures taken { IfOk result
-            (λ told. MovesDatagram feed bytes.now told.0 told.1 self.old self.new) }
+            (λ told. MovesDatagram feed bytes.now told self.old self.new) }
         ensures sound { OnOk result (self.old.has_failed ≡ false) }
+        ensures keeps { self.new.keeps_lines ≡ self.old.keeps_lines }
         ensures fails { IfErr result (λ _. self.new.has_failed ≡ true) }
         ensures err { OnErr result (BeginsWith self.new.held self.old.held) }
         ensures begins { OnErr result (HasBrokenOffAt feed bytes.now self.old self.new) }
@@ -201,6 +217,7 @@ impl<A: Allocator + Copy> Handler<A> {
     /// Memory ran out in an earlier call.
     pub fn close(&mut self) -> Result<(), Memory>
         ensures goes { OnOk result (GoesOn (closed ∷ []) self.old self.new) }
+        ensures keeps { self.new.keeps_lines ≡ self.old.keeps_lines }
         ensures fails { IfErr result (λ _. self.new.has_failed ≡ true) }
         ensures err { OnErr result (BeginsWith self.new.held self.old.held) }
         ensures begins { OnErr result (HasBrokenOff (closed ∷ []) self.old self.new) }
@@ -217,12 +234,27 @@ impl<A: Allocator + Copy> Handler<A> {
         self.engine.lines()
     }
 
-    /// Forgets the lines that are held, since they were handed on.
+    /// Lends a mark for each slot, set for those whose book an event end printed since lines were cleared last. A book
+    /// that an event has changed which has not ended yet is not marked; nor is one that a jump replaced, until an event
+    /// end prints it.
+    pub fn changed(&self) -> &Marked<A>
+        ensures now { result.now ≡ self.now.changed }
+        ensures stands { (listed : List Instrument) (events : List Accepted) (gone : List Moment)
+            → Stands listed events gone self.now
+            → AreChanged listed (moments listed (trace self.now.arbiter.channel events)) gone
+            result.now }
+    {
+        self.engine.changed()
+    }
+
+    /// Forgets the lines that are held, since they were handed on, and the marks of what changed.
     pub fn clear_lines(&mut self)
-        ensures cleared { self.new ≡ record self.old { held = [] } }
-        ensures stands { (listed : List Instrument) (events : List Accepted) (sent : List ℕ)
-            → Stands listed events sent self.old
-            → Stands listed events (sent ++ self.old.held) self.new }
+        ensures cleared { self.new
+            ≡ record self.old { held = []; changed = map (λ _. false) self.old.changed } }
+        ensures stands { (listed : List Instrument) (events : List Accepted) (gone : List Moment)
+            → Stands listed events gone self.old
+            → Stands listed events (moments listed (trace self.old.arbiter.channel events))
+            self.new }
     {
         self.engine.clear_lines();
     }
@@ -232,8 +264,8 @@ impl<A: Allocator + Copy> Handler<A> {
         ensures next { result ≡ self.now.arbiter.next }
         ensures least { 1 ≤ result }
         ensures most { result ≤ 4294967296 }
-        ensures stands { (listed : List Instrument) (events : List Accepted) (sent : List ℕ)
-            → Stands listed events sent self.now
+        ensures stands { (listed : List Instrument) (events : List Accepted) (gone : List Moment)
+            → Stands listed events gone self.now
             → result ≡ (state_at self.now.arbiter.channel events).next }
     {
         self.engine.next()
@@ -242,8 +274,8 @@ impl<A: Allocator + Copy> Handler<A> {
     /// Tells whether the receiver is lost: it has not joined the channel, or the next packet is given up.
     pub fn lost(&self) -> bool
         ensures now { result ≡ is_lost_now self.now.arbiter }
-        ensures stands { (listed : List Instrument) (events : List Accepted) (sent : List ℕ)
-            → Stands listed events sent self.now
+        ensures stands { (listed : List Instrument) (events : List Accepted) (gone : List Moment)
+            → Stands listed events gone self.now
             → result ≡ is_lost self.now.arbiter.channel events (state_at self.now.arbiter.channel events) }
     {
         self.engine.lost()
@@ -372,6 +404,7 @@ impl<A: Allocator + Copy> Handler<A> {
     // Takes an event; the lines that it owes are held.
     fn on(&mut self, event: Event<A>) -> Result<(), Memory>
         ensures goes { OnOk result (GoesOn (event_of event ∷ []) self.old self.new) }
+        ensures keeps { self.new.keeps_lines ≡ self.old.keeps_lines }
         ensures fails { IfErr result (λ _. self.new.has_failed ≡ true) }
         ensures front { BeginsWith self.new.held self.old.held }
         ensures begins { OnErr result (HasBrokenOff (event_of event ∷ []) self.old self.new) }
@@ -384,6 +417,7 @@ impl<A: Allocator + Copy> Handler<A> {
     // Takes a snapshot; the lines that it owes are held.
     fn on_snapshot(&mut self, snapshot: &Snapshot) -> Result<(), Memory>
         ensures goes { OnOk result (GoesOn (recovered snapshot.now ∷ []) self.old self.new) }
+        ensures keeps { self.new.keeps_lines ≡ self.old.keeps_lines }
         ensures front { BeginsWith self.new.held self.old.held }
         ensures begins { OnErr result
             (HasBrokenOff (recovered snapshot.now ∷ []) self.old self.new) }
@@ -395,6 +429,7 @@ impl<A: Allocator + Copy> Handler<A> {
     #[tactic(auto, using(crate::proofs::Breaking::nothing_brought))]
     fn take(&mut self, alloc: A, feed: Feed, bytes: &[u8]) -> Result<Taken, Memory>
         ensures taken { IfOk result (λ taken. TakesDatagram feed bytes.now taken self.old self.new) }
+        ensures keeps { self.new.keeps_lines ≡ self.old.keeps_lines }
         ensures front { BeginsWith self.new.held self.old.held }
         ensures begins { OnErr result (HasBrokenOffAt feed bytes.now self.old self.new) }
     {
@@ -471,6 +506,7 @@ impl<A: Allocator + Copy> Handler<A> {
     fn take_next(&mut self, alloc: A, bytes: &[u8]) -> Result<Taken, Memory>
         ensures taken { IfOk result
             (λ taken. TakesDatagram Feed.A bytes.now taken self.old self.new) }
+        ensures keeps { self.new.keeps_lines ≡ self.old.keeps_lines }
         ensures front { BeginsWith self.new.held self.old.held }
         ensures begins { OnErr result (HasBrokenOffAt Feed.A bytes.now self.old self.new) }
     {
@@ -503,6 +539,7 @@ impl<A: Allocator + Copy> Handler<A> {
     // Takes in what a datagram says.
     fn take_in(&mut self, decoded: Decoded<A>) -> Result<Taken, Memory>
         ensures taken { IfOk result (λ taken. TakesSaid (said_of decoded) taken self.old self.new) }
+        ensures keeps { self.new.keeps_lines ≡ self.old.keeps_lines }
         ensures front { BeginsWith self.new.held self.old.held }
         ensures begins { OnErr result
             (HasBrokenOff (brought_by (said_of decoded)) self.old self.new) }
@@ -518,6 +555,7 @@ impl<A: Allocator + Copy> Handler<A> {
     fn pass(&mut self, packet: Packet<A>) -> Result<Taken, Memory>
         ensures taken { IfOk result (λ taken. TakesSaid
             (brings (came packet ∷ [])) taken self.old self.new) }
+        ensures keeps { self.new.keeps_lines ≡ self.old.keeps_lines }
         ensures front { BeginsWith self.new.held self.old.held }
         ensures begins { OnErr result (HasBrokenOff (came packet ∷ []) self.old self.new) }
     {
@@ -530,6 +568,7 @@ impl<A: Allocator + Copy> Handler<A> {
     fn recover(&mut self, snapshots: &[Snapshot]) -> Result<Taken, Memory>
         ensures taken { IfOk result (λ taken. TakesSaid
             (brings (map recovered snapshots.now)) taken self.old self.new) }
+        ensures keeps { self.new.keeps_lines ≡ self.old.keeps_lines }
         ensures front { BeginsWith self.new.held self.old.held }
         ensures begins { OnErr result
             (HasBrokenOff (map recovered snapshots.now) self.old self.new) }

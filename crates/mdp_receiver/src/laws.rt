@@ -2,8 +2,9 @@
 
 ghost use Rattle.mdp_receiver.specs.Handling.{LawOfCurrentBooks, LawOfHandlers};
 
-/// Proves that after each datagram all text so far is what the moves of the events show, and what every complete feed
-/// owes that agrees with them; and that each security's book is that feed's.
+/// Proves that after each datagram all lines so far, where lines are kept, and the marks of what changed are what the
+/// moves of the events show, and what every complete feed owes that agrees with them; and that each security's book is
+/// that feed's.
 pub fn law_of_handlers()
     ensures { LawOfHandlers }
 {}

@@ -3,7 +3,7 @@
 ghost use Rattle.std.specs.Prelude.{◌≡◌, ◌≤◌};
 ghost use Rattle.mdp_templates.specs.Incremental.{IsPacket};
 ghost use Rattle.mdp_templates.specs.Packet.{PacketContent};
-ghost use Rattle.mdp_receiver.specs.Moved.{came_in_time, loss_told};
+ghost use Rattle.mdp_receiver.specs.Moved.{came_while_open, loss_told};
 
 use crate::taken::Taken;
 use mdp_arbiter::{PacketFate, Standing};
@@ -14,7 +14,8 @@ use mdp_sbe::Header;
 pub struct Moved {
     /// The receiver was made lost; none where it was lost before.
     pub loss: Option<Loss>,
-    /// Recovery went on at another number. Then every book has changed.
+    /// Recovery went on at another number. Then every book was replaced by its security's snapshot. There is no second
+    /// jump in a datagram.
     pub jump: Option<Jump>,
 }
 
@@ -29,11 +30,11 @@ pub struct Loss {
     pub highest: u64,
 }
 
-/// Recovery went on at another number, over the packets between them, with a snapshot of each listed security: all
-/// books have changed. Packets that waited behind the jump have passed since.
+/// Recovery went on at another number, over the packets between them, with a snapshot of each listed security, by
+/// which its book was replaced. Packets that waited behind the jump have passed since.
 #[derive(Clone, Copy, Debug, PartialEq, Eq)]
 pub struct Jump {
-    /// The number of the packet that came next before, 1 to 4294967294.
+    /// The number of the packet that was to pass next before the jump, 1 to 4294967294.
     pub old: u64,
     /// The number that recovery went on at, 1 to 4294967296: greater than `old`, but that a first jump, which joins,
     /// may stay at 1.
@@ -51,8 +52,8 @@ pub(crate) fn packet_number(bytes: &[u8]) -> u32
 }
 
 // Tells whether a datagram was a packet, and the channel was open.
-fn came_in_time(taken: Taken) -> bool
-    ensures { result ≡ came_in_time taken }
+fn came_while_open(taken: Taken) -> bool
+    ensures { result ≡ came_while_open taken }
 {
     match taken {
         Taken::Packet(PacketFate::AfterClose) => false,
@@ -72,7 +73,7 @@ pub(crate) fn loss_told(before: Standing, room: u64, taken: Taken, number: u32) 
     if before.lost {
         return None;
     }
-    if !came_in_time(taken) {
+    if !came_while_open(taken) {
         return None;
     }
     let highest = u64::from(number);

@@ -11,7 +11,7 @@ use Rattle.mdp_desks.specs.declared.desk.Desk.{Desk}
 use Rattle.mdp_desks.specs.Shown.{Standing, standing_after, standing_through}
 use Rattle.mdp_desks.specs.Desks.{desk_after, desks_after, passed_desks, rebased_desks, snapshots_at}
 use Rattle.mdp_desks.specs.Standing.{Shows}
-use Rattle.mdp_desks.specs.Moments.{moments_of, moments_on, moments_after, shown_lines}
+use Rattle.mdp_desks.specs.Moments.{Moment, moments, moments_of, moments_on, moments_after}
 use Rattle.mdp_desks.specs.Reports.{Report, leaps, report_by}
 use Rattle.mdp_desks.specs.Shares.{own_part, own_slots, own_move, own_moves}
 use Rattle.mdp_desks.proofs.Hearing.{length_rebased}
@@ -58,8 +58,8 @@ own_picked mine listed ss is = picks mine ss 0 listed ss is (λ i. let same : 0 
 
 -- ---- move by move
 
-stands : (listed : List Instrument) (moves : List Move) (ds : List Desk) (text : List ℕ) → Shows listed moves ds text → StandBehind listed moves ds
-stands listed moves ds text is = record { listed_are = is.listed_are; each = is.each; text_is = refl }
+stands : (listed : List Instrument) (moves : List Move) (ds : List Desk) (shown : List Moment) → Shows listed moves ds shown → StandBehind listed moves ds
+stands listed moves ds shown is = record { listed_are = is.listed_are; each = is.each; shown_is = refl }
 
 pushed : (listed : List Instrument) (slots : List ℕ) (before : List Move) (m : Move) (moves : List Move)
     → map (report_by slots) (moments_after listed (before ++ m ∷ []) moves) ≡ map (report_by slots) (moments_on listed (standing_through listed (standing_after listed before) m) moves)
@@ -76,7 +76,7 @@ reported mine listed before (passed p ∷ moves) ds full is =
     let mine_listed = own_part mine 0 listed in
     let slots = own_slots mine 0 listed in
     let after = passed_desks (sent_in p) ds in
-    let next = stands mine_listed (before ++ passed p ∷ []) after _ (shows_passed mine_listed before p ds after (shown_lines mine_listed before) _ refl refl is) in
+    let next = stands mine_listed (before ++ passed p ∷ []) after _ (shows_passed mine_listed before p ds after (moments mine_listed before) _ refl refl is) in
     let rest = reported mine listed (before ++ passed p ∷ []) moves after full next in (
       ap (λ (l : List Report). l ++ reports_of_moves slots moves after) (ap (map (report_by slots)) (pass_moments (sent_in p) (standing_after mine_listed before).since (standing_after mine_listed before).starts ds is.each))
           ∙ ap (λ (l : List Report). map (report_by slots) (moments_of (standing_after mine_listed before) (passed p)) ++ l) (rest.0 ∙ pushed mine_listed slots before (passed p) (own_moves mine moves))
@@ -89,7 +89,7 @@ reported mine listed before (jumped old new ss ∷ moves) ds full is =
     let m = jumped old new (own_part mine 0 ss) in
     let after = rebased_desks (snapshots_at slots ss) ds in
     let same : after ≡ rebased_desks (all_some (own_part mine 0 ss)) ds = ap (λ (b : List (Option SnapshotContent)). rebased_desks b ds) (own_picked mine listed ss full.0) in
-    let next = stands mine_listed (before ++ m ∷ []) after _ (shows_jumped mine_listed before old new (own_part mine 0 ss) ds after (shown_lines mine_listed before) _ (own_long mine 0 ss listed full.0) same refl is) in
+    let next = stands mine_listed (before ++ m ∷ []) after _ (shows_jumped mine_listed before old new (own_part mine 0 ss) ds after (moments mine_listed before) _ (own_long mine 0 ss listed full.0) same refl is) in
     let rest = reported mine listed (before ++ m ∷ []) moves after full.1 next in (
       ap (λ (l : List Report). leaps old new ∷ l) (rest.0 ∙ pushed mine_listed slots before m (own_moves mine moves)),
       subst (λ (b : List Move). StandBehind mine_listed b (desks_after_moves slots moves after)) (append_assoc before (m ∷ []) (own_moves mine moves)) rest.1,

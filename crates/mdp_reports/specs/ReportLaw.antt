@@ -5,7 +5,7 @@ use Rattle.mdp_arbiter.specs.Machine.{Move}
 use Rattle.mdp_arbiter.specs.Machine.Move.{passed, jumped}
 use Rattle.mdp_desks.specs.declared.desk.Desk.{Desk}
 use Rattle.mdp_desks.specs.Desks.{desk_at_start}
-use Rattle.mdp_desks.specs.Moments.{moments_after, shown_lines}
+use Rattle.mdp_desks.specs.Moments.{moments, moments_after}
 use Rattle.mdp_desks.specs.Reports.{report_of}
 use Rattle.mdp_desks.specs.Shares.{own_part, own_slots, own_moves}
 use Rattle.mdp_desks.specs.Standing.{Shows}
@@ -20,7 +20,7 @@ AreFull listed (jumped old new snapshots ∷ moves) = (length snapshots ≡ leng
 
 -- these desks of the listed securities stand where these moves show them
 abbrev pub StandBehind : List Instrument → List Move → List Desk → Type 0
-StandBehind listed moves desks = Shows listed moves desks (shown_lines listed moves)
+StandBehind listed moves desks = Shows listed moves desks (moments listed moves)
 
 -- Where the desks of one's own securities stand behind the moves before, each with its own securities' snapshots alone,
 -- what they report of more moves is one's part of each moment, and they stand behind those too.

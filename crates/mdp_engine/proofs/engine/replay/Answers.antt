@@ -1,13 +1,14 @@
-use Rattle.std.proofs.Common.{◌≡◌, ◌++◌, ℕ, List, [], map, take, ap, subst, ◌∙◌, arith}
+use Rattle.std.proofs.Common.{◌≡◌, ◌++◌, ℕ, Bool, List, [], map, take, ap, subst, ◌∙◌, arith}
 use Rattle.std.proofs.lemmas.List.{take_all}
 use Rattle.mdp_arbiter.specs.Accepted.{Event as Accepted}
 use Rattle.mdp_arbiter.specs.Machine.{trace}
 use Rattle.mdp_arbiter.specs.Channel.{Channel}
 use Rattle.mdp_desks.specs.Moments.{shown_lines}
 use Rattle.mdp_engine.specs.Engine.{Stands}
-use Rattle.mdp_engine.specs.Owed.{lines, steps_of}
+use Rattle.mdp_engine.specs.Kept.{kept_lines}
+use Rattle.mdp_engine.specs.Owed.{lines, owed_moments, steps_of}
 use Rattle.mdp_engine.specs.Steps.{event_of}
-use Rattle.mdp_engine.proofs.Owing.{law_of_owed_text, taken_more}
+use Rattle.mdp_engine.proofs.Owing.{law_of_owed_text, taken_more, text_so_far}
 use Rattle.mdp_engine.proofs.engine.replay.Goals as goal
 
 pub loop-event-preserved : goal.loop-event-preserved
@@ -16,6 +17,7 @@ loop-event-preserved g c = record {
       subst (λ (es : List Accepted). Stands c.args.instruments.now es [] c.on.new.self)
       (taken_more c.args.events.now c.loop-event.event-index c.event-item.result (event_of c.in_ok-copy.field-0) c.loop-event-test.true c.event-item.is c.in_ok-copy.ensures)
       (c.in_ok-on.ensures.stands c.args.instruments.now (map event_of (take c.loop-event.event-index c.args.events.now)) [] c.loop-event.invariant.stands);
+  keeps = c.on.ensures.keeps ∙ c.loop-event.invariant.keeps;
   channel = c.in_ok-on.ensures.channel ∙ c.loop-event.invariant.channel;
 }
 
@@ -27,7 +29,7 @@ returns-clause-shown g c =
     let all : take c.loop-event.event-index c.args.events.now ≡ c.args.events.now = take_all c.loop-event.event-index c.args.events.now (omega (arith, c.loop-event-test.false)) in
     let stands = subst (λ events. Stands listed (map event_of events) [] engine) all c.loop-event.invariant.stands in
     c.in_ok-drain_lines.ensures.text ∙ ap (λ (t : List ℕ). t ++ engine.held) c.new-text.ensures.items
-    ∙ stands.shows.text_is
+    ∙ text_so_far listed es [] engine c.loop-event.invariant.keeps stands
     ∙ ap (λ (ch : Channel). shown_lines listed (trace ch es)) c.loop-event.invariant.channel
 
 pub returns-clause-owed : goal.returns-clause-owed
@@ -38,5 +40,6 @@ returns-clause-owed g c = λ feed honest.
     let all : take c.loop-event.event-index c.args.events.now ≡ c.args.events.now = take_all c.loop-event.event-index c.args.events.now (omega (arith, c.loop-event-test.false)) in
     let stands = subst (λ events. Stands listed (map event_of events) [] engine) all c.loop-event.invariant.stands in
     c.in_ok-drain_lines.ensures.text ∙ ap (λ (t : List ℕ). t ++ engine.held) c.new-text.ensures.items
-    ∙ law_of_owed_text listed feed es [] engine honest stands
+    ∙ subst (λ (b : Bool). kept_lines b [] ++ engine.held ≡ kept_lines b (owed_moments listed feed (steps_of (trace engine.arbiter.channel es)))) c.loop-event.invariant.keeps
+    (law_of_owed_text listed feed es [] engine honest stands)
     ∙ ap (λ (ch : Channel). lines listed feed (steps_of (trace ch es))) c.loop-event.invariant.channel

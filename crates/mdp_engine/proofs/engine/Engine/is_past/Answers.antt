@@ -4,6 +4,6 @@ use Rattle.mdp_engine.proofs.Repeating.{old_stands}
 use Rattle.mdp_engine.proofs.engine.Engine.is_past.Goals as goal
 
 pub returns-clause-stands : goal.returns-clause-stands
-returns-clause-stands g c = λ past listed es drained packet is stands.
+returns-clause-stands g c = λ past listed es gone packet is stands.
     let old : packet.number < c.args.self.now.arbiter.next = grind (arith, nat_tests, past, is, c.from.ensures, c.next.ensures.next) in
-    old_stands listed es drained packet c.args.self.now old stands
+    old_stands listed es gone packet c.args.self.now old stands

@@ -9,6 +9,7 @@ abbrev pub invariant-loop-step : goal.invariant-loop-step
 invariant-loop-step g l = record {
   moves : MovesTo l.initial.self l.self;
   channel : l.self.arbiter.channel ≡ l.initial.self.arbiter.channel;
+  keeps : l.self.keeps_lines ≡ l.initial.self.keeps_lines;
   sound : l.self.has_failed ≡ l.initial.self.has_failed;
   front : BeginsWith l.self.held l.initial.self.held;
 }

@@ -1,8 +1,8 @@
-use Rattle.std.proofs.Common.{◌∙◌, ap}
+use Rattle.std.proofs.Common.{◌∙◌, ap, subst, sym}
 use Rattle.mdp_arbiter.specs.Arbiter.{is_lost_now}
 use Rattle.mdp_arbiter.specs.declared.arbiter.Standing.{Standing}
-use Rattle.mdp_receiver.specs.Moved.{moved_told}
-use Rattle.mdp_receiver.specs.Said.{kind_of}
+use Rattle.mdp_receiver.specs.Moved.{MovesAs, moved_told}
+use Rattle.mdp_receiver.specs.Said.{brought_by, kind_of}
 use Rattle.mdp_receiver.proofs.Moving.{has_moved, same_place}
 use Rattle.mdp_receiver.proofs.handler.Handler.datagram_with_moves.Goals as goal
 
@@ -18,5 +18,5 @@ returns-clause-taken g c =
       says.0,
       says.1,
       says.2,
-      λ listed es sent stands. c.moves_since-moved.ensures ∙ ap (λ (p : Standing). moved_told p taken number new.arbiter) same ∙ moved listed es sent stands,
+      λ listed es gone stands. subst (MovesAs old.arbiter.channel es (brought_by says.0)) (sym (c.moves_since-moved.ensures ∙ ap (λ (p : Standing). moved_told p taken number new.arbiter) same)) (moved listed es gone stands),
     )

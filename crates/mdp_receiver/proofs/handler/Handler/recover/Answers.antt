@@ -27,6 +27,7 @@ loop-snapshot-preserved g c =
       counted = subst (AreCounted snapshots _ first) (sym c.and-counts.ensures)
           (counted_more snapshots i item first now c.loop-snapshot.counts fate c.loop-snapshot-test.true c.snapshot-item.is c.loop-snapshot.invariant.goes told c.loop-snapshot.invariant.counted);
       few = few_more fate c.loop-snapshot.counts c.and-counts.result i c.and-counts.ensures c.loop-snapshot.invariant.few;
+      keeps = c.on_snapshot.ensures.keeps ∙ c.loop-snapshot.invariant.keeps;
       front = begins_first first.held now.held c.on_snapshot.new.self.held c.loop-snapshot.invariant.front c.in_ok-on_snapshot.ensures.front;
     }
 

@@ -12,5 +12,6 @@ invariant-loop-snapshot g l = record {
   goes : GoesOn (map recovered (take l.snapshot-index l.snapshots)) l.initial.self l.self;
   counted : AreCounted l.snapshots l.snapshot-index l.initial.self l.counts;
   few : count_all l.counts ≡ l.snapshot-index;
+  keeps : l.self.keeps_lines ≡ l.initial.self.keeps_lines;
   front : BeginsWith l.self.held l.initial.self.held;
 }

@@ -35,6 +35,7 @@ returns-then-branch-clause-taken g c =
     takes_packet c.args.bytes.now packet fate v c.on_next.new.self c.in-Ok.ensures.ok told (record {
       stands = rw (← c.self.view_is) (c.in_ok-on_next.ensures.passed c.if-branch.true);
       channel = rw (← c.self.view_is) c.in_ok-on_next.ensures.channel;
+      keeps = rw (← c.self.view_is) c.on_next.ensures.keeps;
     })
 
 pub returns-in-Err-Memory-clause-begins : goal.returns-in-Err-Memory-clause-begins
