@@ -8,6 +8,8 @@ mod arbiter;
 #[cfg(test)]
 mod engine;
 #[cfg(test)]
+mod following;
+#[cfg(test)]
 mod lanes;
 #[cfg(test)]
 mod receiver;

@@ -50,7 +50,7 @@ fn text_of<A: Allocator + Copy>(alloc: A, capture: &Capture<A>) -> Result<Vec<u8
 }
 
 /// Reads the capture of a recovery, in which packet 1 is lost.
-fn recovery<A: Allocator + Copy>(alloc: A) -> Option<Capture<A>>
+pub(crate) fn recovery<A: Allocator + Copy>(alloc: A) -> Option<Capture<A>>
     ensures { IfSome result (λ capture. AreFit capture.instruments) }
 {
     let mut input = CountingReader::new(RECOVERY);
