@@ -11,7 +11,7 @@ import subprocess
 import sys
 
 # The crates that serve tests and measurements alone.
-BESIDE = {"refusing", "worked_runs", "layer_tests", "datagram_rows", "lane_times", "board_demo", "channel_jobs"}
+BESIDE = {"refusing", "worked_runs", "layer_tests", "datagram_rows", "lane_times", "handler_times", "board_demo", "channel_jobs"}
 CLAUSE = re.compile(r"\s*(ensures|requires)\b")
 
 

@@ -1,0 +1,88 @@
+//! Pushes what came on a channel into a handler, one datagram after another, and lets go after each what it made, so
+//! that the instructions of a datagram can be counted. A capture comes on standard input. The first word says what the
+//! handler keeps: `lines`, or `books` alone; with `nothing` the capture is only read.
+#![tactic(auto)]
+
+ghost use Rattle.mdp_templates.specs.Instrument.{AreFit};
+
+use anyhow::bail;
+use mdp_arbiter::Start;
+use mdp_capture::{Capture, CountingReader, read_capture};
+use mdp_pipeline::Feeds;
+use mdp_receiver::Handler;
+use mdp_templates::Memory;
+use std::alloc::Global;
+use std::env;
+use std::io::Write;
+
+/// How many packets are held at most behind one that is missing.
+const WINDOW: u32 = 65536;
+
+/// What a handler made of a capture.
+#[derive(Clone, Copy)]
+struct Counts {
+    datagrams: u64,
+    books: u64,
+    bytes: u64,
+}
+
+// Counts what a datagram made: the books that were printed and the bytes of text.
+fn count_made(counts: Counts, handler: &Handler<Global>) -> Counts {
+    let mut books = counts.books;
+    let mut from = 0;
+    while let Some(slot) = handler.changed().next_from(from) {
+        books = books.saturating_add(1);
+        from = slot + 1;
+    }
+    Counts {
+        datagrams: counts.datagrams.saturating_add(1),
+        books,
+        bytes: counts.bytes.saturating_add(handler.lines().len() as u64),
+    }
+}
+
+// Pushes the records of a capture into a handler, in the order of their lines.
+fn follow(alloc: Global, capture: &Capture<Global>, keeps_lines: bool) -> Result<Counts, Memory>
+    requires { AreFit capture.now.instruments }
+{
+    let mut handler = Handler::new(alloc, capture.instruments(), WINDOW, Start::FromOne)?;
+    if !keeps_lines {
+        handler.keep_no_lines();
+    }
+    let mut counts = Counts {
+        datagrams: 0,
+        books: 0,
+        bytes: 0,
+    };
+    let mut feeds = Feeds::of(capture);
+    while let Some((feed, record)) = feeds.next_by_line() {
+        match record.bytes() {
+            Some(bytes) => {
+                let _taken = handler.datagram(alloc, feed, bytes)?;
+            }
+            None => handler.close()?,
+        }
+        counts = count_made(counts, &handler);
+        handler.clear_lines();
+    }
+    Ok(counts)
+}
+
+fn main(rt: HostRuntime) -> anyhow::Result<()> {
+    let alloc = rt.alloc();
+    let capture = read_capture(alloc, &mut CountingReader::new(rt.reader()))?;
+    let keeps_lines = match env::args(&rt)?.skip(1).next() {
+        Some(word) if word.as_str() == "lines" => true,
+        Some(word) if word.as_str() == "books" => false,
+        Some(word) if word.as_str() == "nothing" => return Ok(()),
+        _ => bail!("the first word is lines, books or nothing"),
+    };
+    let Ok(counts) = follow(alloc, &capture, keeps_lines) else {
+        bail!("out of memory");
+    };
+    println!(rt;
+        "{} datagrams, {} books, {} bytes of text",
+        counts.datagrams, counts.books, counts.bytes
+    )?;
+    Ok(())
+}
