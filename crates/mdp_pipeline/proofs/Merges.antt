@@ -1,4 +1,4 @@
--- A run in the order of the lines is a merge of what the three feeds brought.
+-- A run over the records of the feeds in one order is a merge of what they brought; so is a run in the order of the lines.
 use Rattle.std.proofs.Common.{◌≡◌, ℕ, Bool, true, false, cond, List, [], ◌∷◌, ◌++◌, map, refl, sym, ap, ◌∙◌}
 use Rattle.std.specs.Prelude.{Result, Ok, Err, IfOk, IfErr, nat_le, ◌==◌}
 use Rattle.std.specs.List.{AllByRecursion, filter, flat_map}
@@ -17,8 +17,8 @@ use Rattle.mdp_crew.specs.declared.fault.RunFault.{RunFault}
 use Rattle.mdp_pipeline.specs.Merge.{Arrival, FeedRecords, arrivals, by_line, in_order}
 use Rattle.mdp_pipeline.specs.Reading.{Reading, AreReadings, AreReadingsOf, IsReading, by_feed, events_of, is_on, readings_on, refusals_text}
 use Rattle.mdp_receiver.specs.Said.{brought_by}
-use Rattle.mdp_pipeline.specs.Merging.{Tagged, IsMerge, events_from, events_in, is_from, tagged_by}
-use Rattle.mdp_pipeline.specs.Output.{BeginsByLine, Prints, PrintsByLine, end_lines, shown_output, standing_in}
+use Rattle.mdp_pipeline.specs.Merging.{Tagged, IsInOrder, IsMerge, events_from, events_in, is_from, tagged_by}
+use Rattle.mdp_pipeline.specs.Output.{Begins, BeginsByLine, Prints, PrintsByLine, end_lines, shown_output, standing_in}
 use Rattle.mdp_pipeline.specs.Running.{BeginsAll, PrintsAll}
 use Rattle.mdp_arbiter.specs.Machine.{stands_after}
 use Rattle.mdp_arbiter.specs.declared.arbiter.Standing.{Standing}
@@ -99,6 +99,17 @@ s_of records =
     (others_by_line feeds.S (arrivals feeds.A records.a) (arrivals feeds.B records.b) (others_of feeds.S feeds.A records.a refl) (others_of feeds.S feeds.B records.b refl))
     ∙ all_of feeds.S records.s refl
 
+-- ---- an order of all records
+
+-- of each feed its own records stand there, in their order, and nothing else does
+pub record KeepsFeeds (order : List Arrival) (records : FeedRecords) : Type 0 where
+  pub a : filter (is_on feeds.A) order ≡ arrivals feeds.A records.a
+  pub b : filter (is_on feeds.B) order ≡ arrivals feeds.B records.b
+  pub s : filter (is_on feeds.S) order ≡ arrivals feeds.S records.s
+
+by_line_keeps : (records : FeedRecords) → KeepsFeeds (in_order records) records
+by_line_keeps records = record { a = a_of records; b = b_of records; s = s_of records }
+
 -- ---- their readings
 
 arrived : (feed : Feed) (readings : List Reading) → map (λ (r : Reading). r.arrival) (readings_on feed readings) ≡ filter (is_on feed) (map (λ (r : Reading). r.arrival) readings)
@@ -126,11 +137,11 @@ read_on feed all mine readings same are = record {
   each = each_on feed readings are.each;
 }
 
-are_by_feed : (records : FeedRecords) (readings : List Reading) → AreReadings (in_order records) readings → AreReadingsOf records (by_feed readings)
-are_by_feed records readings are = record {
-  a_are = read_on feeds.A (in_order records) (arrivals feeds.A records.a) readings (a_of records) are;
-  b_are = read_on feeds.B (in_order records) (arrivals feeds.B records.b) readings (b_of records) are;
-  s_are = read_on feeds.S (in_order records) (arrivals feeds.S records.s) readings (s_of records) are;
+are_by_feed : (order : List Arrival) (records : FeedRecords) (readings : List Reading) → KeepsFeeds order records → AreReadings order readings → AreReadingsOf records (by_feed readings)
+are_by_feed order records readings keeps are = record {
+  a_are = read_on feeds.A order (arrivals feeds.A records.a) readings keeps.a are;
+  b_are = read_on feeds.B order (arrivals feeds.B records.b) readings keeps.b are;
+  s_are = read_on feeds.S order (arrivals feeds.S records.s) readings keeps.s are;
 }
 
 -- ---- their events
@@ -177,14 +188,15 @@ merges_by_feed readings = record { a = events_on feeds.A readings; b = events_on
 
 -- ---- the text
 
--- what all records print in the order of their lines is what their merge prints, and what is owed under a complete feed
-prints_merge : (channel : ListedChannel) (records : FeedRecords) (text : List ℕ) (standing : Standing) (all : PrintsAll channel (in_order records) text standing) → Prints channel records (flat_map tagged_by all.readings) text standing
-prints_merge channel records text standing all =
+-- what all records print in one order is what their merge in that order prints, and what is owed under a complete feed
+prints_merge : (channel : ListedChannel) (order : List Arrival) (records : FeedRecords) (text : List ℕ) (standing : Standing) → KeepsFeeds order records
+    → (all : PrintsAll channel order text standing) → Prints channel records (flat_map tagged_by all.readings) text standing
+prints_merge channel order records text standing keeps all =
     let readings = all.readings in
     let same : events_of readings ≡ events_in (flat_map tagged_by readings) = sym (events_tagged readings) in
     record {
       readings = by_feed readings;
-      are = are_by_feed records readings all.are;
+      are = are_by_feed order records readings keeps all.are;
       merges = merges_by_feed readings;
       standing_is = all.standing_is ∙ ap (stands_after channel) same;
       shown = all.shown ∙ ap (λ (es : List Event). shown_output channel (refusals_text (by_feed readings)) es) same;
@@ -195,23 +207,34 @@ prints_merge channel records text standing all =
           ∙ ap (λ (t : List ℕ). t ++ end_lines channel (refusals_text (by_feed readings)) es) (ap text_of_moments (law_of_honest_moments channel feed es honest));
     }
 
-pub prints_by_line : (channel : ListedChannel) (records : FeedRecords) (text : List ℕ) (standing : Standing) → PrintsAll channel (in_order records) text standing → PrintsByLine channel records text standing
-prints_by_line channel records text standing all = (flat_map tagged_by all.readings, (all.readings, all.are, refl), prints_merge channel records text standing all)
+pub prints_in_order : (channel : ListedChannel) (order : List Arrival) (records : FeedRecords) (text : List ℕ) (standing : Standing) → KeepsFeeds order records
+    → PrintsAll channel order text standing → (merge : List Tagged) × IsInOrder order merge × Prints channel records merge text standing
+prints_in_order channel order records text standing keeps all =
+    (flat_map tagged_by all.readings, (all.readings, all.are, refl), prints_merge channel order records text standing keeps all)
 
-pub begins_by_line : (channel : ListedChannel) (records : FeedRecords) (start taken : List ℕ) → BeginsAll channel (in_order records) start taken → BeginsByLine channel records start taken
-begins_by_line channel records start taken all = (
+pub begins_in_order : (channel : ListedChannel) (order : List Arrival) (records : FeedRecords) (start taken : List ℕ) → KeepsFeeds order records
+    → BeginsAll channel order start taken → (merge : List Tagged) × IsInOrder order merge × Begins channel records merge start taken
+begins_in_order channel order records start taken keeps all = (
   flat_map tagged_by all.prints.readings,
   (all.prints.readings, all.prints.are, refl),
   record {
     text = all.text;
     standing = all.standing;
-    prints = prints_merge channel records all.text all.standing all.prints;
+    prints = prints_merge channel order records all.text all.standing keeps all.prints;
     sent = all.sent;
     rest = all.rest;
     taken_is = all.taken_is;
     whole = all.whole;
   },
 )
+
+-- ---- in the order of the lines
+
+prints_by_line : (channel : ListedChannel) (records : FeedRecords) (text : List ℕ) (standing : Standing) → PrintsAll channel (in_order records) text standing → PrintsByLine channel records text standing
+prints_by_line channel records text standing all = prints_in_order channel (in_order records) records text standing (by_line_keeps records) all
+
+pub begins_by_line : (channel : ListedChannel) (records : FeedRecords) (start taken : List ℕ) → BeginsAll channel (in_order records) start taken → BeginsByLine channel records start taken
+begins_by_line channel records start taken all = begins_in_order channel (in_order records) records start taken (by_line_keeps records) all
 
 -- ---- what a run answers
 

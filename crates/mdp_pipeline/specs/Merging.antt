@@ -5,7 +5,7 @@ use Rattle.mdp_templates.specs.declared.feed.Feed.{Feed}
 use Rattle.mdp_templates.specs.declared.feed.Feed.TheVariants as feeds
 use Rattle.mdp_templates.specs.Feed.{feed_letter}
 use Rattle.mdp_arbiter.specs.Accepted.{Event}
-use Rattle.mdp_pipeline.specs.Merge.{FeedRecords, in_order}
+use Rattle.mdp_pipeline.specs.Merge.{Arrival, FeedRecords, in_order}
 use Rattle.mdp_pipeline.specs.Reading.{Reading, Readings, AreReadings, events_of}
 use Rattle.mdp_receiver.specs.Said.{brought_by}
 
@@ -30,13 +30,17 @@ pub record IsMerge (readings : Readings) (merge : List Tagged) : Type 0 where
   pub b : events_from feeds.B merge ≡ events_of readings.b
   pub s : events_from feeds.S merge ≡ events_of readings.s
 
--- ---- the merge by line
+-- ---- the merge of the records in one order
 
 -- the events of a record, with its feed
 abbrev pub tagged_by : Reading → List Tagged
 tagged_by r = map (λ (e : Event). record { feed = r.arrival.feed; event = e }) (brought_by r.said)
 
+-- Record by record, as they stand in this list.
+abbrev pub IsInOrder : List Arrival → List Tagged → Type 0
+IsInOrder order merge =
+    (readings : List Reading) × AreReadings order readings × (merge ≡ flat_map tagged_by readings)
+
 -- Record by record in the order of the capture's lines; of equal lines feed A's goes before B's, and B's before S's.
 abbrev pub IsByLine : FeedRecords → List Tagged → Type 0
-IsByLine records merge =
-    (readings : List Reading) × AreReadings (in_order records) readings × (merge ≡ flat_map tagged_by readings)
+IsByLine records merge = IsInOrder (in_order records) merge
