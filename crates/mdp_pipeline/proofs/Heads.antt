@@ -77,3 +77,18 @@ first_b a y ys s false sa false before_b before_s found = absurd cc
 pub next_is_b : (a : List RecordContent) (y : RecordContent) (ys s : List RecordContent) → first_of_lines (head_line a) (Some y.line) (head_line s) ≡ feeds.B
     → in_order (record { a = a; b = y ∷ ys; s = s }) ≡ (record { feed = feeds.B; entry = y }) ∷ in_order (record { a = a; b = ys; s = s })
 next_is_b a y ys s found = first_b a y ys s (is_first (head_line a) (Some y.line)) (is_first (head_line a) (head_line s)) (is_first (Some y.line) (head_line s)) refl refl found
+
+-- whichever of two lists goes first, it comes behind this line
+behind_both : (line : ℕ) (xs ys : List Arrival) (b : Bool) → is_first (line_of xs) (Some line) ≡ false → is_first (line_of ys) (Some line) ≡ false → is_first (cond b (line_of xs) (line_of ys)) (Some line) ≡ false
+behind_both line xs ys true behind_x behind_y = behind_x
+behind_both line xs ys false behind_x behind_y = behind_y
+
+pub next_is_s : (a b : List RecordContent) (z : RecordContent) (zs : List RecordContent) → is_first (head_line a) (Some z.line) ≡ false → is_first (head_line b) (Some z.line) ≡ false
+    → in_order (record { a = a; b = b; s = z ∷ zs }) ≡ (record { feed = feeds.S; entry = z }) ∷ in_order (record { a = a; b = b; s = zs })
+next_is_s a b z zs behind_a behind_b =
+    let first = arrivals feeds.A a in
+    let second = arrivals feeds.B b in
+    let test : Option ℕ → Bool = λ (l : Option ℕ). is_first l (Some z.line) in
+    by_line_right (by_line first second) (record { feed = feeds.S; entry = z }) (arrivals feeds.S zs)
+    (ap test (lesser_line first second (is_first (line_of first) (line_of second)) refl)
+    ∙ behind_both z.line first second (is_first (line_of first) (line_of second)) (ap test (line-arrivals feeds.A a) ∙ behind_a) (ap test (line-arrivals feeds.B b) ∙ behind_b))

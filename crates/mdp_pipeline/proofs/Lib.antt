@@ -3,6 +3,7 @@ pub mod Going
 pub mod Written
 pub mod Beginnings
 pub mod Merges
+pub mod TextOrder
 pub mod HandingOver
 pub mod Ending
 pub mod OnBoards

@@ -1,4 +1,5 @@
 pub mod Merge
+pub mod TextOrder
 pub mod Reading
 pub mod Merging
 pub mod Output

@@ -5,8 +5,10 @@ use Rattle.mdp_templates.specs.declared.feed.Feed.{Feed}
 use Rattle.mdp_templates.specs.declared.feed.Feed.TheVariants as feeds
 use Rattle.mdp_templates.specs.Feed.{feed_letter}
 use Rattle.mdp_arbiter.specs.Accepted.{Event}
+use Rattle.mdp_capture.specs.Lines.{NumberedLine}
 use Rattle.mdp_pipeline.specs.Merge.{Arrival, FeedRecords, in_order}
 use Rattle.mdp_pipeline.specs.Reading.{Reading, Readings, AreReadings, events_of}
+use Rattle.mdp_pipeline.specs.TextOrder.{arrivals_in}
 use Rattle.mdp_receiver.specs.Said.{brought_by}
 
 -- an event, and the feed that brought it
@@ -44,3 +46,7 @@ IsInOrder order merge =
 -- Record by record in the order of the capture's lines; of equal lines feed A's goes before B's, and B's before S's.
 abbrev pub IsByLine : FeedRecords → List Tagged → Type 0
 IsByLine records merge = IsInOrder (in_order records) merge
+
+-- Record by record as their lines stand in the text, whatever numbers these bear.
+abbrev pub IsInTextOrder : List NumberedLine → List Tagged → Type 0
+IsInTextOrder numbered merge = IsInOrder (arrivals_in numbered) merge

@@ -2,6 +2,7 @@
 -- that agrees with them has to do with it.
 use Rattle.std.specs.Prelude.{◌≡◌, ℕ, List, ◌++◌, Result, IfOk, IfErr}
 use Rattle.mdp_templates.specs.Packet.{PacketContent}
+use Rattle.mdp_capture.specs.Lines.{NumberedLine}
 use Rattle.mdp_print.specs.Texts.{last_line}
 use Rattle.mdp_arbiter.specs.Accepted.{Event}
 use Rattle.mdp_arbiter.specs.Machine.{moves_of, stands_after}
@@ -22,7 +23,8 @@ use Rattle.mdp_crew.specs.declared.fault.RunFault.{RunFault}
 use Rattle.mdp_pipeline.specs.declared.summary.Summary.{Summary}
 use Rattle.mdp_pipeline.specs.Merge.{FeedRecords}
 use Rattle.mdp_pipeline.specs.Reading.{Readings, AreReadingsOf, refusals_text}
-use Rattle.mdp_pipeline.specs.Merging.{Tagged, IsMerge, IsByLine, events_in}
+use Rattle.mdp_pipeline.specs.Merging.{Tagged, IsMerge, IsByLine, IsInTextOrder, events_in}
+use Rattle.mdp_pipeline.specs.TextOrder.{records_from}
 
 -- ---- the text for these events
 
@@ -90,6 +92,17 @@ PrintsByLine channel records text standing =
 abbrev pub BeginsByLine : ListedChannel → FeedRecords → List ℕ → List ℕ → Type 0
 BeginsByLine channel records start taken =
     (merge : List Tagged) × IsByLine records merge × Begins channel records merge start taken
+
+-- the same of the one merge that follows these lines of a text, over what they bring
+abbrev pub PrintsInTextOrder : ListedChannel → List NumberedLine → List ℕ → Standing → Type 0
+PrintsInTextOrder channel numbered text standing =
+    (merge : List Tagged) × IsInTextOrder numbered merge
+    × Prints channel (records_from numbered) merge text standing
+
+abbrev pub BeginsInTextOrder : ListedChannel → List NumberedLine → List ℕ → List ℕ → Type 0
+BeginsInTextOrder channel numbered start taken =
+    (merge : List Tagged) × IsInTextOrder numbered merge
+    × Begins channel (records_from numbered) merge start taken
 
 -- ---- a run that publishes on a board
 

@@ -4,6 +4,7 @@
 
 mod feeds;
 mod in_order;
+mod laws;
 mod pace;
 mod progress;
 mod reader;
@@ -16,6 +17,7 @@ mod threads;
 
 pub use feeds::Feeds;
 pub use in_order::run_in_order;
+pub use laws::law_of_orders;
 pub use mdp_crew::{RunFault, RunPlan};
 pub use summary::Summary;
 pub use threads::{run, run_published};
