@@ -1,4 +1,4 @@
-//! Blocks of memory, each for the bytes of many datagrams.
+//! Bytes that digits spell, and blocks of memory, each for the bytes of many datagrams.
 
 ghost use Rattle.std.specs.Prelude.{◌≡◌, ◌≤◌, ◌*◌, [], length, true, Ok, OnOk, IfOk, IfSome};
 ghost use Rattle.hex.specs.Hex.{decode_of};
@@ -30,6 +30,46 @@ fn put_bytes(digits: &[u8], bytes: &mut [u8]) -> bool
     put_lanes(digits, bytes)
 }
 
+// Makes room for so many bytes, and forgets those that are there. Where too few fit, it is a new one of this size.
+fn make_room<A: Allocator + Copy>(
+    alloc: A,
+    count: usize,
+    size: usize,
+    room: &mut BytesMut<A>,
+) -> Result<(), AllocError>
+    requires { count ≤ size }
+    ensures empty { OnOk result (room.new.items ≡ []) }
+    ensures enough { OnOk result (count ≤ room.new.spare) }
+{
+    room.clear();
+    if room.capacity() < count {
+        *room = BytesMut::with_capacity(alloc, size)?;
+    }
+    Ok(())
+}
+
+/// Decodes digits into a room, in the place of what is there, and tells whether they spell a datagram's bytes. Where they
+/// don't, and where memory ran out, what is there means nothing. Where too few bytes fit, the room is a new one of this
+/// size, 2,048 bytes or more.
+pub(crate) fn decode_into<A: Allocator + Copy>(
+    alloc: A,
+    digits: &[u8],
+    size: usize,
+    room: &mut BytesMut<A>,
+) -> Result<bool, AllocError>
+    requires { LONGEST_DATAGRAM ≤ size }
+    ensures { IfOk result (λ is_spelt. is_spelt ≡ true → Spells digits.now room.new.items) }
+{
+    let count = digits.len() / 2;
+    if digits.len() % 2 != 0 || count == 0 || count > LONGEST_DATAGRAM {
+        return Ok(false);
+    }
+    make_room(alloc, count, size, room)?;
+    room.advance_mut(count);
+    let is_spelt = put_bytes(digits, room.as_mut_slice());
+    Ok(is_spelt)
+}
+
 impl<A: Allocator + Copy> Blocks<A> {
     /// Makes a place for blocks, of which there is none yet.
     pub(crate) fn new(alloc: A) -> Blocks<A> {
@@ -42,29 +82,11 @@ impl<A: Allocator + Copy> Blocks<A> {
     pub(crate) fn decode(&mut self, alloc: A, digits: &[u8]) -> Result<Option<Bytes<A>>, AllocError>
         ensures { IfOk result (λ read. IfSome read (λ bytes. Spells digits.now bytes)) }
     {
-        let count = digits.len() / 2;
-        if digits.len() % 2 != 0 || count == 0 || count > LONGEST_DATAGRAM {
+        if !decode_into(alloc, digits, BLOCK, &mut self.room)? {
             return Ok(None);
         }
-        self.make_room(alloc, count)?;
-        self.room.advance_mut(count);
-        if !put_bytes(digits, self.room.as_mut_slice()) {
-            return Ok(None);
-        }
+        let count = self.room.len();
         let bytes = self.room.freeze_to(count)?;
         Ok(Some(bytes))
-    }
-
-    // Makes room for so many bytes, and forgets those that no record got.
-    fn make_room(&mut self, alloc: A, count: usize) -> Result<(), AllocError>
-        requires { count ≤ BLOCK }
-        ensures empty { OnOk result (self.new.room.items ≡ []) }
-        ensures room { OnOk result (count ≤ self.new.room.spare) }
-    {
-        self.room.clear();
-        if self.room.capacity() < count {
-            self.room = BytesMut::with_capacity(alloc, BLOCK)?;
-        }
-        Ok(())
     }
 }
