@@ -11,6 +11,7 @@ pub mod FitSoFar
 pub mod Listed
 pub mod Draft
 pub mod Repeats
+pub mod Decoded
 pub mod Reading
 pub mod Lines
 pub mod Part

@@ -5,6 +5,7 @@
 mod blocks;
 mod capture;
 mod cutter;
+mod decoder;
 mod draft;
 mod fault;
 mod field;
@@ -22,6 +23,7 @@ mod skip;
 
 pub use capture::Capture;
 pub use cutter::{LineCutter, TakesLines};
+pub use decoder::{DecodedLine, LineDecoder};
 pub use fault::{CaptureFault, CaptureRefusal};
 pub use instrument_list::{InstrumentList, ListedLine};
 pub use laws::{
