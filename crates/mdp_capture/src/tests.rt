@@ -1,6 +1,7 @@
 //! Captures as their texts say, and readers that fail or give little at a time; captures whose lines threads read.
 
 mod costs;
+mod decoder;
 mod instruments;
 mod lanes;
 mod over_threads;
