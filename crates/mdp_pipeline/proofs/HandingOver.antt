@@ -1,5 +1,5 @@
 -- What a reader has handed over, record by record.
-use Rattle.std.proofs.Common.{Vec, ◌≡◌, ℕ, ◌+◌, ◌<◌, Bool, true, false, List, [], ◌∷◌, ◌++◌, map, take, length, get_or, refl, sym, ap, subst, ◌∙◌, append_assoc}
+use Rattle.std.proofs.Common.{◌≡◌, ℕ, ◌+◌, ◌<◌, Bool, true, false, List, [], ◌∷◌, ◌++◌, map, take, length, get_or, refl, sym, ap, subst, ◌∙◌, append_assoc}
 use Rattle.std.specs.Prelude.{◌||◌, Result, Ok, Err, OnOk}
 use Rattle.std.proofs.lemmas.List.{append-nil, map-append, take_more}
 use Rattle.std.proofs.lemmas.List.Concat.{flat_map-append}
@@ -52,7 +52,7 @@ module _ {A : Type 0} where
 
   -- ---- records
 
-  pub read_none : (feed : Feed) (before : IntakeSenderView (Batch A)) (reader : Reader A) → reader.sender ≡ before → reader.events.items ≡ [] → reader.refusals.items ≡ [] → HasReadSoFar feed [] before reader
+  pub read_none : (feed : Feed) (before : IntakeSenderView (Batch A)) (reader : Reader A) → reader.sender ≡ before → reader.events.items ≡ [] → reader.refusals ≡ [] → HasReadSoFar feed [] before reader
   read_none feed before reader same none told = record {
     batches = [];
     put = puts_none before reader.sender same;
@@ -106,7 +106,7 @@ module _ {A : Type 0} where
         ∙ ap (λ (t : List Event). all_events so_far.batches ++ t) events
         ∙ sym (append_assoc (all_events so_far.batches) (all_events batches) (events_held new))
         ∙ ap (λ (t : List Event). t ++ events_held new) (sym (all_events-append so_far.batches batches));
-    refusals = ap (λ (r : Vec ℕ A). r.items) told ∙ so_far.refusals;
+    refusals = told ∙ so_far.refusals;
   }
 
   -- the records behind these say something too
@@ -145,8 +145,8 @@ holds_close feed entry old new (Ok done) is events same = record {
   says = subst (λ (r : Received). Says (kind_of feed) r (close_said (kind_of feed))) (sym is) refl;
   events = events;
   refusals =
-      ap (λ (v : Vec ℕ _). v.items) same
-      ∙ sym (append-nil old.refusals.items)
-      ∙ ap (λ (t : List ℕ). old.refusals.items ++ t) (sym (no_refusal feed entry.line (kind_of feed)));
+      same
+      ∙ sym (append-nil old.refusals)
+      ∙ ap (λ (t : List ℕ). old.refusals ++ t) (sym (no_refusal feed entry.line (kind_of feed)));
 }
 holds_close feed entry old new (Err fault) is events same = tt

@@ -5,6 +5,7 @@ pub mod Beginnings
 pub mod Merges
 pub mod TextOrder
 pub mod HandingOver
+pub mod Sending
 pub mod Ending
 pub mod OnBoards
 pub mod Joining

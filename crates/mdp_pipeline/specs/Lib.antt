@@ -3,6 +3,7 @@ pub mod TextOrder
 pub mod Reading
 pub mod Merging
 pub mod Output
+pub mod Sending
 pub mod RefusalTexts
 pub mod Running
 pub mod Readers

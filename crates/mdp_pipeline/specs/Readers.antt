@@ -31,7 +31,7 @@ pub record HoldsOne {A : Type 0} (feed : Feed) (entry : RecordContent) (old new 
   pub said : Said
   pub says : Says (kind_of feed) entry.received said
   pub events : events_held new ≡ events_held old ++ brought_by said
-  pub refusals : new.refusals.items ≡ old.refusals.items ++ refusal_text feed entry.line said
+  pub refusals : new.refusals ≡ old.refusals ++ refusal_text feed entry.line said
 
 -- One record was read: its events are held behind the others, but for those that were handed over, or its refusal is
 -- told.
@@ -41,7 +41,7 @@ pub record HasReadOne {A : Type 0} (feed : Feed) (entry : RecordContent) (old ne
   pub batches : List (Batch A)
   pub put : HasPut old.sender batches new.sender
   pub events : events_held old ++ brought_by said ≡ all_events batches ++ events_held new
-  pub refusals : new.refusals.items ≡ old.refusals.items ++ refusal_text feed entry.line said
+  pub refusals : new.refusals ≡ old.refusals ++ refusal_text feed entry.line said
 
 -- These records were read: their events are handed over, but for the last ones, which are held, and their refusals are
 -- told.
@@ -52,7 +52,7 @@ pub record HasReadSoFar {A : Type 0} (feed : Feed) (records : List RecordContent
   pub readings : List Reading
   pub are : AreReadings (arrivals feed records) readings
   pub front : events_of readings ≡ all_events batches ++ events_held reader
-  pub refusals : reader.refusals.items ≡ refusal_lines readings
+  pub refusals : reader.refusals ≡ refusal_lines readings
 
 -- Of these records' events a front was handed over.
 pub record HasHandedOver {A : Type 0} (feed : Feed) (records : List RecordContent)
@@ -71,4 +71,4 @@ pub record HasRead {A : Type 0} (feed : Feed) (records : List RecordContent) (be
   pub over : HasHandedOver feed records before outcome.sender
   pub ended : has_ended outcome.sender ≡ true
   pub whole : OnOk outcome.refusals (over.rest ≡ [])
-  pub refusals : IfOk outcome.refusals (λ text. text.items ≡ refusal_lines over.readings)
+  pub refusals : IfOk outcome.refusals (λ text. text ≡ refusal_lines over.readings)

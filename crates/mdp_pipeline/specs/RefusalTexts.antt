@@ -5,6 +5,11 @@ use Rattle.mdp_sbe.specs.declared.refusal.Refusal.{Refusal}
 use Rattle.mdp_templates.specs.declared.feed.Feed.{Feed}
 use Rattle.mdp_templates.specs.declared.feed.Feed.TheVariants as feeds
 use Rattle.mdp_print.specs.Texts.{refusal_line}
+use Rattle.mdp_pipeline.specs.declared.refused_lines.RefusalWord.{RefusalWord}
+
+-- the line of a refused datagram that is kept as a word
+abbrev pub word_text : RefusalWord → List ℕ
+word_text word = refusal_line word.feed word.line word.refusal
 
 pub record RefusalTexts : Type 0 where
   pub a : List ℕ

@@ -12,15 +12,13 @@ ghost use Rattle.mdp_arbiter.specs.Accepted.{Event};
 ghost use Rattle.mdp_arbiter.specs.Channel.{ListedChannel};
 
 use crate::feeds::Feeds;
+use crate::pieces::PIECE;
 use crate::progress::Run;
 use crate::summary::{Summary, write_end};
 use mdp_arbiter::Standing;
 use mdp_crew::{RunFault, RunPlan, hand_on, out_of_memory};
 use mdp_print::CountedWrite;
 use std::alloc::Allocator;
-
-/// How many bytes of text are gathered before they are written.
-const PIECE: usize = 1 << 16;
 
 // Writes the lines that the handler holds where they are a piece, and lets them go.
 fn hand_on_pieces<W: CountedWrite, A: Allocator + Copy>(
@@ -85,11 +83,12 @@ pub fn run_in_order<W: CountedWrite, A: Allocator + Copy>(
         };
         hand_on_pieces(writer, &mut run, since)?;
     }
-    finish(writer, run, since)
+    finish(alloc, writer, run, since)
 }
 
 // Writes the lines that the handler still holds, the refusals and the last line.
 fn finish<W: CountedWrite, A: Allocator + Copy>(
+    alloc: A,
     writer: &mut W,
     run: Run<A>,
     since: u64,
@@ -117,5 +116,5 @@ fn finish<W: CountedWrite, A: Allocator + Copy>(
         lost: handler.lost(),
     };
     hand_on(writer, handler.lines(), since)?;
-    write_end(writer, refusals, standing, since)
+    write_end(alloc, writer, refusals, standing, since)
 }

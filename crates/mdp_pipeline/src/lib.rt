@@ -6,9 +6,11 @@ mod feeds;
 mod in_order;
 mod laws;
 mod pace;
+mod pieces;
 mod progress;
 mod reader;
 mod refusals;
+mod refused_lines;
 mod settling;
 mod summary;
 #[cfg(test)]

@@ -12,11 +12,11 @@ ghost use Rattle.mdp_crew.specs.Batches.{all_events};
 ghost use Rattle.mdp_pipeline.specs.Readers.{HoldsOne, HasHandedOver, HasPut, HasRead, HasReadOne, HasReadSoFar, events_held, has_ended};
 
 use crate::pace::Pace;
+use crate::refused_lines::RefusedLines;
 use mdp_capture::Record;
 use mdp_crew::{Batch, Gate};
 use mdp_engine::Event;
 use mdp_lanes::IntakeSender;
-use mdp_print::put_refusal;
 use mdp_receiver::{Decoded, decode};
 use mdp_templates::{Feed, Memory, Snapshot};
 use std::alloc::Allocator;
@@ -33,7 +33,7 @@ pub struct Reader<A: Allocator + Copy> {
     pub sender: IntakeSender<Batch<A>, A>,
     pub events: Vec<Event<A>, A>,
     /// The lines of the refused datagrams.
-    pub refusals: Vec<u8, A>,
+    pub refusals: RefusedLines<A>,
     /// How many events the next batch is to hold.
     pub size: usize,
     /// The last line that it may read before it tells the others where it stands.
@@ -45,7 +45,7 @@ pub struct Reader<A: Allocator + Copy> {
 #[derive(Drop)]
 pub struct ReaderOutcome<A: Allocator + Copy> {
     pub sender: IntakeSender<Batch<A>, A>,
-    pub refusals: Result<Vec<u8, A>, Memory>,
+    pub refusals: Result<RefusedLines<A>, Memory>,
 }
 
 // Appends snapshots as events, in their order.
@@ -77,14 +77,14 @@ impl<A: Allocator + Copy> Reader<A> {
     fn hold(&mut self, alloc: A, feed: Feed, line: u32, decoded: Decoded<A>) -> Result<(), Memory>
         ensures events { OnOk result (events_held self.new ≡ events_held self.old
             ++ brought_by (said_of decoded)) }
-        ensures refusals { OnOk result (self.new.refusals.items ≡ self.old.refusals.items
+        ensures refusals { OnOk result (self.new.refusals ≡ self.old.refusals
             ++ refusal_text feed line (said_of decoded)) }
         ensures sender { self.new.sender ≡ self.old.sender }
     {
         match decoded {
             Decoded::Packet(packet) => self.events.push(Event::Packet(packet))?,
             Decoded::Snapshots(snapshots) => push_all(alloc, &mut self.events, &snapshots)?,
-            Decoded::Refused(refusal) => put_refusal(&mut self.refusals, feed, line, refusal)?,
+            Decoded::Refused(refusal) => self.refusals.put(feed, line, refusal)?,
         }
         Ok(())
     }
@@ -198,7 +198,7 @@ impl<A: Allocator + Copy> Reader<A> {
     ) -> Result<(), Memory>
         requires open { has_ended self.old.sender ≡ false }
         requires events { self.old.events.items ≡ [] }
-        requires refusals { self.old.refusals.items ≡ [] }
+        requires refusals { self.old.refusals ≡ [] }
         ensures all { OnOk result (HasReadSoFar feed records.now self.old.sender self.new) }
         ensures some { IfErr result (λ _. HasHandedOver feed records.now self.old.sender
             self.new.sender) }
@@ -280,7 +280,7 @@ fn read_or_stop<R: Wait, G: Gate, A: Allocator + Copy>(
     let mut reader = Reader {
         sender,
         events: Vec::new(alloc),
-        refusals: Vec::new(alloc),
+        refusals: RefusedLines::new(alloc),
         size: 1,
         until: 0,
     };

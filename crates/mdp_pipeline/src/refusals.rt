@@ -1,10 +1,15 @@
-//! The lines of refused datagrams.
+//! The lines of refused datagrams, feed by feed.
 
-ghost use Rattle.std.specs.Prelude.{◌≡◌, ◌++◌, IfOk, OnOk};
-ghost use Rattle.mdp_print.specs.Texts.{last_line};
+ghost use Rattle.std.specs.Prelude.{◌≡◌, ◌<◌, ◌^◌, ◌-◌, ◌++◌, ℕ, List, length, IfErr, OnOk};
+ghost use Rattle.mdp_crew.specs.Faults.{FailsBy, written_before};
 ghost use Rattle.mdp_pipeline.specs.RefusalTexts.{no_refusals, with_refusal};
+ghost use Rattle.mdp_pipeline.specs.Running.{joined_texts};
+ghost use Rattle.mdp_pipeline.specs.Sending.{SendsFront};
 
-use mdp_print::{put_last, put_refusal};
+use crate::pieces::write_words;
+use crate::refused_lines::RefusedLines;
+use mdp_crew::RunFault;
+use mdp_print::CountedWrite;
 use mdp_sbe::Refusal;
 use mdp_templates::{Feed, Memory};
 use std::alloc::Allocator;
@@ -13,9 +18,9 @@ use std::marker::Model;
 /// The lines of refused datagrams, feed by feed.
 #[derive(Drop)]
 pub struct Refusals<A: Allocator> {
-    a: Vec<u8, A>,
-    b: Vec<u8, A>,
-    s: Vec<u8, A>,
+    a: RefusedLines<A>,
+    b: RefusedLines<A>,
+    s: RefusedLines<A>,
 }
 
 impl<A: Allocator> Model for Refusals<A> {
@@ -25,7 +30,7 @@ impl<A: Allocator> Model for Refusals<A> {
 
     ghost coded = { refusal_texts_code };
 
-    ghost view = { λ r. record { a = r.a.items; b = r.b.items; s = r.s.items } };
+    ghost view = { λ r. record { a = r.a; b = r.b; s = r.s } };
 }
 
 impl<A: Allocator + Copy> Refusals<A> {
@@ -34,15 +39,15 @@ impl<A: Allocator + Copy> Refusals<A> {
         ensures { result ≡ no_refusals }
     {
         Refusals {
-            a: Vec::new(alloc),
-            b: Vec::new(alloc),
-            s: Vec::new(alloc),
+            a: RefusedLines::new(alloc),
+            b: RefusedLines::new(alloc),
+            s: RefusedLines::new(alloc),
         }
     }
 
     /// Makes texts of these lines of the three feeds.
-    pub fn of(a: Vec<u8, A>, b: Vec<u8, A>, s: Vec<u8, A>) -> Refusals<A>
-        ensures { result ≡ record { a = a.items; b = b.items; s = s.items } }
+    pub fn of(a: RefusedLines<A>, b: RefusedLines<A>, s: RefusedLines<A>) -> Refusals<A>
+        ensures { result ≡ record { a = a; b = b; s = s } }
     {
         Refusals { a, b, s }
     }
@@ -52,23 +57,38 @@ impl<A: Allocator + Copy> Refusals<A> {
         ensures { OnOk result (self.new ≡ with_refusal feed line refusal self.old) }
     {
         match feed {
-            Feed::A => put_refusal(&mut self.a, Feed::A, line, refusal)?,
-            Feed::B => put_refusal(&mut self.b, Feed::B, line, refusal)?,
-            Feed::S => put_refusal(&mut self.s, Feed::S, line, refusal)?,
+            Feed::A => self.a.put(Feed::A, line, refusal)?,
+            Feed::B => self.b.put(Feed::B, line, refusal)?,
+            Feed::S => self.s.put(Feed::S, line, refusal)?,
         }
         Ok(())
     }
 
-    /// Gives the lines of feed A, then B's, then S's, and then the last line of the run.
-    pub fn into_end(self, next: u64, lost: bool) -> Result<Vec<u8, A>, Memory>
-        ensures { IfOk result (λ text. text.items ≡ (self.a ++ (self.b ++ self.s))
-            ++ last_line next lost) }
+    /// Appends the lines of feed A, then B's, then S's, to a text that is held, which goes out piece by piece: what is
+    /// less than a piece stays held. The writer had taken `since` bytes before the run.
+    ///
+    /// # Errors
+    ///
+    /// `Output` where a write failed, else `Memory`. A beginning of the text went out.
+    pub fn write_lines<W: CountedWrite>(
+        &self,
+        writer: &mut W,
+        held: &mut Vec<u8, A>,
+        since: u64,
+    ) -> Result<(), RunFault>
+        requires { W.failed writer.old < 2 ^ 64 - 1 }
+        ensures sends { OnOk result (SendsFront (held.old.items ++ joined_texts self.now)
+            (W.taken writer.old) (W.taken writer.new) held.new.items) }
+        ensures begins { IfErr result (λ _. (rest : List ℕ)
+            × SendsFront (held.old.items ++ joined_texts self.now)
+            (W.taken writer.old) (W.taken writer.new) rest) }
+        ensures told { IfErr result (λ fault.
+            written_before fault ≡ length (W.taken writer.new) - since) }
+        ensures failed { FailsBy result (W.failed writer.old) (W.failed writer.new) }
     {
-        let Refusals { a, b, s } = self;
-        let mut text = a;
-        text.extend_from_slice(&b)?;
-        text.extend_from_slice(&s)?;
-        put_last(&mut text, next, lost)?;
-        Ok(text)
+        write_words(writer, held, self.a.words(), since)?;
+        write_words(writer, held, self.b.words(), since)?;
+        write_words(writer, held, self.s.words(), since)?;
+        Ok(())
     }
 }

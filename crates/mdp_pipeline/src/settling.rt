@@ -35,6 +35,7 @@ pub struct Readers<A: Allocator + Copy> {
 /// Settles the readers' queue, and writes the end of the text, unless the crew stopped early or
 /// memory ran out in a reader. `since` is how many bytes the writer had taken before the run.
 pub fn settle_and_finish<W: CountedWrite, A: Allocator + Copy>(
+    alloc: A,
     writer: &mut W,
     crew: CrewOutcome<A>,
     readers: Readers<A>,
@@ -87,5 +88,5 @@ pub fn settle_and_finish<W: CountedWrite, A: Allocator + Copy>(
         return Err(out_of_memory(writer, since));
     };
     let refusals = Refusals::of(refused_a, refused_b, refused_s);
-    write_end(writer, refusals, standing, since)
+    write_end(alloc, writer, refusals, standing, since)
 }

@@ -8,7 +8,7 @@ ghost use Rattle.mdp_pipeline.specs.Running.{joined_texts};
 use crate::refusals::Refusals;
 use mdp_arbiter::Standing;
 use mdp_crew::{RunFault, hand_on, out_of_memory};
-use mdp_print::{CountedWrite, written_since};
+use mdp_print::{CountedWrite, put_last, written_since};
 use std::alloc::Allocator;
 
 /// What a run came to.
@@ -23,9 +23,10 @@ pub struct Summary {
     pub written: u64,
 }
 
-/// Writes the lines of the refused datagrams and the last line, after all others. The writer had
-/// taken `since` bytes before the run.
+/// Writes the lines of the refused datagrams and the last line, after all others, in pieces. The writer had taken
+/// `since` bytes before the run.
 pub fn write_end<W: CountedWrite, A: Allocator + Copy>(
+    alloc: A,
     writer: &mut W,
     refusals: Refusals<A>,
     standing: Standing,
@@ -44,10 +45,12 @@ pub fn write_end<W: CountedWrite, A: Allocator + Copy>(
     ensures failed { FailsBy result (W.failed writer.old) (W.failed writer.new) }
 {
     let Standing { next, lost } = standing;
-    let Ok(end) = refusals.into_end(next, lost) else {
+    let mut held = Vec::new(alloc);
+    refusals.write_lines(writer, &mut held, since)?;
+    let Ok(()) = put_last(&mut held, next, lost) else {
         return Err(out_of_memory(writer, since));
     };
-    hand_on(writer, &end, since)?;
+    hand_on(writer, &held, since)?;
     Ok(Summary {
         next,
         lost,

@@ -121,7 +121,7 @@ where
         b: join(site.means.rt, reads_b),
         s: join(site.means.rt, reads_s),
     };
-    settle_and_finish(writer, crew, readers, feeds, since)
+    settle_and_finish(site.means.alloc, writer, crew, readers, feeds, since)
 }
 
 /// Runs as [`run_published`] does where there is a board, and else as [`run`]; a thread that may

@@ -46,11 +46,11 @@ returns-clause-text g c =
     let whole_a = subst (λ r. OnOk r (joined.read_a.2.over.rest ≡ [])) c.in-Ok.is joined.read_a.2.whole in
     let whole_b = subst (λ r. OnOk r (joined.read_b.2.over.rest ≡ [])) c.in-Ok-refusals.is joined.read_b.2.whole in
     let whole_s = subst (λ r. OnOk r (joined.read_s.2.over.rest ≡ [])) c.in-Ok-refusals-2.is joined.read_s.2.whole in
-    let told_a = subst (λ r. IfOk r (λ text. text.items ≡ refusal_lines joined.read_a.2.over.readings)) c.in-Ok.is joined.read_a.2.refusals in
-    let told_b = subst (λ r. IfOk r (λ text. text.items ≡ refusal_lines joined.read_b.2.over.readings)) c.in-Ok-refusals.is joined.read_b.2.refusals in
-    let told_s = subst (λ r. IfOk r (λ text. text.items ≡ refusal_lines joined.read_s.2.over.readings)) c.in-Ok-refusals-2.is joined.read_s.2.refusals in
+    let told_a = subst (λ r. IfOk r (λ text. text ≡ refusal_lines joined.read_a.2.over.readings)) c.in-Ok.is joined.read_a.2.refusals in
+    let told_b = subst (λ r. IfOk r (λ text. text ≡ refusal_lines joined.read_b.2.over.readings)) c.in-Ok-refusals.is joined.read_b.2.refusals in
+    let told_s = subst (λ r. IfOk r (λ text. text ≡ refusal_lines joined.read_s.2.over.readings)) c.in-Ok-refusals-2.is joined.read_s.2.refusals in
     let none = none_left c.args.crew.receiver (records_in c.args.feeds) left.a left.b left.s joined whole_a whole_b whole_s in
-    let told : joined_texts c.of-refusals.result ≡ refusals_text (readings_in joined) = ap joined_texts c.of-refusals.ensures ∙ told_all (ap (λ v. v.items) c.in-Ok.refused_a-is ∙ told_a) (ap (λ v. v.items) c.in-Ok-refusals.refused_b-is ∙ told_b) (ap (λ v. v.items) c.in-Ok-refusals-2.refused_s-is ∙ told_s) in
+    let told : joined_texts c.of-refusals.result ≡ refusals_text (readings_in joined) = ap joined_texts c.of-refusals.ensures ∙ told_all (c.in-Ok.refused_a-is ∙ told_a) (c.in-Ok-refusals.refused_b-is ∙ told_b) (c.in-Ok-refusals-2.refused_s-is ∙ told_s) in
     ends_well c.args.crew.receiver (records_in c.args.feeds) left.a left.b left.s joined (g.W.CountedWrite.taken c.args.writer.now) (g.W.CountedWrite.taken c.write_end.new.writer)
     c.args.crew.standing c.in_ok-standing.standing c.of-refusals.result c.write_end.result c.in_ok-standing.was none told c.write_end.ensures.stands c.write_end.ensures.text
 
@@ -62,11 +62,11 @@ returns-clause-begins g c =
     let whole_a = subst (λ r. OnOk r (joined.read_a.2.over.rest ≡ [])) c.in-Ok.is joined.read_a.2.whole in
     let whole_b = subst (λ r. OnOk r (joined.read_b.2.over.rest ≡ [])) c.in-Ok-refusals.is joined.read_b.2.whole in
     let whole_s = subst (λ r. OnOk r (joined.read_s.2.over.rest ≡ [])) c.in-Ok-refusals-2.is joined.read_s.2.whole in
-    let told_a = subst (λ r. IfOk r (λ text. text.items ≡ refusal_lines joined.read_a.2.over.readings)) c.in-Ok.is joined.read_a.2.refusals in
-    let told_b = subst (λ r. IfOk r (λ text. text.items ≡ refusal_lines joined.read_b.2.over.readings)) c.in-Ok-refusals.is joined.read_b.2.refusals in
-    let told_s = subst (λ r. IfOk r (λ text. text.items ≡ refusal_lines joined.read_s.2.over.readings)) c.in-Ok-refusals-2.is joined.read_s.2.refusals in
+    let told_a = subst (λ r. IfOk r (λ text. text ≡ refusal_lines joined.read_a.2.over.readings)) c.in-Ok.is joined.read_a.2.refusals in
+    let told_b = subst (λ r. IfOk r (λ text. text ≡ refusal_lines joined.read_b.2.over.readings)) c.in-Ok-refusals.is joined.read_b.2.refusals in
+    let told_s = subst (λ r. IfOk r (λ text. text ≡ refusal_lines joined.read_s.2.over.readings)) c.in-Ok-refusals-2.is joined.read_s.2.refusals in
     let none = none_left c.args.crew.receiver (records_in c.args.feeds) left.a left.b left.s joined whole_a whole_b whole_s in
-    let told : joined_texts c.of-refusals.result ≡ refusals_text (readings_in joined) = ap joined_texts c.of-refusals.ensures ∙ told_all (ap (λ v. v.items) c.in-Ok.refused_a-is ∙ told_a) (ap (λ v. v.items) c.in-Ok-refusals.refused_b-is ∙ told_b) (ap (λ v. v.items) c.in-Ok-refusals-2.refused_s-is ∙ told_s) in
+    let told : joined_texts c.of-refusals.result ≡ refusals_text (readings_in joined) = ap joined_texts c.of-refusals.ensures ∙ told_all (c.in-Ok.refused_a-is ∙ told_a) (c.in-Ok-refusals.refused_b-is ∙ told_b) (c.in-Ok-refusals-2.refused_s-is ∙ told_s) in
     ends_early c.args.crew.receiver (records_in c.args.feeds) left.a left.b left.s joined (g.W.CountedWrite.taken c.args.writer.now) (g.W.CountedWrite.taken c.write_end.new.writer)
     c.args.crew.standing c.in_ok-standing.standing c.of-refusals.result c.write_end.result c.in_ok-standing.was none told c.write_end.ensures.begins
 
