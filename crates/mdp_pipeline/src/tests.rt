@@ -1,9 +1,10 @@
 //! Runs over threads: the text of a capture that any merge gives, readers and workers that run at once, and each start refused; what is
-//! published on a board; runs as the manual shows them; each allocation and each write refused, also on one thread; and how many requests
-//! for memory one thread makes.
+//! published on a board; runs as the manual shows them; each allocation and each write refused, also on one thread; how many requests
+//! for memory one thread makes; and in how many writes the lines of many refused datagrams go out.
 
 mod embedding;
 mod failed_writes;
+mod many_refusals;
 mod on_board;
 mod pace;
 mod refused_allocations;
