@@ -12,7 +12,7 @@ use std::alloc::{AllocError, Allocator};
 use std::marker::Model;
 
 /// What is made of the lines of a text, which it takes in one after another.
-pub trait TakesLines<A: Allocator>: Drop {
+pub trait TakesLines<A: Allocator> {
     /// One has taken in these lines, in their order, and is the other now.
     ghost takes: { Self → List (List ℕ) → Self → Type 0 };
 

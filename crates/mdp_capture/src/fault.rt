@@ -4,6 +4,7 @@ ghost use Rattle.std.specs.Prelude.{◌≡◌, Some};
 ghost use Rattle.mdp_capture.specs.Faults.{fault_text};
 ghost use Rattle.mdp_capture.specs.declared.fault.CaptureFault.TheVariants as faults;
 
+use mdp_templates::Memory;
 use std::alloc::{AllocError, AllocFailed};
 use std::error::Error;
 use std::fmt;
@@ -90,6 +91,14 @@ impl From<AllocError> for CaptureFault {
     ghost from_gives = { λ _ e. e ≡ faults.Memory };
 
     fn from(_error: AllocError) -> CaptureFault {
+        CaptureFault::Memory
+    }
+}
+
+impl From<Memory> for CaptureFault {
+    ghost from_gives = { λ _ e. e ≡ faults.Memory };
+
+    fn from(_error: Memory) -> CaptureFault {
         CaptureFault::Memory
     }
 }
