@@ -9,3 +9,6 @@ pub mod Sending
 pub mod Ending
 pub mod OnBoards
 pub mod Joining
+pub mod Streaming
+pub mod LinesBehind
+pub mod StreamedText

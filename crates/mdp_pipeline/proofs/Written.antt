@@ -27,20 +27,20 @@ use Rattle.mdp_pipeline.specs.Output.{BeginsByLine, PrintsByLine, SaysAll, SaysS
 
 -- ---- a reading more
 
-abbrev reading_of : Arrival → Said → Reading
+abbrev pub reading_of : Arrival → Said → Reading
 reading_of arrival said = record { arrival = arrival; said = said }
 
 each-push : (readings : List Reading) (reading : Reading) → AllByRecursion IsReading readings → IsReading reading → AllByRecursion IsReading (readings ++ reading ∷ [])
 each-push [] reading each is = (is, tt)
 each-push (r ∷ readings) reading each is = (each.0, each-push readings reading each.1 is)
 
-readings-push : (arrivals : List Arrival) (readings : List Reading) (reading : Reading) → AreReadings arrivals readings → IsReading reading → AreReadings (arrivals ++ reading.arrival ∷ []) (readings ++ reading ∷ [])
+pub readings-push : (arrivals : List Arrival) (readings : List Reading) (reading : Reading) → AreReadings arrivals readings → IsReading reading → AreReadings (arrivals ++ reading.arrival ∷ []) (readings ++ reading ∷ [])
 readings-push arrivals readings reading are is = record {
   of = map-append (λ (r : Reading). r.arrival) readings (reading ∷ []) ∙ ap (λ (t : List Arrival). t ++ reading.arrival ∷ []) are.of;
   each = each-push readings reading are.each is;
 }
 
-events-push : (readings : List Reading) (reading : Reading) → events_of (readings ++ reading ∷ []) ≡ events_of readings ++ brought_by reading.said
+pub events-push : (readings : List Reading) (reading : Reading) → events_of (readings ++ reading ∷ []) ≡ events_of readings ++ brought_by reading.said
 events-push readings reading =
     flat_map-append (λ (r : Reading). brought_by r.said) readings (reading ∷ [])
     ∙ ap (λ (t : List Event). events_of readings ++ t) (append-nil (brought_by reading.said))
@@ -81,7 +81,7 @@ refusals-push readings feeds.S entry (refused refusal) =
     same_texts _ _ _ _ _ _ (lines-push feeds.A readings r ∙ append-nil (refusal_lines (readings_on feeds.A readings))) (lines-push feeds.B readings r ∙ append-nil (refusal_lines (readings_on feeds.B readings))) (lines-push feeds.S readings r)
 
 -- a record more
-read_more : {A : Type 0} (channel : ListedChannel) (readings : List Reading) (feed : Feed) (entry : RecordContent) (sent : List ℕ) (old new : Run A)
+pub read_more : {A : Type 0} (channel : ListedChannel) (readings : List Reading) (feed : Feed) (entry : RecordContent) (sent : List ℕ) (old new : Run A)
     → (takes : TakesAs (kind_of feed) (record { feed = feed; entry = entry }) old new) → HasRun channel readings sent old
     → HasRun channel (readings ++ reading_of (record { feed = feed; entry = entry }) takes.said ∷ []) sent new
 read_more channel readings feed entry sent old new takes run =

@@ -2,9 +2,11 @@ pub mod Merge
 pub mod TextOrder
 pub mod Reading
 pub mod Merging
+pub mod Notes
 pub mod Output
 pub mod Sending
 pub mod RefusalTexts
 pub mod Running
+pub mod Streamed
 pub mod Readers
 pub mod Taken

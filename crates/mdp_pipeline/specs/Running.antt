@@ -14,7 +14,8 @@ use Rattle.mdp_pipeline.specs.declared.progress.Run.{Run}
 use Rattle.mdp_pipeline.specs.Output.{shown_output}
 use Rattle.mdp_pipeline.specs.RefusalTexts.{RefusalTexts, with_told}
 use Rattle.mdp_pipeline.specs.Reading.{Reading, AreReadings, Says, by_feed, events_of, readings_on, refusal_lines, refusals_text}
-use Rattle.mdp_receiver.specs.Handling.{GoesOn}
+use Rattle.mdp_receiver.specs.Handling.{GoesOn, TellsMoved}
+use Rattle.mdp_receiver.specs.declared.moved.Moved.{Moved}
 use Rattle.mdp_receiver.specs.Said.{Said, brought_by, kind_of, refusal_in}
 use Rattle.mdp_arbiter.specs.Machine.{stands_after}
 use Rattle.mdp_arbiter.specs.declared.arbiter.Standing.{Standing}
@@ -44,6 +45,12 @@ pub record TakesAs {A : Type 0} (kind : Kind) (arrival : Arrival) (old new : Run
 abbrev pub TakesOn : {A : Type 0} → Feed → ℕ → Received → Run A → Run A → Type 0
 TakesOn feed line received old new =
     TakesAs (kind_of feed) (arrival_on feed (record { line = line; received = received })) old new
+
+-- it has taken in a datagram that came on this line of a feed, which moved this
+pub record TakesMoving {A : Type 0} (feed : Feed) (line : ℕ) (received : Received) (moved : Moved)
+    (old new : Run A) : Type 0 where
+  pub takes : TakesOn feed line received old new
+  pub moves : TellsMoved takes.said moved old.handler
 
 -- an engine that keeps lines stands at these events, of whose lines this text was sent; it holds the rest
 pub record StandsSent (listed : List Instrument) (events : List Event) (sent : List ℕ) (engine : View) : Type 0 where

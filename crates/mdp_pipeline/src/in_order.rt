@@ -87,7 +87,7 @@ pub fn run_in_order<W: CountedWrite, A: Allocator + Copy>(
 }
 
 // Writes the lines that the handler still holds, the refusals and the last line.
-fn finish<W: CountedWrite, A: Allocator + Copy>(
+pub(crate) fn finish<W: CountedWrite, A: Allocator + Copy>(
     alloc: A,
     writer: &mut W,
     run: Run<A>,

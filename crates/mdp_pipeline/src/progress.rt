@@ -5,14 +5,14 @@ ghost use Rattle.mdp_crew.specs.Plan.{IsLawful, channel_in};
 ghost use Rattle.mdp_capture.specs.Record.{Close, Datagram};
 ghost use Rattle.mdp_pipeline.specs.Merge.{arrival_on};
 ghost use Rattle.mdp_pipeline.specs.RefusalTexts.{with_told};
-ghost use Rattle.mdp_pipeline.specs.Running.{HasRun, TakesAs, TakesOn};
+ghost use Rattle.mdp_pipeline.specs.Running.{HasRun, TakesAs, TakesMoving, TakesOn};
 ghost use Rattle.mdp_receiver.specs.Said.{kind_of};
 ghost use Rattle.mdp_receiver.specs.Taken.{refusal_told};
 
 use crate::refusals::Refusals;
 use mdp_capture::Record;
 use mdp_crew::RunPlan;
-use mdp_receiver::{Handler, Taken};
+use mdp_receiver::{Handler, Moved, Taken};
 use mdp_templates::{Feed, Memory};
 use std::alloc::Allocator;
 
@@ -57,8 +57,24 @@ impl<A: Allocator + Copy> Run<A> {
         self.keep(feed, line, taken)
     }
 
-    // Takes a close, which counts on feed S alone.
-    fn take_close(&mut self, feed: Feed, line: u32) -> Result<(), Memory>
+    /// Takes a datagram that a line brings on a feed, and tells what it moved.
+    pub fn take_datagram_with_moves(
+        &mut self,
+        alloc: A,
+        feed: Feed,
+        line: u32,
+        bytes: &[u8],
+    ) -> Result<Moved, Memory>
+        ensures { IfOk result (λ moved. TakesMoving feed line (Datagram bytes.now) moved
+            self.old self.new) }
+    {
+        let (taken, moved) = self.handler.datagram_with_moves(alloc, feed, bytes)?;
+        self.keep(feed, line, taken)?;
+        Ok(moved)
+    }
+
+    /// Takes a close that a line brings, which counts on feed S alone.
+    pub fn take_close(&mut self, feed: Feed, line: u32) -> Result<(), Memory>
         ensures { OnOk result (TakesOn feed line Close self.old self.new) }
     {
         match feed {
