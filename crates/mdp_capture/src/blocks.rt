@@ -48,9 +48,9 @@ fn make_room<A: Allocator + Copy>(
     Ok(())
 }
 
-/// Decodes digits into a room, in the place of what is there, and tells whether they spell a datagram's bytes. Where they
-/// don't, and where memory ran out, what is there means nothing. Where too few bytes fit, the room is a new one of this
-/// size, 2,048 bytes or more.
+/// Decodes digits into a room, in the place of what is there, and tells whether they spell a datagram's bytes. Where
+/// they don't, and where memory ran out, what is there means nothing. Where too few bytes fit, the room is a new one of
+/// this size, 2,048 bytes or more.
 pub(crate) fn decode_into<A: Allocator + Copy>(
     alloc: A,
     digits: &[u8],
