@@ -1,13 +1,14 @@
 #!/usr/bin/env python3
-"""Prints what the proofs, the tests and the must-fail edits of each crate cost: tests/costs.py [--edits] [CRATE..]
+"""Prints what the proofs, the tests and the must-fail edits of each crate cost: tests/costs.py [--edits] [ROUND..] [CRATE..]
 
-Goes over the crates in the order of crates.txt, lowest first: over all of them with `rt check`, then with `rt check --test`, then, where
-a crate has must-fail edits, with `rt must-fail --anew`. Each command is timed whole: minutes of wall time, and processor minutes of it
-and of all that it waited for. It works in the checkout in which it lies, so run it in a fresh clone, on a machine with nothing else at
-work. What checks keep on a machine makes later ones quicker, wherever they run, so the costs from nothing are those of a machine that
-has kept nothing. With --edits, each edit of the crates is put by itself into a copy of the checkout, where the temporary files lie (some
-6 GB), and the `rt check` that must refuse it is timed, in seconds; before a crate's edits its own check must succeed there. The exit
-status is 1 if a command ended otherwise than it should.
+Goes over the crates in the order of crates.txt, lowest first: over all of them with `rt check`, then with `rt check --test`, then, where a
+crate has must-fail edits, with `rt must-fail --anew`. These are the rounds `proof`, `tests` and `edits`; where rounds are named, no others
+are run. Each command is timed whole: minutes of wall time, and processor minutes of it and of all that it waited for. It works in the
+checkout in which it lies, so run it in a fresh clone, on a machine with nothing else at work. What checks keep on a machine makes later
+ones quicker, wherever they run, so the costs from nothing are those of a machine that has kept nothing. With --edits, each edit of the
+crates is put by itself into a copy of the checkout, where the temporary files lie (some 6 GB), and the `rt check` that must refuse it is
+timed, in seconds; before a crate's edits its own check must succeed there. The exit status is 1 if a command ended otherwise than it
+should.
 """
 import os
 import resource
@@ -50,11 +51,11 @@ def timed(command, folder):
     return done.returncode, done.stdout, wall, after.ru_utime - before.ru_utime + after.ru_stime - before.ru_stime
 
 
-def time_crates(crates):
-    """Times the three rounds, and returns whether all commands ended well."""
+def time_crates(rounds, crates):
+    """Times rounds over crates, and returns whether all commands ended well."""
     is_good = True
     print("crate, round: minutes of wall, minutes of processor time", flush=True)
-    for name, command in ROUNDS:
+    for name, command in rounds:
         wall_of_all = processor_of_all = 0
         for crate in crates:
             if name == "edits" and not edits_of(crate):
@@ -120,11 +121,14 @@ def main():
     os.chdir(os.path.join(os.path.dirname(os.path.realpath(__file__)), ".."))
     words = sys.argv[1:]
     wants_edits = words[:1] == ["--edits"]
-    crates = words[wants_edits:] or crates_in_order()
+    rounds = [it for it in ROUNDS if it[0] in words] or ROUNDS
+    named = [it for it in words[wants_edits:] if it not in [name for name, _ in ROUNDS]]
+    crates = named or crates_in_order()
     unknown = [it for it in crates if it not in crates_in_order()]
     if unknown:
         sys.exit(f"no such crate: {', '.join(unknown)}")
-    sys.exit(0 if (time_edits if wants_edits else time_crates)(crates) else 1)
+    is_good = time_edits(crates) if wants_edits else time_crates(rounds, crates)
+    sys.exit(0 if is_good else 1)
 
 
 main()
