@@ -7,7 +7,10 @@ BEGIN {
     if (calendars == "") calendars = "SP EQ FX RT"
 }
 function tell(text) { print text > "/dev/stderr" }
+function is_whole(text, most) { return text ~ /^[1-9][0-9]*$/ && length(text) <= 10 && text + 0 <= most }
 function leave_out(why) { tell("left out " (id == "" ? "line " NR : id " " name) ": " why) }
+
+function is_outright() { return legs == "" || legs == "0" }
 
 # Reads the tags of a definition.
 function read_tags(    i, at, tag, value, type) {
@@ -24,14 +27,14 @@ function read_tags(    i, at, tag, value, type) {
         else if (tag == 461) code = value
         else if (tag == 762) subtype = value
         else if (tag == 1180) on = value
-        else if (tag == 555) legs = value + 0
+        else if (tag == 555) legs = value
         else if (tag == 602) leg = value
         else if (tag == 623 && value + 0 != 1) ratio = value
         else if (tag == 624 && value == 1) bought = leg
         else if (tag == 624 && value == 2) sold = leg
         else if (tag == 1022) type = value
-        else if (tag == 264 && type == "GBX") depth = value + 0
-        else if (tag == 264 && type == "GBI") implied = value + 0
+        else if (tag == 264 && type == "GBX") depth = value
+        else if (tag == 264 && type == "GBI") implied = value
     }
 }
 
@@ -40,13 +43,14 @@ function reason() {
     if (id == "" || name == "") return "it has no id (48) or no name (55)"
     if (channel != "" && on != channel) return "channel " on
     if (code !~ /^F/) return "no future (" code ")"
+    if (!is_whole(id, 2147483647)) return "its id is no number from 1 to 2147483647"
     if (id in named) return "defined before"
     if (name !~ /^[!-~]+$/) return "a name with other than printable ASCII characters"
     if (length(name) > 20) return "a name of more than 20 characters"
     if (name in taken) return "its name is that of " taken[name]
-    if (depth < 1 || depth > 10) return "direct depth " depth
+    if (!is_whole(depth, 10)) return "direct depth " depth
     if (implied != 2) return "implied depth " implied
-    if (legs + 0 == 0) return ""
+    if (is_outright()) return ""
     if (legs != 2) return legs " legs"
     if (index(" " calendars " ", " " subtype " ") == 0) return "subtype " subtype " is none of " calendars
     if (ratio != 1) return "a leg of ratio " ratio
@@ -64,7 +68,7 @@ function reason() {
     }
     named[id] = name
     taken[name] = id
-    if (legs + 0 == 0) {
+    if (is_outright()) {
         print "I", id, name, "O" (depth == 10 ? "" : " " depth)
         outright[id] = 1
         listed++
@@ -88,8 +92,6 @@ END {
         }
     }
     if (listed > 512) tell(listed " instruments are listed, and a run has at most 512")
-    if (!listed) {
-        tell("no instrument is listed")
-        exit 1
-    }
+    if (!listed) tell("no instrument is listed")
+    exit !listed || listed > 512
 }

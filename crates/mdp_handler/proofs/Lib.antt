@@ -1,3 +1,4 @@
 mod Names
 mod Numbers
 pub mod Telling
+pub mod GoingOut

@@ -4,7 +4,8 @@ use Rattle.std.specs.Prelude.{MatchResult}
 use Rattle.std.proofs.lemmas.Grind.{flat_map-append}
 use Rattle.std.proofs.lemmas.List.{take-append-drop, take_more}
 use Rattle.mdp_capture.specs.declared.skip.SkippedLine.{SkippedLine}
-use Rattle.mdp_handler.specs.Faults.{LeavesOut, Tells, skipped_line, skipped_lines}
+use Rattle.mdp_pipeline.specs.declared.note.Note.{Note}
+use Rattle.mdp_handler.specs.Faults.{LeavesOut, Tells, note_line, note_lines, skipped_line, skipped_lines}
 
 -- where all is sent, nothing is left out, however much may be
 pub all_is_sent : (most : ℕ) (text : List ℕ) → LeavesOut most text text
@@ -91,3 +92,10 @@ lines_more lines n d below =
     ap (λ (bytes : List ℕ). skipped_lines (take n lines) ++ bytes) (sym (append-nil (skipped_line (get_or lines n d))))
     ∙ sym (flat_map-append skipped_line (take n lines) (get_or lines n d ∷ []))
     ∙ sym (ap skipped_lines (take_more lines n d below))
+
+-- one note more
+pub notes_on : (notes : List Note) (n : ℕ) (d : Note) → n < length notes → note_lines (take n notes) ++ note_line (get_or notes n d) ≡ note_lines (take (n + 1) notes)
+notes_on notes n d below =
+    ap (λ (bytes : List ℕ). note_lines (take n notes) ++ bytes) (sym (append-nil (note_line (get_or notes n d))))
+    ∙ sym (flat_map-append note_line (take n notes) (get_or notes n d ∷ []))
+    ∙ sym (ap note_lines (take_more notes n d below))

@@ -1,5 +1,5 @@
 -- The command line: the options of the program, and what words of a command line ask for.
-use Rattle.std.specs.Prelude.{◌≡◌, ◌≤◌, ℕ, Bool, true, false, List, [], ◌∷◌, Some, None, codes, map, pos}
+use Rattle.std.specs.Prelude.{◌≡◌, ◌≤◌, ℕ, Bool, true, false, List, [], ◌∷◌, Option, Some, None, IfSome, codes, map, pos}
 use denote.Ref.{Bor}
 use Rattle.std.specs.Str.Parse.{IsNumeral, digits_value, without_leading_plus}
 use Rattle.clap.specs.Words.{App, Rule, Text, IsAmong, Kinds, fault_of, matches_of, new_app, new_rule, one_of, with_rule}
@@ -16,14 +16,17 @@ use Rattle.mdp_handler.specs.declared.settings.Settings.{Settings}
 abbrev pub up_to : ℕ → ValueParser
 up_to most = Signed (pos 1) (pos most)
 
--- an option `--NAME VALUE`, with the value that it has where it is left out
-abbrev pub option : Text → ValueParser → Text → Rule
-option name value default = record (new_rule name) {
+-- an option `--NAME VALUE`
+abbrev pub option : Text → ValueParser → Rule
+option name value = record (new_rule name) {
   long = Some name;
   value_names = 1;
   parser = Some value;
-  defaults = default ∷ [];
 }
+
+-- the same with the value that it has where it is left out
+abbrev pub with_default : Text → Rule → Rule
+with_default default rule = record rule { defaults = default ∷ [] }
 
 -- an option `--NAME` that stands alone
 abbrev pub flag : Text → Rule
@@ -36,10 +39,11 @@ plain = let app = new_app (codes "mdp_handler") in record app { top = record app
 -- the program with its options
 abbrev pub options : App
 options =
-    with_rule (with_rule (with_rule (with_rule plain
-    (option (codes "window") (up_to 65536) (codes "1024")))
-    (option (codes "workers") (up_to 16) (codes "2")))
+    with_rule (with_rule (with_rule (with_rule (with_rule plain
+    (with_default (codes "1024") (option (codes "window") (up_to 65536))))
+    (option (codes "workers") (up_to 16)))
     (flag (codes "in-order")))
+    (flag (codes "live")))
     (flag (codes "join"))
 
 -- the words have options of the program alone, each at most once and with a value in its range
@@ -72,6 +76,16 @@ IsSetting name most default words n =
     → let digits = without_leading_plus text in
     IsNumeral 10 digits → 1 ≤ digits_value 10 digits → digits_value 10 digits ≤ most → n ≡ digits_value 10 digits)
 
+-- the same of an option that has no default: none where there is no text
+abbrev pub IsGiven : Text → ℕ → List Text → Option ℕ → Type 0
+IsGiven name most words given =
+    let read = one_of name (matches_of options words) in
+    (read ≡ None → given ≡ None)
+    × ((text : Text) → read ≡ Some text
+    → let digits = without_leading_plus text in
+    IsNumeral 10 digits → 1 ≤ digits_value 10 digits → digits_value 10 digits ≤ most
+    → given ≡ Some (digits_value 10 digits))
+
 -- whether a flag is given
 abbrev pub IsFlag : Text → List Text → Bool → Type 0
 IsFlag name words given =
@@ -91,13 +105,17 @@ IsStart words start = (joins : Bool) × IsFlag (codes "join") words joins × (st
 -- the settings are those that the words give
 pub record AreSettings (words : List Text) (settings : Settings) : Type 0 where
   pub window : IsSetting (codes "window") 65536 1024 words settings.window
-  pub workers : IsSetting (codes "workers") 16 2 words settings.workers
+  pub workers : IsGiven (codes "workers") 16 words settings.workers
   pub in_order : IsFlag (codes "in-order") words settings.in_order
+  pub live : IsFlag (codes "live") words settings.live
   pub start : IsStart words settings.start
 
--- a window that covers 1 to 65536 packet numbers, and 1 to 16 workers
+-- as many workers as there may be
+abbrev pub AreWorkers : ℕ → Type 0
+AreWorkers n = (1 ≤ n) × (n ≤ 16)
+
+-- a window that covers 1 to 65536 packet numbers, and 1 to 16 workers, where they are given
 pub record AreLawful (settings : Settings) : Type 0 where
   pub some_window : 1 ≤ settings.window
   pub most_window : settings.window ≤ 65536
-  pub some_workers : 1 ≤ settings.workers
-  pub most_workers : settings.workers ≤ 16
+  pub workers : IfSome settings.workers AreWorkers

@@ -1,4 +1,5 @@
 pub mod CommandLine
 pub mod Faults
 pub mod Printed
+pub mod Live
 pub mod Outcome

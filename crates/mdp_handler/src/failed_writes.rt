@@ -78,6 +78,8 @@ fn each_write_fails_in_turn(rt: HostRuntime) -> Result<(), Fail> {
             let words = ["mdp_handler", words[0], words[1]];
             fail_each(&rt, alloc, &words, failure, SPREAD, SPREAD_TEXT)?;
         }
+        let words = ["mdp_handler", "--live"];
+        fail_each(&rt, alloc, &words, failure, SPREAD, SPREAD_TEXT)?;
         for words in [["--in-order", "--window=4"], ["--workers=3", "--window=4"]] {
             let words = ["mdp_handler", words[0], words[1]];
             fail_each(&rt, alloc, &words, failure, RECOVERY, RECOVERY_TEXT)?;

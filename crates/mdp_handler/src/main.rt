@@ -4,6 +4,9 @@
 #[cfg(test)]
 mod failed_writes;
 mod faults;
+mod live;
+#[cfg(test)]
+mod live_tests;
 mod program;
 #[cfg(test)]
 mod refused_allocations;

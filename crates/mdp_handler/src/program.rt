@@ -1,16 +1,17 @@
 //! The program, over any input and outputs.
 
-ghost use Rattle.std.specs.Prelude.{◌≡◌, ◌≢◌, ◌≤◌, ◌<◌, ◌-◌, ◌^◌, ◌++◌, ◌⊎◌, [], ℕ, List, IfOk, IfErr};
+ghost use Rattle.std.specs.Prelude.{◌≡◌, ◌≢◌, ◌≤◌, ◌<◌, ◌-◌, ◌^◌, ◌++◌, ◌⊎◌, [], ℕ, List, IfOk, IfErr, codes, true};
 ghost use Rattle.clap.specs.Words.{IsAmong, kind_of};
-ghost use Rattle.mdp_handler.specs.CommandLine.{AreLawful, AsksToRun, shown_kinds, texts_of};
+ghost use Rattle.mdp_handler.specs.CommandLine.{AreLawful, AsksToRun, IsFlag, shown_kinds, texts_of};
 ghost use Rattle.mdp_handler.specs.Faults.{Tells, skipped_lines};
-ghost use Rattle.mdp_handler.specs.Outcome.{Fails, HasDone, HasFailed, HasFailedRun, HasFailedWrite, HasNoMemory, HasRefused, HasRefusedCapture, HasRun, HasStopped, effects};
+ghost use Rattle.mdp_handler.specs.Outcome.{Fails, HasDone, HasFailed, HasFailedWhole, HasFailedWrite, HasNoMemory, HasRefused, HasRefusedCapture, HasRunWhole, HasStopped, effects};
 ghost use Rattle.mdp_handler.specs.Printed.{HasBegun, HasPrinted};
 ghost use Rattle.mdp_print.specs.Written.{HasCounted};
 ghost use Rattle.mdp_crew.specs.Faults.{FailsBy, written_before};
 ghost use Rattle.mdp_templates.specs.Instrument.{AreFit};
 
 use crate::faults::{tell, tell_input, tell_memory, tell_output, tell_refused, tell_skipped};
+use crate::live::run_live;
 use crate::settings::{Settings, read_settings};
 use clap::Error;
 use clap::error::ErrorKind;
@@ -33,10 +34,13 @@ pub const REFUSED: u8 = 2;
 /// a capture from `input`, writes the text of the run to `output`, and tells what went wrong on
 /// `faults`. Answers the exit status: 0 for a run to the end and for help, 1 where memory ran out
 /// or a read or a write of the output failed, and 2 where the command line or the capture is
-/// refused; then nothing is written to `output`. Only where the words ask for a run is anything
-/// read. A run goes over threads, unless the words say `--in-order`. It tells a line for each line
-/// of the capture that was skipped, then at status 1 why it ended. Why no run began is told alone.
-/// A write to `faults` that fails is passed over.
+/// refused; then nothing is written to `output`, but that with `--live` the capture is handled as
+/// it comes, and what its lines before the first refusal show was written. Only where the words ask
+/// for a run is anything read. A run goes over threads, unless the words say `--in-order` or
+/// `--live`. It tells a line for each line of the capture that was skipped, then at status 1 why it
+/// ended. Why no run began is told alone. With `--live` it tells as the lines come, and where the
+/// receiver was lost and found too; then why the run ended, or what keeps it from going on where the
+/// capture ends. A write to `faults` that fails is passed over.
 pub fn program<R, I, O, F, A>(
     rt: &R,
     words_alloc: Global,
@@ -62,13 +66,15 @@ where
         (effects (Fails O.failed output.old output.new) (O.taken output.old) (O.taken output.new)
         (Tells F.failed F.taken faults.old faults.new)) }
     ensures refused { result ≡ 2 → HasRefused (texts_of words.now) (I.rest input.old)
-        (Tells F.failed F.taken faults.old faults.new) }
-    ensures unprinted { result ≡ 2 → output.new ≡ output.old }
+        (O.taken output.old) (O.taken output.new) (Tells F.failed F.taken faults.old faults.new) }
+    ensures unprinted { result ≡ 2 → ¬ (IsFlag (codes "live") (texts_of words.now) true)
+        → output.new ≡ output.old }
     ensures unread { ¬ (AsksToRun (texts_of words.now)) → input.new ≡ input.old }
     ensures reads { result ≢ 1 → I.failed input.new ≡ I.failed input.old }
     ensures writes { result ≢ 1 → O.failed output.new ≡ O.failed output.old }
 {
     match read_settings(words_alloc, words) {
+        Ok(settings) if settings.live => run_live(alloc, settings, input, output, faults),
         Ok(settings) => run_over(rt, alloc, settings, input, output, faults),
         Err(error) => show(alloc, &error, output, faults),
     }
@@ -138,14 +144,14 @@ where
     requires output { O.failed output.old < 2 ^ 64 - 1 }
     requires lawful { AreLawful settings }
     ensures status { result ≤ 2 }
-    ensures done { result ≡ 0 → HasRun (I.rest input.old) settings
+    ensures done { result ≡ 0 → HasRunWhole (I.rest input.old) settings
         (O.taken output.old) (O.taken output.new) (Tells F.failed F.taken faults.old faults.new) }
     ensures failed { result ≡ 1 →
         let FailedReads = Fails I.failed input.old input.new in
         let did = effects (Fails O.failed output.old output.new) (O.taken output.old)
         (O.taken output.new) (Tells F.failed F.taken faults.old faults.new) in
         (FailedReads 0 × HasNoMemory did)
-        ⊎ HasFailedRun (I.rest input.old) settings FailedReads did }
+        ⊎ HasFailedWhole (I.rest input.old) settings FailedReads did }
     ensures refused { result ≡ 2 → HasRefusedCapture (I.rest input.old)
         (Tells F.failed F.taken faults.old faults.new) }
     ensures unprinted { result ≡ 2 → output.new ≡ output.old }
@@ -243,7 +249,7 @@ where
         instruments: capture.instruments(),
         window: settings.window,
         start: settings.start,
-        workers: u16::from(settings.workers),
+        workers: u16::from(settings.worker_count()),
     };
     if settings.in_order {
         return run_in_order(alloc, plan, Feeds::of(capture), output);

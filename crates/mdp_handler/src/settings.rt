@@ -1,8 +1,8 @@
 //! What the command line asks for.
 
-ghost use Rattle.std.specs.Prelude.{◌≡◌, ◌≤◌, IfOk, codes, false, map};
+ghost use Rattle.std.specs.Prelude.{◌≡◌, ◌≤◌, IfOk, IfSome, None, Some, codes, false, map, unwrap_or};
 ghost use Rattle.clap.specs.Words.{FailsBy, app_of, fault_of, rule_of};
-ghost use Rattle.mdp_handler.specs.CommandLine.{AreLawful, AreSettings, flag, option, options, start_asked, up_to};
+ghost use Rattle.mdp_handler.specs.CommandLine.{AreLawful, AreSettings, AreWorkers, flag, option, options, start_asked, up_to, with_default};
 
 use clap::builder::ValueParser;
 use clap::{Arg, ArgAction, Command, Error, value_parser};
@@ -14,12 +14,23 @@ use std::alloc::{AllocError, Global};
 pub struct Settings {
     /// A packet this many numbers or more ahead of the next one gives the next one up, from 1 to 65536.
     pub window: u32,
-    /// How many threads keep books, from 1 to 16.
-    pub workers: u8,
+    /// How many threads keep books, from 1 to 16, where the words say so.
+    pub workers: Option<u8>,
     /// Whether one thread takes the records of all feeds in the order of their lines.
     pub in_order: bool,
+    /// Whether what the capture's lines show goes out as they come.
+    pub live: bool,
     /// Whether packet 1 is the first to pass, or the run joins a running channel by a jump.
     pub start: Start,
+}
+
+impl Settings {
+    /// Tells how many threads keep books: 2 where the words don't say.
+    pub fn worker_count(self) -> u8
+        ensures { result ≡ unwrap_or self.workers 2 }
+    {
+        self.workers.unwrap_or(2)
+    }
 }
 
 const ABOUT: &str =
@@ -36,6 +47,7 @@ The capture is text, one record a line:
 Instruments come first. A datagram has at most 2,048 bytes. Each feed is read in a
 thread of its own, and of the two copies of a packet the one that comes first is
 used; with --in-order one thread takes all records in the order of their lines.
+With --live it also prints what they show as they come, before the next read.
 The books are kept in --workers threads; how many changes no line. With --join the
 capture may begin in the middle of a day: no packet is taken before snapshots of all
 securities have come.
@@ -67,21 +79,17 @@ Example, which begins with a bid of 5 at a price of 100:
   ..
 
 Exit status, with the text on standard error:
-  0  done; a line for each skipped line of the capture, as 'line 3: 22 Hex'
+  0  done; a line for each skipped line of the capture, as 'line 3: 22 Hex';
+     with --live also where packets were lost and made up for, as 'line 5: 51
+     Lost 1 5'
   1  out of memory (41 Memory), a failed write (42 Output after N bytes) or a
      failed read (43 Input)
   2  a fault of the command line, or a capture that is refused, as
      'line 2: 31 DuplicateId'";
 
 // Makes an option with a value.
-fn number_arg<'a>(
-    alloc: Global,
-    name: &'a str,
-    parser: ValueParser<'a>,
-    default: &'a str,
-    help: &'a str,
-) -> Arg<'a>
-    ensures rule { rule_of result ≡ option name.entry.now parser.entry default.entry.now }
+fn number_arg<'a>(alloc: Global, name: &'a str, parser: ValueParser<'a>, help: &'a str) -> Arg<'a>
+    ensures rule { rule_of result ≡ option name.entry.now parser.entry }
     ensures own { result.global ≡ false }
 {
     Arg::new(alloc, name)
@@ -89,27 +97,27 @@ fn number_arg<'a>(
         .value_name("N")
         .help(help)
         .value_parser(parser)
-        .default_value(default)
 }
 
 // Makes the option `--window`.
 fn window_arg<'a>(alloc: Global) -> Arg<'a>
-    ensures rule { rule_of result ≡ option (codes "window") (up_to 65536) (codes "1024") }
+    ensures rule { rule_of result
+        ≡ with_default (codes "1024") (option (codes "window") (up_to 65536)) }
     ensures own { result.global ≡ false }
 {
     let range = value_parser!(u32).range(1..=65536);
     let help = "A packet N or more ahead of the next gives the next up, 1 to 65536";
-    number_arg(alloc, "window", range, "1024", help)
+    number_arg(alloc, "window", range, help).default_value("1024")
 }
 
 // Makes the option `--workers`.
 fn workers_arg<'a>(alloc: Global) -> Arg<'a>
-    ensures rule { rule_of result ≡ option (codes "workers") (up_to 16) (codes "2") }
+    ensures rule { rule_of result ≡ option (codes "workers") (up_to 16) }
     ensures own { result.global ≡ false }
 {
     let range = value_parser!(u8).range(1..=16);
-    let help = "Threads that keep books, 1 to 16";
-    number_arg(alloc, "workers", range, "2", help)
+    let help = "Threads that keep books, 1 to 16, else 2";
+    number_arg(alloc, "workers", range, help)
 }
 
 // Makes the flag `--in-order`.
@@ -120,6 +128,17 @@ fn in_order_arg<'a>(alloc: Global) -> Arg<'a>
     Arg::new(alloc, "in-order")
         .long("in-order")
         .help("Take all records in the order of their lines, on one thread")
+        .action(ArgAction::SetTrue)
+}
+
+// Makes the flag `--live`.
+fn live_arg<'a>(alloc: Global) -> Arg<'a>
+    ensures rule { rule_of result ≡ flag (codes "live") }
+    ensures own { result.global ≡ false }
+{
+    Arg::new(alloc, "live")
+        .long("live")
+        .help("Print as the capture comes, on one thread")
         .action(ArgAction::SetTrue)
 }
 
@@ -145,6 +164,7 @@ fn command<'a>(alloc: Global) -> Result<Command<'a>, AllocError>
         .arg(window_arg(alloc))?
         .arg(workers_arg(alloc))?
         .arg(in_order_arg(alloc))?
+        .arg(live_arg(alloc))?
         .arg(join_arg(alloc))
 }
 
@@ -153,6 +173,18 @@ fn start_of(joins: bool) -> Start
     ensures { result ≡ start_asked joins }
 {
     if joins { Start::Join } else { Start::FromOne }
+}
+
+// Brings a number of workers that was read into its range.
+fn in_range(workers: Option<u8>) -> Option<u8>
+    ensures range { IfSome result AreWorkers }
+    ensures same { IfSome workers (λ n. 1 ≤ n → n ≤ 16 → result ≡ Some n) }
+    ensures none { workers ≡ None → result ≡ None }
+{
+    match workers {
+        Some(workers) => Some(workers.clamp(1, 16)),
+        None => None,
+    }
 }
 
 /// Reads the command line, of which the first word is the program's name.
@@ -168,11 +200,12 @@ pub fn read_settings(alloc: Global, words: &[&str]) -> Result<Settings, Error>
     let matches = command(alloc)?.try_get_matches_from(words)?;
     // What `clap` lets through lies in these ranges already.
     let window = matches.get_one::<u32>("window").unwrap_or(1024);
-    let workers = matches.get_one::<u8>("workers").unwrap_or(2);
+    let workers = matches.get_one::<u8>("workers");
     Ok(Settings {
         window: window.clamp(1, 65536),
-        workers: workers.clamp(1, 16),
+        workers: in_range(workers),
         in_order: matches.get_flag("in-order"),
+        live: matches.get_flag("live"),
         start: start_of(matches.get_flag("join")),
     })
 }

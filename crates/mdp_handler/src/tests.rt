@@ -342,42 +342,64 @@ fn skipped_lines_are_told_in_their_order(rt: HostRuntime) -> Result<(), Fail> {
 #[test]
 fn the_words_give_the_settings(rt: HostRuntime) -> Result<(), Fail> {
     let alloc = rt.alloc();
-    let lines: [(&[&str], Settings); 6] = [
-        (&["mdp_handler"], settings(1024, 2, false, Start::FromOne)),
+    let usual = Settings {
+        window: 1024,
+        workers: None,
+        in_order: false,
+        live: false,
+        start: Start::FromOne,
+    };
+    let lines: [(&[&str], Settings); 7] = [
+        (&["mdp_handler"], usual),
         (
             &["mdp_handler", "--window", "3"],
-            settings(3, 2, false, Start::FromOne),
+            Settings { window: 3, ..usual },
         ),
         (
             &["mdp_handler", "--in-order", "--workers=16"],
-            settings(1024, 16, true, Start::FromOne),
+            Settings {
+                workers: Some(16),
+                in_order: true,
+                ..usual
+            },
         ),
         (
             &["mdp_handler", "--window=65536", "--workers", "1"],
-            settings(65536, 1, false, Start::FromOne),
+            Settings {
+                window: 65536,
+                workers: Some(1),
+                ..usual
+            },
         ),
         (
             &["mdp_handler", "--join"],
-            settings(1024, 2, false, Start::Join),
+            Settings {
+                start: Start::Join,
+                ..usual
+            },
         ),
         (
             &["mdp_handler", "--in-order", "--join", "--window=4"],
-            settings(4, 2, true, Start::Join),
+            Settings {
+                window: 4,
+                in_order: true,
+                start: Start::Join,
+                ..usual
+            },
+        ),
+        (
+            &["mdp_handler", "--live", "--workers=2"],
+            Settings {
+                workers: Some(2),
+                live: true,
+                ..usual
+            },
         ),
     ];
     for (words, wanted) in lines {
         assert_eq!(rt; read_settings(alloc, words).expect(&rt, "settings"), wanted);
     }
     Ok(())
-}
-
-fn settings(window: u32, workers: u8, in_order: bool, start: Start) -> Settings {
-    Settings {
-        window,
-        workers,
-        in_order,
-        start,
-    }
 }
 
 #[test]

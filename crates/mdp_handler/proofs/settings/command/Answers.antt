@@ -10,4 +10,5 @@ returns c =
     let first = c.in_ok-arg.ensures.shape c.window_arg.ensures.own ∙ ap₂ with_rule named c.window_arg.ensures.rule in
     let second = c.in_ok-arg-2.ensures.shape c.workers_arg.ensures.own ∙ ap₂ with_rule first c.workers_arg.ensures.rule in
     let third = c.in_ok-arg-3.ensures.shape c.in_order_arg.ensures.own ∙ ap₂ with_rule second c.in_order_arg.ensures.rule in
-    IfOk-weaker c.arg-4.result _ _ (λ command added. added.shape c.join_arg.ensures.own ∙ ap₂ with_rule third c.join_arg.ensures.rule) c.arg-4.ensures
+    let fourth = c.in_ok-arg-4.ensures.shape c.live_arg.ensures.own ∙ ap₂ with_rule third c.live_arg.ensures.rule in
+    IfOk-weaker c.arg-5.result _ _ (λ command added. added.shape c.join_arg.ensures.own ∙ ap₂ with_rule fourth c.join_arg.ensures.rule) c.arg-5.ensures

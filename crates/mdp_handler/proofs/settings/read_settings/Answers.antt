@@ -1,5 +1,5 @@
-use Rattle.std.proofs.Common.{◌≡◌, ◌∙◌, ◌<◌, ◌^◌, ap, arith, sym, codes, map}
-use Rattle.std.specs.Prelude.{unwrap_or}
+use Rattle.std.proofs.Common.{◌≡◌, ◌∙◌, ◌<◌, ◌≤◌, ◌^◌, ℕ, Option, Some, ap, arith, subst, sym, codes, map}
+use Rattle.std.specs.Prelude.{IfSome, unwrap_or}
 use Rattle.std.specs.Str.Parse.{ParsesUnsigned, ExplainsUnsignedError, HasUnsignedDigitsIfOk, digits_value, without_leading_plus}
 use Rattle.clap.specs.Words.{Text, fault_of, found_of, is_simple, is_simple_and_free, matches_of, one_of, one_text, rows_of}
 use Rattle.clap.proofs.WalkLemmas.{one_text-rows}
@@ -33,27 +33,29 @@ returns-clause-settings c =
             omega (arith, value, c.clamp.ensures, low, high),
       );
       workers = (
-        λ is.
-            let value : c.unwrap_or-workers.result ≡ 2 = c.unwrap_or-workers.ensures ∙ ap (λ o. unwrap_or o 2) (c.get_one-2.ensures.none (read (codes "workers") ∙ is)) in
-            omega (arith, value, c.clamp-2.ensures),
+        λ is. c.in_range.ensures.none (c.get_one-workers.ensures.none (read (codes "workers") ∙ is)),
         λ text is numeral low high.
             let digits = digits_value 10 (without_leading_plus text) in
             let fits : digits < 2 ^ 8 = omega (arith, high) in
-            let one = number_read _ (λ bs r. ParsesUnsigned 8 10 bs r × ExplainsUnsignedError 10 bs r × HasUnsignedDigitsIfOk bs r) 8 text c.get_one-2.result (λ x g. g.0) (c.get_one-2.ensures.value text (read (codes "workers") ∙ is)) numeral fits in
-            let value : c.unwrap_or-workers.result ≡ digits = c.unwrap_or-workers.ensures ∙ ap (λ o. unwrap_or o 2) one in
-            omega (arith, value, c.clamp-2.ensures, low, high),
+            let one = number_read _ (λ bs r. ParsesUnsigned 8 10 bs r × ExplainsUnsignedError 10 bs r × HasUnsignedDigitsIfOk bs r) 8 text c.get_one-workers.result (λ x g. g.0) (c.get_one-workers.ensures.value text (read (codes "workers") ∙ is)) numeral fits in
+            (subst (λ (o : Option ℕ). IfSome o (λ n. 1 ≤ n → n ≤ 16 → c.in_range.result ≡ Some n)) one c.in_range.ensures.same) low high,
       );
       in_order = (
         λ is. c.get_flag.ensures.value (read (codes "in-order") ∙ is),
         λ is. c.get_flag.ensures.other (read (codes "in-order") ∙ is),
         λ is. c.get_flag.ensures.none (read (codes "in-order") ∙ is),
       );
+      live = (
+        λ is. c.get_flag-2.ensures.value (read (codes "live") ∙ is),
+        λ is. c.get_flag-2.ensures.other (read (codes "live") ∙ is),
+        λ is. c.get_flag-2.ensures.none (read (codes "live") ∙ is),
+      );
       start = (
-        c.get_flag-2.result,
+        c.get_flag-3.result,
         (
-          λ is. c.get_flag-2.ensures.value (read (codes "join") ∙ is),
-          λ is. c.get_flag-2.ensures.other (read (codes "join") ∙ is),
-          λ is. c.get_flag-2.ensures.none (read (codes "join") ∙ is),
+          λ is. c.get_flag-3.ensures.value (read (codes "join") ∙ is),
+          λ is. c.get_flag-3.ensures.other (read (codes "join") ∙ is),
+          λ is. c.get_flag-3.ensures.none (read (codes "join") ∙ is),
         ),
         c.start_of.ensures,
       );

@@ -1,0 +1,246 @@
+//! Captures that are handled as they come: pieces of each size, late instruments, and each read and allocation failing
+//! in turn.
+
+use crate::program::program;
+use mdp_capture::CountingReader;
+use refusing::Refusing;
+use std::alloc::Global;
+use std::io;
+use std::io::{ErrorKind, Read};
+use std::process::Abort;
+use std::sync::Wait;
+use std::test::Fail;
+use std::thread::Threads;
+use worked_runs::{
+    Kept, PLAIN, PLAIN_TEXT, RECOVERY, RECOVERY_TEXT, REFUSED, REFUSED_TEXT, SPREAD, SPREAD_TEXT,
+};
+
+/// How many bytes a read gives at most.
+const SIZES: [usize; 5] = [1, 2, 7, 4096, usize::MAX];
+
+const LIVE: &[&str] = &["mdp_handler", "--live", "--window=4"];
+
+/// What is told of the recovery.
+const RECOVERY_NOTES: &[u8] = b"line 7: 51 Lost 1 5\nline 8: 52 Found 1 3\n";
+
+// Gives at most so many bytes a call, and fails at one call, from 1; at 0 at none.
+#[derive(Drop)]
+struct Pieces<'a> {
+    rest: &'a [u8],
+    most: usize,
+    calls: u64,
+    fail_at: u64,
+}
+
+impl<'a> Pieces<'a> {
+    fn of(text: &'a [u8], most: usize, fail_at: u64) -> Pieces<'a> {
+        Pieces {
+            rest: text,
+            most,
+            calls: 0,
+            fail_at,
+        }
+    }
+}
+
+impl<'a> Read for Pieces<'a> {
+    fn read(&mut self, buf: &mut [u8]) -> io::Result<usize> {
+        self.calls = self.calls.saturating_add(1);
+        if self.calls == self.fail_at {
+            return Err(io::Error::from(ErrorKind::Other));
+        }
+        let count = self.rest.len().min(self.most).min(buf.len());
+        buf[..count].copy_from_slice(&self.rest[..count]);
+        self.rest = &self.rest[count..];
+        Ok(count)
+    }
+}
+
+/// What a run came to.
+#[derive(Drop)]
+struct Ended {
+    status: u8,
+    text: Vec<u8>,
+    told: Vec<u8>,
+}
+
+// Runs over pieces of a capture.
+fn run_over<R: Threads + Wait + Sync>(
+    rt: &R,
+    alloc: Global,
+    words: &[&str],
+    pieces: Pieces<'_>,
+) -> Ended {
+    let mut input = CountingReader::new(pieces);
+    let mut output = Kept::new(alloc);
+    let mut faults = Kept::new(alloc);
+    let status = program(
+        rt,
+        alloc,
+        alloc,
+        words,
+        &mut input,
+        &mut output,
+        &mut faults,
+    );
+    Ended {
+        status,
+        text: output.bytes,
+        told: faults.bytes,
+    }
+}
+
+// Runs over a capture in pieces of each size.
+fn run_each_size<R: Threads + Wait + Sync + Abort>(
+    rt: &R,
+    alloc: Global,
+    capture: &[u8],
+    status: u8,
+    text: &[u8],
+    told: &[u8],
+) -> Result<(), Fail> {
+    for size in SIZES {
+        let ended = run_over(rt, alloc, LIVE, Pieces::of(capture, size, 0));
+        assert_eq!(rt; ended.status, status);
+        assert_eq!(rt; ended.text.as_slice(), text);
+        assert_eq!(rt; ended.told.as_slice(), told);
+    }
+    Ok(())
+}
+
+// Gives a text and then another.
+fn both(alloc: Global, front: &[u8], back: &[u8]) -> Result<Vec<u8>, Fail> {
+    let mut text = Vec::new(alloc);
+    text.extend_from_slice(front)?;
+    text.extend_from_slice(back)?;
+    Ok(text)
+}
+
+// Lends a text without its last line.
+fn without_end(text: &[u8]) -> &[u8] {
+    let Some(end) = text.iter().rposition(|byte| *byte == b'Z') else {
+        return text;
+    };
+    &text[..end]
+}
+
+#[test]
+fn pieces_of_each_size_print_the_same(rt: HostRuntime) -> Result<(), Fail> {
+    let alloc = rt.alloc();
+    run_each_size(&rt, alloc, PLAIN, 0, PLAIN_TEXT, b"")?;
+    run_each_size(&rt, alloc, SPREAD, 0, SPREAD_TEXT, b"")?;
+    run_each_size(&rt, alloc, REFUSED, 0, REFUSED_TEXT, b"")?;
+    run_each_size(&rt, alloc, RECOVERY, 0, RECOVERY_TEXT, RECOVERY_NOTES)
+}
+
+#[test]
+fn a_last_line_needs_no_line_feed(rt: HostRuntime) -> Result<(), Fail> {
+    let alloc = rt.alloc();
+    let cut = &RECOVERY[..RECOVERY.len() - 1];
+    run_each_size(&rt, alloc, cut, 0, RECOVERY_TEXT, RECOVERY_NOTES)
+}
+
+#[test]
+fn a_late_instrument_ends_the_text_before_it(rt: HostRuntime) -> Result<(), Fail> {
+    let alloc = rt.alloc();
+    let late = both(alloc, PLAIN, b"Q\nI 9 LATE O\nA 00\n")?;
+    let told = b"line 3: 21 LineForm\nline 4: 35 InstrumentLate\n";
+    run_each_size(&rt, alloc, &late, 2, without_end(PLAIN_TEXT), told)?;
+    let last = both(alloc, PLAIN, b"I 9 LATE O")?;
+    let told = b"line 3: 35 InstrumentLate\n";
+    run_each_size(&rt, alloc, &last, 2, without_end(PLAIN_TEXT), told)
+}
+
+#[test]
+fn no_instrument_prints_nothing(rt: HostRuntime) -> Result<(), Fail> {
+    let alloc = rt.alloc();
+    run_each_size(&rt, alloc, b"", 2, b"", b"34 None\n")?;
+    run_each_size(
+        &rt,
+        alloc,
+        b"Q\nA 00\nX\n",
+        2,
+        b"",
+        b"line 1: 21 LineForm\n34 None\n",
+    )?;
+    run_each_size(
+        &rt,
+        alloc,
+        b"A 00\nI 1 NEAR O\n",
+        2,
+        b"",
+        b"line 2: 35 InstrumentLate\n",
+    )?;
+    run_each_size(
+        &rt,
+        alloc,
+        b"I 1 A O\nI 1 B O\n",
+        2,
+        b"",
+        b"line 2: 31 DuplicateId\n",
+    )
+}
+
+#[test]
+fn instruments_alone_print_the_end(rt: HostRuntime) -> Result<(), Fail> {
+    let alloc = rt.alloc();
+    run_each_size(&rt, alloc, b"I 1 NEAR O\n", 0, b"Z 1 live\n", b"")?;
+    let joins = ["mdp_handler", "--join", "--live"];
+    let ended = run_over(&rt, alloc, &joins, Pieces::of(b"I 1 NEAR O", 4, 0));
+    assert_eq!(rt; ended.status, 0);
+    assert_eq!(rt; ended.text.as_slice(), b"Z 1 lost\n".as_slice());
+    assert_eq!(rt; ended.told.as_slice(), b"54 NoSnapshot 1 NEAR\n".as_slice());
+    Ok(())
+}
+
+#[test]
+fn each_failed_read_leaves_a_beginning(rt: HostRuntime) -> Result<(), Fail> {
+    let alloc = rt.alloc();
+    for fail_at in 1..1000u64 {
+        let ended = run_over(&rt, alloc, LIVE, Pieces::of(RECOVERY, 50, fail_at));
+        if ended.status == 0 {
+            assert_eq!(rt; ended.text.as_slice(), RECOVERY_TEXT);
+            assert_eq!(rt; ended.told.as_slice(), RECOVERY_NOTES);
+            assert!(rt; fail_at > 20);
+            return Ok(());
+        }
+        assert_eq!(rt; ended.status, 1);
+        assert!(rt; without_end(RECOVERY_TEXT).starts_with(&ended.text));
+        assert!(rt; ended.told.ends_with(b"43 Input\n"));
+        let notes = &ended.told[..ended.told.len() - b"43 Input\n".len()];
+        assert!(rt; RECOVERY_NOTES.starts_with(notes));
+    }
+    Err("no run without a failed read".into())
+}
+
+#[test]
+fn each_refused_allocation_leaves_a_beginning(rt: HostRuntime) -> Result<(), Fail> {
+    let alloc = rt.alloc();
+    for number in 1..10_000u64 {
+        let heap = Refusing::new(alloc, number);
+        let mut input = CountingReader::new(Pieces::of(RECOVERY, 50, 0));
+        let mut output = Kept::new(alloc);
+        let mut faults = Kept::new(alloc);
+        let status = program(
+            &rt,
+            alloc,
+            &heap,
+            LIVE,
+            &mut input,
+            &mut output,
+            &mut faults,
+        );
+        if !heap.has_refused() {
+            assert_eq!(rt; status, 0);
+            assert_eq!(rt; output.bytes.as_slice(), RECOVERY_TEXT);
+            assert!(rt; number > 20);
+            return Ok(());
+        }
+        assert_eq!(rt; status, 1);
+        assert!(rt; RECOVERY_TEXT.starts_with(&output.bytes));
+        assert!(rt; faults.bytes.ends_with(b"41 Memory\n"));
+        let notes = &faults.bytes[..faults.bytes.len() - b"41 Memory\n".len()];
+        assert!(rt; RECOVERY_NOTES.starts_with(notes));
+    }
+    Err("no run without a refused allocation".into())
+}
