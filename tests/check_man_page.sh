@@ -69,9 +69,9 @@ for path in ("crates/mdp_sbe/src/refusal.rt", "crates/mdp_capture/src/fault.rt",
         count += 1
         judge(re.search(rf"\b{numbers[which]} {names[which]}\b", plain) is not None, f"lacks {numbers[which]} {names[which]}")
 listed = re.findall(r"\b(\d+ [A-Z]\w+)", re.search(r"^\.SH NUMBERS\n(.*?)^\.SH ", page, re.S | re.M).group(1))
-judge(len(listed) == count + 3, f"lists {len(listed)} numbers, where the sources have {count}, and three more stand for faults of a run")
+judge(len(listed) == count + 7, f"lists {len(listed)} numbers, where the sources have {count}, and seven more stand for faults of a run and notes")
 source = open("crates/mdp_handler/src/faults.rt", encoding="utf-8").read()
-for words in re.findall(r"b\"(4\d \w+)", source):
+for words in re.findall(r"\"([45]\d \w+)", source):
     stands(words, "crates/mdp_handler/src/faults.rt")
 version = re.search(r"\.version\(\"(.*?)\"\)", open("crates/mdp_handler/src/settings.rt", encoding="utf-8").read()).group(1)
 stands(f"mdp_handler {version}")

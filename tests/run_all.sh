@@ -1,6 +1,6 @@
 #!/usr/bin/env bash
 # Proves everything from nothing and runs all tests: the merge gate, then the examples, the demonstration of the board, a pcap file
-# where tshark is there, the rows, cut and bent datagrams, the refusals of the system, refused allocations and the manual's commands on the
+# where tshark is there, the rows, captures as they come, cut and bent datagrams, the refusals of the system, refused allocations and the manual's commands on the
 # programs that the gate has built, the samples of captured traffic beside the crate's, the manual page beside the help, and a look at the documents: the names in docs/DEFINITIONS.md, English
 # and links, and the code that they show. The last line
 # is 'N passed, M failed', over all of them. The exit status is 1 if any failed.
@@ -95,6 +95,7 @@ run_part "the pcap file" run_pcap
 run_part "the bench" run_bench
 run_part "the samples of captured traffic" tests/check_pcap_samples.py
 run_part "the rows" tests/run_rows.sh "$program"
+run_part "captures as they come" tests/run_live.py "$program"
 run_part "cut and bent datagrams" tests/run_cut_and_bent.sh "$program" crates/datagram_rows/out/datagram_rows
 run_part "the refusals of the system" tests/run_refusals.sh "$program"
 run_part "refused allocations" tests/run_refused_allocations.sh "$program"

@@ -1,8 +1,8 @@
 #!/usr/bin/env bash
 # Runs a built program with each of its allocations refused in turn, those of the command line too: run_refused_allocations.sh PROGRAM
 #
-# A run in which one was refused ends within ten seconds: with status 1, the line `41 Memory` and a beginning of the text; or with
-# status 2 and no text, where the words could not be read; or well and with the whole text, where the kit did without it, as where it
+# A run in which one was refused ends within ten seconds: with status 1, the line `41 Memory` (with `--live` after what was told before
+# it) and a beginning of the text; or with status 2 and no text, where the words could not be read; or well and with the whole text, where the kit did without it, as where it
 # takes room for the words ahead. Prints each run that fails, a word where this machine can't do it, then one line 'N passed, M failed'.
 # The exit status is 1 if any failed.
 set -u
@@ -22,18 +22,23 @@ failed=0
 # Whether the last run, whose words are given, ended as one must in which an allocation was refused.
 has_told_it() {
     case $(cat "$scratch/status") in
-        1) [ "$(cat "$scratch/err")" = "41 Memory" ] && cmp -s -n "$(stat -c %s "$scratch/out")" "$scratch/out" "$text" ;;
+        1) [ "$(tail -n "$last" "$scratch/err")" = "41 Memory" ] && cmp -s -n "$(stat -c %s "$scratch/out")" "$scratch/out" "$text" ;;
         2) [ ! -s "$scratch/out" ] ;;
-        0) [ ! -s "$scratch/err" ] && cmp -s "$scratch/out" "$text" && went_well=$((went_well + 1)) ;;
+        0) cmp -s "$scratch/err" "$told" && cmp -s "$scratch/out" "$text" && went_well=$((went_well + 1)) ;;
         *) false ;;
     esac
 }
 
 # Runs over the row $1 with the words behind it, with each allocation refused in turn, until none is.
 refuse_each() {
-    local row=$here/rows/$1 number text went_well=0
+    local row=$here/rows/$1 number text told went_well=0 last=+1
     shift
     text=$row/stdout
+    told=$row/stderr
+    if [ "${*: -1}" = --live ]; then
+        last=1
+        [ ! -e "$row/stderr.live" ] || told=$row/stderr.live
+    fi
     for ((number = 1; number < 5000; number++)); do
         rm -f "$scratch/mark"
         timeout 10 env REFUSED_ALLOCATION="$number" REFUSED_MARK="$scratch/mark" LD_PRELOAD="$library" \
@@ -57,7 +62,7 @@ refuse_each() {
 }
 
 if cc -shared -fPIC -O1 -o "$library" "$here/refuse_allocation.c" 2>"$scratch/err"; then
-    for words in --in-order --workers=1 --workers=2 --workers=3; do
+    for words in --in-order --live --workers=1 --workers=2 --workers=3; do
         refuse_each recovery_unequal_snapshots --window=4 "$words"
         refuse_each malformed_beside_good "$words"
         refuse_each two_legs_and_a_spread "$words"

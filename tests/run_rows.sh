@@ -1,7 +1,8 @@
 #!/usr/bin/env bash
 # Runs the rows of tests/rows against a built program: run_rows.sh PROGRAM
 #
-# A row with a file `merges` has one text for every merge of its feeds: it is run over threads too, with 1, 2 and 16 workers.
+# Each row is run with `--live` too: its text is the same, and standard error has the row's `stderr.live` where there is one. A row with a
+# file `merges` has one text for every merge of its feeds: it is run over threads too, with 1, 2 and 16 workers.
 # Prints each run that fails with how it differs, then one line 'N passed, M failed'. The exit status is 1 if any failed.
 set -u
 
@@ -30,8 +31,10 @@ show_difference() {
 
 # Runs the row $1 with the words behind it, and prints what differs; nothing where all is as wanted.
 run_row() {
-    local row=$1 status wanted text
+    local row=$1 status wanted text told
     shift
+    told=$row/stderr
+    [ "${*: -1}" != --live ] || [ ! -e "$row/stderr.live" ] || told=$row/stderr.live
     timeout 60 "$program" "$@" <"$row/capture" >"$scratch/out" 2>"$scratch/err"
     status=$?
     wanted=$(cat "$row/status")
@@ -44,9 +47,9 @@ run_row() {
     fi
     if [ -e "$row/stderr.any" ]; then
         [ -s "$scratch/err" ] || echo "standard error is empty"
-    elif ! cmp -s "$scratch/err" "$row/stderr"; then
+    elif ! cmp -s "$scratch/err" "$told"; then
         echo "standard error:"
-        show_difference "$scratch/err" "$row/stderr"
+        show_difference "$scratch/err" "$told"
     fi
 }
 
@@ -84,6 +87,7 @@ for row in "$rows"/*/; do
     words=()
     [ ! -e "$row/args" ] || mapfile -t words <"$row/args"
     judge "$row" ${words[@]+"${words[@]}"}
+    judge "$row" ${words[@]+"${words[@]}"} --live
     [ ! -e "$row/merges" ] || judge_over_threads "$row" ${words[@]+"${words[@]}"}
 done
 if [ "$passed" -eq 0 ] && [ "$failed" -eq 0 ]; then
