@@ -1,6 +1,6 @@
 -- What goes out of a capture that is handled as it comes.
 use Rattle.std.proofs.Common.{◌≡◌, ◌+◌, ◌-◌, ℕ, List, [], ◌∷◌, ◌++◌, length, take, Option, Some, None, Result, Ok, Err, Bool, true, false, refl, sym, ap, subst, ◌∙◌, append_assoc, append-nil, length-append, arith}
-use Rattle.std.specs.Prelude.{IfErr, map}
+use Rattle.std.specs.Prelude.{IfErr, OnOk, map}
 use Rattle.std.specs.List.{enumerate_from, flat_map}
 use Rattle.std.specs.Io.KnownBytes.{Consumes, IsAtEnd}
 use Rattle.std.specs.Str.Lines.{lines}
@@ -28,7 +28,7 @@ use Rattle.mdp_pipeline.proofs.TextOrder.{begins_in_text_order}
 use Rattle.mdp_capture.proofs.Following.{comes_to}
 use Rattle.mdp_pipeline.proofs.StreamedText.{begins_goes, brings_there, ended_shows, front_there, front_whole, instruments_there, lacks_one, makes_capture, numbered-append, refused_there, shows_all, shows_sent}
 use Rattle.mdp_handler.specs.Faults.{Tells, end_line, note_line, note_lines}
-use Rattle.mdp_handler.specs.Live.{HasBegunLines, HasEnded, HasShown, IsInput, IsRefusedBehind, ReadsOnce, SoFar, StandsAtEnd, Went, and_then, reads_failed, went}
+use Rattle.mdp_handler.specs.Live.{EndsFor, HasBegunLines, HasEnded, HasShown, IsInput, IsRefusedBehind, ReadsOnce, SoFar, StandsAtEnd, Went, and_then, reads_failed, went}
 use Rattle.mdp_handler.specs.declared.live.LiveFault.{LiveFault}
 use Rattle.mdp_handler.proofs.Telling.{tells_both}
 
@@ -376,6 +376,37 @@ input_there Q (Some whole) (Some left) text follows is = (text ++ left, follows,
 pub reads_none : {T : Type 0} (result : Result T LiveFault) (before after : ℕ) → after ≡ before → IfErr result (λ fault. reads_failed fault ≡ 0) → ReadsOnce result before after
 reads_none (Ok x) before after same unread = same
 reads_none (Err fault) before after same unread = rw unread (omega (arith, same))
+
+-- ---- the end of a run, of a text that has ended or of all that is read
+
+module _ {A F : Type 0} (failed : F → ℕ) (taken : F → List ℕ) where
+  pub then_ended : {T : Type 0} (result : Result T LiveFault) (before mid after : List ℕ) (heard said told : F) (old new : StreamedRun A)
+      → ((setup : Setup) (text start : List ℕ) (first : F) → SoFar setup text (went start before (Tells failed taken first heard)) old → StandsAtEnd setup text (went start mid (Tells failed taken first said)) new)
+      → OnOk result ((setup : Setup) (text start : List ℕ) (first : F) → StandsAtEnd setup text (went start mid (Tells failed taken first said)) new → HasEnded setup text (went start after (Tells failed taken first told)))
+      → OnOk result ((setup : Setup) (text start : List ℕ) (first : F) → SoFar setup text (went start before (Tells failed taken first heard)) old → HasEnded setup text (went start after (Tells failed taken first told)))
+  then_ended (Ok x) before mid after heard said told old new handled ends = λ setup text start first so_far. ends setup text start first (handled setup text start first so_far)
+  then_ended (Err fault) before mid after heard said told old new handled ends = tt
+
+  pub then_failed : {T : Type 0} (result : Result T LiveFault) (before mid after : List ℕ) (heard said told : F) (old new : StreamedRun A)
+      → ((setup : Setup) (text start : List ℕ) (first : F) → SoFar setup text (went start before (Tells failed taken first heard)) old → StandsAtEnd setup text (went start mid (Tells failed taken first said)) new)
+      → IfErr result (λ fault. (setup : Setup) (text start : List ℕ) (first : F) → StandsAtEnd setup text (went start mid (Tells failed taken first said)) new → EndsFor setup text (went start after (Tells failed taken first told)) fault)
+      → IfErr result (λ fault. (setup : Setup) (text start : List ℕ) (first : F) → SoFar setup text (went start before (Tells failed taken first heard)) old → EndsFor setup text (went start after (Tells failed taken first told)) fault)
+  then_failed (Ok x) before mid after heard said told old new handled ends = tt
+  then_failed (Err fault) before mid after heard said told old new handled ends = λ setup text start first so_far. ends setup text start first (handled setup text start first so_far)
+
+  pub input_ended : {T : Type 0} (result : Result T LiveFault) (setup : Setup) (whole : Option (List ℕ)) (text start before after : List ℕ) (heard told first : F) (run : StreamedRun A) → IsInput whole text
+      → SoFar setup text (went start before (Tells failed taken first heard)) run
+      → OnOk result ((setup : Setup) (text start : List ℕ) (first : F) → SoFar setup text (went start before (Tells failed taken first heard)) run → HasEnded setup text (went start after (Tells failed taken first told)))
+      → OnOk result ((w : List ℕ) × IsInput whole w × HasEnded setup w (went start after (Tells failed taken first told)))
+  input_ended (Ok x) setup whole text start before after heard told first run is so_far ends = (text, is, ends setup text start first so_far)
+  input_ended (Err fault) setup whole text start before after heard told first run is so_far ends = tt
+
+  pub input_failed : {T : Type 0} (result : Result T LiveFault) (setup : Setup) (whole : Option (List ℕ)) (text start before after : List ℕ) (heard told first : F) (run : StreamedRun A) → IsInput whole text
+      → SoFar setup text (went start before (Tells failed taken first heard)) run
+      → IfErr result (λ fault. (setup : Setup) (text start : List ℕ) (first : F) → SoFar setup text (went start before (Tells failed taken first heard)) run → EndsFor setup text (went start after (Tells failed taken first told)) fault)
+      → IfErr result (λ fault. (w : List ℕ) × IsInput whole w × EndsFor setup w (went start after (Tells failed taken first told)) fault)
+  input_failed (Ok x) setup whole text start before after heard told first run is so_far ends = tt
+  input_failed (Err fault) setup whole text start before after heard told first run is so_far ends = (text, is, ends setup text start first so_far)
 
 -- ---- why it ended is told behind all else
 

@@ -1,6 +1,6 @@
 use Rattle.std.proofs.Common.{◌≡◌, ◌<◌, ◌++◌, ◌+◌, ◌-◌, [], ℕ, List, Err, length, take, refl, ap, sym, ◌∙◌, subst, arith}
 use Rattle.std.specs.Prelude.{IfErr}
-use Rattle.std.proofs.lemmas.Result.{err_from_is_err_and, IfErr-weaker, on_ok_weaker}
+use Rattle.std.proofs.lemmas.Result.{err_from_is_err_and}
 use Rattle.mdp_crew.specs.Faults.{written_before}
 use Rattle.mdp_capture.proofs.Following.{goes_on, starts, whole_buffer}
 use Rattle.mdp_handler.specs.Faults.{Tells}
@@ -8,7 +8,7 @@ use Rattle.mdp_handler.specs.Live.{CountsTo, EndsFor, FailsOnce, went}
 use Rattle.mdp_handler.specs.declared.live.LiveFault.TheVariants.{Input}
 use Rattle.mdp_handler.specs.Outcome.{setup_asked}
 use Rattle.mdp_handler.proofs.Telling.{tells_nothing}
-use Rattle.mdp_handler.proofs.GoingOut.{begins_so_far, begun_none, input_read, input_text, input_there, reads_none, stays_there}
+use Rattle.mdp_handler.proofs.GoingOut.{begins_so_far, begun_none, input_ended, input_failed, input_read, input_text, input_there, reads_none, stays_there}
 use Rattle.mdp_handler.proofs.live.handle_all.Goals as goal
 
 pub loop-run-init : goal.loop-run-init
@@ -44,11 +44,10 @@ returns-in-Ok-eq0-clause-done g c =
     let none = c.in-Ok-eq0.field-0-test in
     let room : 0 < length c.read.new.buf = omega (arith, c.read.auto.buf, c.as_mut_slice.ensures.len, c.loop-run.invariant.room) in
     let read = rw none at c.in-Ok-eq0.ensures.bytes.0 in
-    on_ok_weaker c.handle_end.result (λ ends. (
-      at.0,
-      input_read (g.I.CountedRead.rest c.args.input.now) (g.I.CountedRead.rest c.loop-run.input) (g.I.CountedRead.rest c.read.new.self) at.0 at.2 read (c.in-Ok-eq0.ensures.bytes.1 none room),
-      ends (setup_asked c.args.settings) at.0 (g.O.CountedWrite.taken c.args.output.now) c.args.faults.now at.1,
-    )) c.handle_end.ensures.done
+    input_ended g.F.CountedWrite.failed g.F.CountedWrite.taken c.handle_end.result (setup_asked c.args.settings) (g.I.CountedRead.rest c.args.input.now) at.0
+    (g.O.CountedWrite.taken c.args.output.now) (g.O.CountedWrite.taken c.loop-run.output) (g.O.CountedWrite.taken c.handle_end.new.output) c.loop-run.faults c.handle_end.new.faults c.args.faults.now c.loop-run.run
+    (input_read (g.I.CountedRead.rest c.args.input.now) (g.I.CountedRead.rest c.loop-run.input) (g.I.CountedRead.rest c.read.new.self) at.0 at.2 read (c.in-Ok-eq0.ensures.bytes.1 none room))
+    at.1 c.handle_end.ensures.done
 
 pub returns-in-Ok-eq0-clause-ended : goal.returns-in-Ok-eq0-clause-ended
 returns-in-Ok-eq0-clause-ended g c =
@@ -56,11 +55,10 @@ returns-in-Ok-eq0-clause-ended g c =
     let none = c.in-Ok-eq0.field-0-test in
     let room : 0 < length c.read.new.buf = omega (arith, c.read.auto.buf, c.as_mut_slice.ensures.len, c.loop-run.invariant.room) in
     let read = rw none at c.in-Ok-eq0.ensures.bytes.0 in
-    IfErr-weaker c.handle_end.result _ _ (λ fault ends. (
-      at.0,
-      input_read (g.I.CountedRead.rest c.args.input.now) (g.I.CountedRead.rest c.loop-run.input) (g.I.CountedRead.rest c.read.new.self) at.0 at.2 read (c.in-Ok-eq0.ensures.bytes.1 none room),
-      ends (setup_asked c.args.settings) at.0 (g.O.CountedWrite.taken c.args.output.now) c.args.faults.now at.1,
-    )) c.handle_end.ensures.ended
+    input_failed g.F.CountedWrite.failed g.F.CountedWrite.taken c.handle_end.result (setup_asked c.args.settings) (g.I.CountedRead.rest c.args.input.now) at.0
+    (g.O.CountedWrite.taken c.args.output.now) (g.O.CountedWrite.taken c.loop-run.output) (g.O.CountedWrite.taken c.handle_end.new.output) c.loop-run.faults c.handle_end.new.faults c.args.faults.now c.loop-run.run
+    (input_read (g.I.CountedRead.rest c.args.input.now) (g.I.CountedRead.rest c.loop-run.input) (g.I.CountedRead.rest c.read.new.self) at.0 at.2 read (c.in-Ok-eq0.ensures.bytes.1 none room))
+    at.1 c.handle_end.ensures.ended
 
 pub returns-in-Ok-eq0-clause-counted : goal.returns-in-Ok-eq0-clause-counted
 returns-in-Ok-eq0-clause-counted g c =

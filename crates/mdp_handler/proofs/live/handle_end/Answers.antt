@@ -1,15 +1,17 @@
 use Rattle.std.proofs.Common.{◌≡◌, ℕ, subst}
-use Rattle.std.proofs.lemmas.Result.{IfErr-weaker, on_ok_weaker}
 use Rattle.mdp_handler.specs.Live.{FailsOnce}
+use Rattle.mdp_handler.proofs.GoingOut.{then_ended, then_failed}
 use Rattle.mdp_handler.proofs.live.handle_end.Goals as goal
 
 pub returns-clause-done : goal.returns-clause-done
 returns-clause-done g c =
-    on_ok_weaker c.finish.result (λ ends setup text start first so_far. ends setup text start first (c.in_ok-handle_last_line.ensures.handled setup text start first so_far)) c.finish.ensures.done
+    then_ended g.F.CountedWrite.failed g.F.CountedWrite.taken c.finish.result (g.O.CountedWrite.taken c.args.output.now) (g.O.CountedWrite.taken c.handle_last_line.new.output) (g.O.CountedWrite.taken c.finish.new.output)
+    c.args.faults.now c.handle_last_line.new.faults c.finish.new.faults c.args.run c.handle_last_line.new.run c.in_ok-handle_last_line.ensures.handled c.finish.ensures.done
 
 pub returns-clause-ended : goal.returns-clause-ended
 returns-clause-ended g c =
-    IfErr-weaker c.finish.result _ _ (λ fault ends setup text start first so_far. ends setup text start first (c.in_ok-handle_last_line.ensures.handled setup text start first so_far)) c.finish.ensures.ended
+    then_failed g.F.CountedWrite.failed g.F.CountedWrite.taken c.finish.result (g.O.CountedWrite.taken c.args.output.now) (g.O.CountedWrite.taken c.handle_last_line.new.output) (g.O.CountedWrite.taken c.finish.new.output)
+    c.args.faults.now c.handle_last_line.new.faults c.finish.new.faults c.args.run c.handle_last_line.new.run c.in_ok-handle_last_line.ensures.handled c.finish.ensures.ended
 
 pub returns-clause-counted : goal.returns-clause-counted
 returns-clause-counted g c = c.finish.ensures.counted
