@@ -1,6 +1,8 @@
 # make try            runs the program on an example, with no proof
 # make run            proves and builds the program, and runs it on an example
 # make install        puts the built program and its manual page below DESTDIR and PREFIX
+# make library        proves and builds the library for C in build/: archives, shared library, header
+# make library-test   builds and runs its callers in C, C++, Rust and Python
 # make test           the merge gate and all other tests; the last line is 'N passed, M failed'
 # make bench          the program beside a handler in plain Rust, on PRESET=day; bench/README.md has the others
 # make wrong-bodies   tries the wrong bodies that the gate has no time for; CRATE=NAME: those of one crate
@@ -12,7 +14,7 @@ PREFIX := /usr/local
 DESTDIR :=
 PRESET := day
 
-.PHONY: try run install test bench wrong-bodies build
+.PHONY: try run install library library-test test bench wrong-bodies build
 
 # What rt says is shown only where the run did not end well.
 try:
@@ -30,6 +32,12 @@ install:
 	@[ -x $(program) ] || { echo "there is no $(program); make run builds it" >&2; exit 1; }
 	install -D -m 755 $(program) "$(DESTDIR)$(PREFIX)/bin/mdp_handler"
 	install -D -m 644 $(page) "$(DESTDIR)$(PREFIX)/share/man/man1/mdp_handler.1"
+
+library:
+	@tools/library.sh
+
+library-test:
+	@tests/run_library.sh $(wildcard $(program))
 
 test:
 	@tests/run_all.sh

@@ -1,7 +1,8 @@
 #!/usr/bin/env bash
-# Checks the code that the documents show: each piece of it stands in a source file of a crate. A piece is what lies between empty lines,
-# and lines `..`, of a block `rust` of README.md, docs/*.md or crates/*/README.md. Spaces, ends of lines, comments and a comma before a
-# closing bracket don't count. Tells each piece that stands nowhere, and then 'N passed, M failed'. The exit status is 1 if any failed.
+# Checks the code that the documents show: each piece of it stands in a source file of a crate or of bindings/. A piece is what lies
+# between empty lines, and lines `..`, of a block `rust`, `c`, `cpp` or `python` of README.md, docs/*.md or crates/*/README.md. Spaces,
+# ends of lines, comments and a comma before a closing bracket don't count. Tells each piece that stands nowhere, and then
+# 'N passed, M failed'. The exit status is 1 if any failed.
 set -u
 
 cd "$(dirname "$(realpath "$0")")/.." || exit 2
@@ -37,11 +38,11 @@ awk '
         piece = ""
     }
 
-    FILENAME ~ /\.rt$/ { source[FILENAME] = source[FILENAME] code($0); next }
+    FILENAME ~ /\.(rt|h|c|hpp|cc|rs|py)$/ { source[FILENAME] = source[FILENAME] code($0); next }
 
     !ready { for (name in source) source[name] = plain(source[name]); ready = 1 }
 
-    /^```/ { judge(); inside = !inside && $0 == "```rust"; next }
+    /^```/ { judge(); inside = !inside && $0 ~ /^```(rust|c|cpp|python)$/; next }
 
     !inside { next }
 
@@ -57,4 +58,5 @@ awk '
         printf "%d passed, %d failed\n", passed, failed
         exit failed > 0
     }
-' $(find crates -path '*/src/*' -name '*.rt') README.md docs/*.md crates/*/README.md
+' $(find crates -path '*/src/*' -name '*.rt') \
+    $(find bindings -name target -prune -o -type f -name '*.[chrp]*' -print) README.md docs/*.md crates/*/README.md

@@ -1,0 +1,14 @@
+pub mod Handle
+pub mod Lending
+pub mod Statuses
+pub mod Options
+pub mod Opening
+pub mod Became
+pub mod Feeding
+pub mod Lines
+pub mod Copies
+pub mod Changed
+pub mod Levels
+pub mod Books
+pub mod State
+pub mod Laws

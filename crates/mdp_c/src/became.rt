@@ -1,0 +1,140 @@
+//! What became of a datagram, by plain numbers.
+
+ghost use Rattle.std.specs.Prelude.{◌≡◌};
+ghost use Rattle.mdp_c.specs.Became.{became_of, counts_told, fate_number, jump_told, loss_told, moves_told, packet_told};
+
+use mdp_arbiter::PacketFate;
+use mdp_receiver::{Jump, Loss, Moved, SnapshotCounts, Taken};
+
+/// What became of a datagram that was taken in, and what it moved, 80 bytes.
+#[repr(C)]
+#[derive(Clone, Copy, Debug, PartialEq, Eq)]
+pub struct Became {
+    /// 1 where it was a packet of feed A or B, and 2 where it brought snapshots on feed S.
+    pub kind: u32,
+    /// What became of the packet: 0 it is the first copy of its number, 1 a packet of its number waits already, 2 its
+    /// number has passed, 3 its number was given up, 4 the channel was closed before. 0 where it was none.
+    pub fate: u32,
+    /// 1 where the datagram made the receiver lost, else 0.
+    pub has_loss: u32,
+    /// 1 where recovery went on at another number, else 0. Then every book was replaced.
+    pub has_jump: u32,
+    /// How many snapshots are the newest of their security.
+    pub news: u64,
+    /// How many are no newer than one that came before.
+    pub older: u64,
+    /// How many are of securities that are not listed.
+    pub unlisted: u64,
+    /// How many came after the channel was closed.
+    pub after_close: u64,
+    /// The number of the packet that was given up, where the receiver was made lost, else 0.
+    pub loss_next: u64,
+    /// The number of the packet that came, where the receiver was made lost, else 0.
+    pub loss_highest: u64,
+    /// The number that was to come next before the jump, where there is one, else 0.
+    pub jump_old: u64,
+    /// The number that recovery went on at, where there is a jump, else 0.
+    pub jump_new: u64,
+}
+
+/// Of which nothing is told yet.
+const NOTHING: Became = Became {
+    kind: 0,
+    fate: 0,
+    has_loss: 0,
+    has_jump: 0,
+    news: 0,
+    older: 0,
+    unlisted: 0,
+    after_close: 0,
+    loss_next: 0,
+    loss_highest: 0,
+    jump_old: 0,
+    jump_new: 0,
+};
+
+/// Tells what became of a datagram and what it moved; nothing of one that is refused.
+pub(crate) fn became_of(taken: Taken, moved: Moved) -> Option<Became>
+    ensures { result ≡ became_of taken moved }
+{
+    match taken {
+        Taken::Packet(fate) => Some(moves_told(packet_told(fate), moved)),
+        Taken::Snapshots(counts) => Some(moves_told(counts_told(counts), moved)),
+        Taken::Refused(_) => None,
+    }
+}
+
+// Tells what became of a packet.
+fn packet_told(fate: PacketFate) -> Became
+    ensures { result ≡ packet_told fate }
+{
+    Became {
+        kind: 1,
+        fate: fate_number(fate),
+        ..NOTHING
+    }
+}
+
+// Tells the number of a fate.
+fn fate_number(fate: PacketFate) -> u32
+    ensures { result ≡ fate_number fate }
+{
+    match fate {
+        PacketFate::First => 0,
+        PacketFate::Repeat => 1,
+        PacketFate::Past => 2,
+        PacketFate::Late => 3,
+        PacketFate::AfterClose => 4,
+    }
+}
+
+// Tells what became of snapshots.
+fn counts_told(counts: SnapshotCounts) -> Became
+    ensures { result ≡ counts_told counts }
+{
+    Became {
+        kind: 2,
+        news: counts.news as u64,
+        older: counts.older as u64,
+        unlisted: counts.unlisted as u64,
+        after_close: counts.after_close as u64,
+        ..NOTHING
+    }
+}
+
+// Adds what a datagram moved.
+fn moves_told(became: Became, moved: Moved) -> Became
+    ensures { result ≡ moves_told became moved }
+{
+    jump_told(loss_told(became, moved.loss), moved.jump)
+}
+
+// Adds a loss, if there is one.
+fn loss_told(became: Became, loss: Option<Loss>) -> Became
+    ensures { result ≡ loss_told became loss }
+{
+    match loss {
+        Some(loss) => Became {
+            has_loss: 1,
+            loss_next: loss.next,
+            loss_highest: loss.highest,
+            ..became
+        },
+        None => became,
+    }
+}
+
+// Adds a jump, if there is one.
+fn jump_told(became: Became, jump: Option<Jump>) -> Became
+    ensures { result ≡ jump_told became jump }
+{
+    match jump {
+        Some(jump) => Became {
+            has_jump: 1,
+            jump_old: jump.old,
+            jump_new: jump.new,
+            ..became
+        },
+        None => became,
+    }
+}
