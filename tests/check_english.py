@@ -1,8 +1,8 @@
 #!/usr/bin/env python3
 """Checks the documents: tests/check_english.py
 
-In README.md and docs/MANUAL.md no sentence has more than 40 words and no line more than 100 columns; README.md has at most 120 lines.
-Code blocks, captures and tables are left aside, and of a link only its text counts. In every .md file each relative link names a file
+In README.md, docs/MANUAL.md, docs/ARCHITECTURE.md, docs/PROVING.md, docs/DECISIONS.md and docs/DEFINITIONS.md no sentence has more than
+40 words. In the first two no line has more than 100 columns; README.md has at most 120 lines. Code blocks, captures and tables are left aside, and of a link only its text counts. In every .md file each relative link names a file
 that is there, and its anchor a heading of that file. Prints each miss, and then 'N passed, M failed'. The exit status is 1 if any failed.
 """
 import os
@@ -11,6 +11,7 @@ import subprocess
 import sys
 
 READ_FIRST = ["README.md", "docs/MANUAL.md"]
+READ_LATER = ["docs/ARCHITECTURE.md", "docs/PROVING.md", "docs/DECISIONS.md", "docs/DEFINITIONS.md"]
 MOST_WORDS, MOST_COLUMNS, MOST_LINES = 40, 100, {"README.md": 120}
 LINK = re.compile(r"!?\[([^\]]*)\]\(([^()\s]*(?:\([^()]*\))?[^()\s]*)\)")
 SPAN = re.compile(r"(`+)(?:(?!\1).)+?\1(?!`)")
@@ -99,7 +100,7 @@ def read(path):
         return file.read().split("\n")
 
 
-def check_english(path):
+def check_lines(path):
     lines = read(path)
     if path in MOST_LINES:
         count = len(lines) - (lines[-1] == "")
@@ -109,7 +110,10 @@ def check_english(path):
             continue
         columns = len(LINK.sub(r"[\1]", line))
         judge(columns <= MOST_COLUMNS, f"{path}:{number}", f"{columns} columns, and at most {MOST_COLUMNS} are wanted")
-    for number, text in paragraphs_of(lines):
+
+
+def check_sentences(path):
+    for number, text in paragraphs_of(read(path)):
         for sentence in sentences_of(text):
             count = len(words_of(sentence))
             judge(count <= MOST_WORDS, f"{path}:{number}", f"{count} words in a sentence: {sentence[:60]}..")
@@ -132,7 +136,9 @@ def check_links(path, anchors):
 def main():
     os.chdir(os.path.join(os.path.dirname(os.path.realpath(__file__)), ".."))
     for path in READ_FIRST:
-        check_english(path)
+        check_lines(path)
+    for path in READ_FIRST + READ_LATER:
+        check_sentences(path)
     listed = subprocess.run(["git", "ls-files", "--cached", "--others", "--exclude-standard", "*.md"], capture_output=True, text=True)
     paths = sorted(set(listed.stdout.split("\n")) - {""})
     if not paths:
