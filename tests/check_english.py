@@ -2,8 +2,9 @@
 """Checks the documents: tests/check_english.py
 
 In README.md, docs/MANUAL.md, docs/ARCHITECTURE.md, docs/PROVING.md, docs/DECISIONS.md and docs/DEFINITIONS.md no sentence has more than
-40 words. In the first two no line has more than 100 columns; README.md has at most 120 lines. Code blocks, captures and tables are left aside, and of a link only its text counts. In every .md file each relative link names a file
-that is there, and its anchor a heading of that file. Prints each miss, and then 'N passed, M failed'. The exit status is 1 if any failed.
+40 words. In the first two no line has more than 100 columns; README.md has at most 120 lines. Code blocks, captures and tables are left
+aside, and of a link only its text counts. In every .md file each relative link names a file that is there, and its anchor a heading of
+that file. Prints each miss, and then 'N passed, M failed'. The exit status is 1 if any failed.
 """
 import os
 import re
