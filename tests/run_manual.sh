@@ -74,7 +74,7 @@ judge() {
 
 # Runs the commands of a page.
 run_page() {
-    local before=$((passed + failed)) block= file= command= shown= above= line=
+    local before=$((passed + failed)) block='' file='' command='' shown='' above='' line=''
     while above=$line && IFS= read -r line; do
         case $block:$line in
             :'```console') block=console ;;
