@@ -1,6 +1,6 @@
 # make try            runs the program on an example, with no proof
 # make run            proves and builds the program, and runs it on an example
-# make install        puts the built program and its manual page below DESTDIR and PREFIX
+# make install        puts the built program, its manual page and the library, where it is built, below DESTDIR and PREFIX
 # make library        proves and builds the library for C in build/: archives, shared library, header
 # make library-test   builds and runs its callers in C, C++, Rust and Python
 # make test           the merge gate and all other tests; the last line is 'N passed, M failed'
@@ -14,7 +14,7 @@ PREFIX := /usr/local
 DESTDIR :=
 PRESET := day
 
-.PHONY: try run install library library-test test bench wrong-bodies build
+.PHONY: try run install install-library library library-test test bench wrong-bodies build
 
 # What rt says is shown only where the run did not end well.
 try:
@@ -32,6 +32,16 @@ install:
 	@[ -x $(program) ] || { echo "there is no $(program); make run builds it" >&2; exit 1; }
 	install -D -m 755 $(program) "$(DESTDIR)$(PREFIX)/bin/mdp_handler"
 	install -D -m 644 $(page) "$(DESTDIR)$(PREFIX)/share/man/man1/mdp_handler.1"
+	@[ ! -e build/libmdp_handler.a ] || $(MAKE) --no-print-directory install-library
+
+install-library:
+	@[ -e build/libmdp_handler.a ] || { echo "there is no library in build/; make library builds it" >&2; exit 1; }
+	install -d "$(DESTDIR)$(PREFIX)/include" "$(DESTDIR)$(PREFIX)/lib/pkgconfig"
+	install -m 644 build/mdp_handler.h "$(DESTDIR)$(PREFIX)/include"
+	install -m 644 build/libmdp_handler.a build/liblibc_c.a "$(DESTDIR)$(PREFIX)/lib"
+	install -m 755 build/libmdp_handler.so "$(DESTDIR)$(PREFIX)/lib"
+	sed -e 's|^libdir=.*|libdir=$(PREFIX)/lib|' -e 's|^includedir=.*|includedir=$(PREFIX)/include|' build/mdp_handler.pc \
+		> "$(DESTDIR)$(PREFIX)/lib/pkgconfig/mdp_handler.pc"
 
 library:
 	@tools/library.sh

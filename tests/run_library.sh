@@ -3,9 +3,9 @@
 #
 # The declarations of the callers are compared with the exports. The tests of the calls run in each language, those in C over several
 # captures, with the sanitizers and under valgrind. Each program `text` prints the text of each row that has one text on one thread, and of
-# each example, and ends with the row's status; each `example` prints the best levels that stand in the text's C lines. Where PROGRAM,
-# mdp_handler, is given, the one in C prints what it prints of cut and bent datagrams. Prints what is otherwise, what is left out, then one
-# line 'N passed, M failed'. The exit status is 1 if any failed.
+# each example, and ends with the row's status; each `example` prints the best levels that stand in the text's C lines. The one in C prints what
+# the bench's handler in plain Rust prints of its presets, and, where PROGRAM, mdp_handler, is given, what that prints of cut and bent
+# datagrams. Prints what is otherwise, what is left out, then one line 'N passed, M failed'. The exit status is 1 if any failed.
 set -u
 
 program=
@@ -187,6 +187,45 @@ run_shared() {
     judge "text.c with the shared library" "$(fault_of_text examples/plain.capture examples/plain.txt 0 "$scratch/text-shared")"
 }
 
+# What is otherwise in the file $2 than in the file $1, which must not be empty.
+same_bytes() {
+    [ -s "$1" ] || echo "$1 is empty"
+    cmp "$1" "$2" 2>&1
+}
+
+# Installs the library under a folder, and links the one that stands there.
+# shellcheck disable=SC2046
+run_installed() {
+    if ! has pkg-config || ! has cc; then
+        echo "not run: the installed library from C: there is no pkg-config or no cc"
+        return
+    fi
+    build "make install-library" make --silent install-library DESTDIR="$scratch/root" PREFIX=/opt/mdp
+    build "text.c with the installed library" cc -std=c11 bindings/c/text.c -o "$scratch/text-installed" \
+        $(PKG_CONFIG_SYSROOT_DIR=$scratch/root PKG_CONFIG_PATH=$scratch/root/opt/mdp/lib/pkgconfig \
+            pkg-config --static --cflags --libs mdp_handler | sed -e 's/-lmdp_handler/-l:libmdp_handler.a/')
+    judge "text.c with the installed library" "$(fault_of_text examples/plain.capture examples/plain.txt 0 "$scratch/text-installed")"
+}
+
+# Runs text.c over the bench's presets.
+# shellcheck disable=SC2086
+run_presets() {
+    local preset built=$scratch/bench/release
+    if ! has cargo || ! has cc; then
+        echo "not run: the presets through C: there is no cargo or no cc"
+        return
+    fi
+    build "the bench" bash -c "cd bench && CARGO_TARGET_DIR=$scratch/bench cargo build --offline --quiet --release"
+    build "text.c for the presets" cc -O2 -std=c11 -Ibuild bindings/c/text.c $archives -o "$scratch/text-quick"
+    for preset in small day wide lossy deep; do
+        "$built/generate" $preset >"$scratch/preset"
+        "$built/plain_handler" --in-order <"$scratch/preset" >"$scratch/wanted"
+        "$scratch/text-quick" <"$scratch/preset" >"$scratch/out"
+        judge "text.c over the preset $preset" "$(same_bytes "$scratch/wanted" "$scratch/out")"
+    done
+    rm -f "$scratch/preset" "$scratch/wanted" "$scratch/out"
+}
+
 # shellcheck disable=SC2086
 run_cpp() {
     local compiler=$1
@@ -306,6 +345,8 @@ run_c cc
 run_c clang
 run_valgrind
 run_shared
+run_installed
+run_presets
 run_cpp c++
 run_cpp clang++
 run_rust
