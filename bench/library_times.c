@@ -1,0 +1,95 @@
+/* Passes what came on a channel to a handler of the library for C, one datagram after another, and lets go after each what it made, as the
+ * crate handler_times does without C: library_times lines|books|nothing < capture. With `nothing` the capture is only read. */
+#include "mdp_handler.h"
+#include <stdio.h>
+#include <stdlib.h>
+#include <string.h>
+
+/* A datagram: its feed, and its bytes, which stand where its digits stood. */
+struct datagram {
+    uint32_t feed;
+    uint8_t *bytes;
+    size_t length;
+};
+
+/* A capture: its bytes, and what its lines say. */
+struct capture {
+    char *bytes;
+    size_t length;
+    size_t listing; /* the length of its `I` lines, which stand first */
+    struct datagram *datagrams;
+    size_t count;
+};
+
+static _Noreturn void leave(const char *says) {
+    fprintf(stderr, "%s\n", says);
+    exit(1);
+}
+
+/* Gives things with room for one more after `length` of them, of this size. */
+static void *grown(void *things, size_t length, size_t *room, size_t size) {
+    if (length < *room) return things;
+    *room = 2 * length + 65536;
+    things = realloc(things, *room * size);
+    if (!things) leave("out of memory");
+    return things;
+}
+
+static uint8_t digit_of(char c) {
+    return (uint8_t)(c <= '9' ? c - '0' : (c | 32) - 'a' + 10);
+}
+
+/* Decodes a datagram's digits where they stand. */
+static size_t decode(char *digits, size_t length) {
+    for (size_t n = 0; n < length / 2; n++) digits[n] = (char)(16 * digit_of(digits[2 * n]) + digit_of(digits[2 * n + 1]));
+    return length / 2;
+}
+
+static struct capture read_capture(void) {
+    struct capture capture = {NULL, 0, 0, NULL, 0};
+    size_t room = 0, most = 0, count;
+    do {
+        capture.bytes = grown(capture.bytes, capture.length + 65535, &room, 1);
+        capture.length += count = fread(capture.bytes + capture.length, 1, 65535, stdin);
+    } while (count);
+    for (char *line = capture.bytes, *all = line + capture.length, *end; line < all; line = end + 1) {
+        end = memchr(line, '\n', (size_t)(all - line));
+        if (!end) leave("the last line has no end");
+        if (*line == 'I') capture.listing = (size_t)(end + 1 - capture.bytes);
+        if (!strchr("ABS", *line)) continue;
+        capture.datagrams = grown(capture.datagrams, capture.count, &most, sizeof(struct datagram));
+        capture.datagrams[capture.count++] = (struct datagram){
+            *line == 'S' ? MDP_FEED_S : (uint32_t)(*line - 'A'), (uint8_t *)line + 2, decode(line + 2, (size_t)(end - line - 2))};
+    }
+    return capture;
+}
+
+static void follow(const struct capture *capture, uint32_t lines) {
+    struct mdp_handler handler = MDP_HANDLER_CLOSED;
+    struct mdp_options options = {sizeof options, 65536, MDP_FROM_ONE, lines, 0};
+    struct mdp_lent lent;
+    uint32_t slots[512];
+    uint64_t count, books = 0, bytes = 0;
+    if (mdp_handler_open_text(&handler, &options, capture->bytes, capture->listing, NULL)) leave("the instruments are refused");
+    for (size_t n = 0; n < capture->count; n++) {
+        const struct datagram *it = &capture->datagrams[n];
+        if (mdp_handler_datagram(&handler, it->feed, it->bytes, it->length, NULL) == MDP_MEMORY) leave("out of memory");
+        mdp_handler_changed(&handler, slots, 512, &count);
+        mdp_handler_lines(&handler, &lent);
+        mdp_handler_clear_lines(&handler);
+        books += count;
+        bytes += lent.length;
+    }
+    mdp_handler_free(&handler);
+    printf("%zu datagrams, %llu books, %llu bytes of text\n", capture->count, (unsigned long long)books, (unsigned long long)bytes);
+}
+
+int main(int count, char **words) {
+    const char *word = count == 2 ? words[1] : "";
+    struct capture capture = read_capture();
+    if (!strcmp(word, "lines") || !strcmp(word, "books")) follow(&capture, *word == 'l');
+    else if (strcmp(word, "nothing")) leave("the first argument is lines, books or nothing");
+    free(capture.datagrams);
+    free(capture.bytes);
+    return 0;
+}
