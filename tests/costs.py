@@ -7,7 +7,8 @@ are run. Each command is timed whole: minutes of wall time, and processor minute
 checkout in which it lies, so run it in a fresh clone, on a machine with nothing else at work. What checks keep on a machine makes later
 ones quicker, wherever they run, so the costs from nothing are those of a machine that has kept nothing. With --edits, each edit of the
 crates is put by itself into a copy of the checkout, where the temporary files lie (some 6 GB), and the `rt check` that must refuse it is
-timed, in seconds; before a crate's edits its own check must succeed there. The exit status is 1 if a command ended otherwise than it
+timed: seconds of wall and of processor time. Before a crate's edits its own check, timed too, must succeed there, and is then asked once
+more, so that what a check takes with nothing changed is told. The exit status is 1 if a command ended otherwise than it
 should.
 """
 import os
@@ -95,12 +96,15 @@ def apply(edit, folder):
 def time_edits(crates):
     """Times the check that refuses each edit, and returns whether each was refused."""
     is_good = True
+    print("crate and edit: seconds of wall, seconds of processor time", flush=True)
     with tempfile.TemporaryDirectory() as copy:
         for name in ("HANDLES", "crates.txt", "crates"):
             subprocess.run(["cp", "-a", name, copy], check=True)
         for crate in (it for it in crates if edits_of(it)):
             folder, kept = f"{copy}/crates/{crate}", f"{copy}/kept"
-            status, text, _, _ = timed(["rt", "check"], folder)
+            for name in ("proof", "nothing changed"):
+                status, text, wall, processor = timed(["rt", "check"], folder)
+                print(f"{crate}, {name}: {wall:.0f} {processor:.0f}", flush=True)
             if status:
                 is_good = False
                 print(f"{crate} is not proved:\n{text[-3000:]}", flush=True)
@@ -108,9 +112,9 @@ def time_edits(crates):
             subprocess.run(["cp", "-a", folder, kept], check=True)
             for edit in edits_of(crate):
                 apply(f"crates/{crate}/must-fail/{edit}", folder)
-                status, _, wall, _ = timed(["rt", "check"], folder)
+                status, _, wall, processor = timed(["rt", "check"], folder)
                 is_good = is_good and status != 0
-                print(f"{crate}/{edit}: {wall:.0f} s{'' if status else ', LET THROUGH'}", flush=True)
+                print(f"{crate}/{edit}: {wall:.0f} {processor:.0f}{'' if status else ', LET THROUGH'}", flush=True)
                 shutil.rmtree(folder)
                 subprocess.run(["cp", "-a", kept, folder], check=True)
             shutil.rmtree(kept)
