@@ -1,10 +1,10 @@
 #!/usr/bin/env bash
 # Proves everything from nothing and runs all tests: the merge gate, then the examples, the demonstration of the board, a pcap file where
-# tshark is there, the rows, captures as they come, cut and bent datagrams, the library with its callers where it is built (`make
-# library`; the gate builds none), the refusals of the system, refused allocations and the manual's commands on the programs that the gate
-# has built, the samples of captured traffic beside the crate's, the manual page beside the help, and a look at the documents: the names
-# in docs/DEFINITIONS.md, English and links, and the code that they show. The last line is 'N passed, M failed', over all of them. The
-# exit status is 1 if any failed.
+# tshark is there, the rows, captures as they come, cut and bent datagrams, the refusals of the system, refused allocations and the
+# manual's commands on the programs that the gate has built, the library with its callers (which it builds: the gate makes no archive), the
+# samples of captured traffic beside the crate's, the manual page beside the help, and a look at the documents: the names in
+# docs/DEFINITIONS.md, English and links, and the code that they show. The last line is 'N passed, M failed', over all of them. The exit
+# status is 1 if any failed.
 set -u
 
 cd "$(dirname "$(realpath "$0")")/.." || exit 2
@@ -89,16 +89,6 @@ run_bench() {
     fi
 }
 
-# Runs the library's callers, where it is built; else the header alone is compared with the calls.
-run_library() {
-    if [ -e crates/mdp_c/out/libmdp_c.a ]; then
-        tests/run_library.sh "$program"
-    else
-        echo "not run: the library is not built; make library-test builds it"
-        tests/check_header.py
-    fi
-}
-
 run_part "rt ci" rt ci
 run_part "the examples" run_examples
 run_part "the demonstration" run_demo
@@ -108,7 +98,7 @@ run_part "the samples of captured traffic" tests/check_pcap_samples.py
 run_part "the rows" tests/run_rows.sh "$program"
 run_part "captures as they come" tests/run_live.py "$program"
 run_part "cut and bent datagrams" tests/run_cut_and_bent.sh "$program" crates/datagram_rows/out/datagram_rows
-run_part "the library" run_library
+run_part "the library" tests/run_library.sh "$program"
 run_part "the refusals of the system" tests/run_refusals.sh "$program"
 run_part "refused allocations" tests/run_refused_allocations.sh "$program"
 run_part "the manual" tests/run_manual.sh "$program"

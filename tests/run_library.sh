@@ -334,6 +334,11 @@ run_cut_and_bent() {
     done
 }
 
+if ! has "${CC:-cc}"; then
+    echo "not run: the library: there is no ${CC:-cc}"
+    tests/check_header.py
+    exit
+fi
 if ! tools/library.sh >"$scratch/built" 2>&1; then
     tail -n 20 "$scratch/built"
     echo "FAILED tools/library.sh"
