@@ -1,0 +1,7 @@
+pub mod Parting
+pub mod Numerals
+pub mod Addresses
+pub mod Listings
+pub mod Counting
+pub mod Fronts
+pub mod Answering
