@@ -74,7 +74,7 @@ pub record IsFirstRefused (lines : List ChannelLine) (place : ℕ) (refusal : Li
 abbrev pub NoneRefused : List ChannelLine → Type 0
 NoneRefused lines = (place : ℕ) → refusal_at lines place ≡ None
 
--- a channel has an instrument and an address
+-- the channel that all lines say, unless it lacks an instrument, or else an address
 abbrev pub whole : ChannelContent → Result ChannelContent ChannelFault
 whole channel =
     if length channel.instruments == 0 then Err faults.NoInstrument

@@ -3,7 +3,8 @@
 ghost use Rattle.std.specs.Prelude.{◌≡◌, Ok, Err, None, IfErr, IfOk};
 ghost use Rattle.mdp_capture.specs.Line.{line_of};
 ghost use Rattle.mdp_capture.specs.Listed.{instrument_said};
-ghost use Rattle.mdp_channel.specs.Channel.{IsAnswer, IsFaultOf, line_refusal, no_channel, refusal_in, whole, with_line};
+ghost use Rattle.mdp_channel.specs.Channel.{IsAnswer, IsFaultOf, no_channel, whole, with_line};
+ghost use Rattle.mdp_channel.specs.Channel.{line_refusal, refusal_in};
 ghost use Rattle.mdp_channel.specs.ChannelFile.{channel_in};
 ghost use Rattle.mdp_channel.specs.ChannelLine.{Address, channel_line, is_passed_over, said_line};
 
@@ -39,7 +40,7 @@ pub fn read_channel<A: Allocator + Copy>(
 {
     let mut file = ChannelFile::new(alloc);
     let mut before = 0u64;
-    for line in Lines::of(text) {
+    for line in Lines::new(text) {
         let number = before + 1;
         match file.take_line(line)? {
             Some(refusal) => return Err(ChannelFault::Line {
@@ -81,6 +82,7 @@ impl<A: Allocator + Copy> ChannelFile<A> {
     }
 
     // Adds an address, or tells why not.
+    #[tactic(auto, using(crate::proofs::Addresses::found_by))]
     fn add_address(&mut self, address: FeedAddress) -> Result<Option<LineRefusal>, AllocError>
         ensures answer { IfOk result (λ refusal.
             refusal ≡ line_refusal (channel_in self.old) (Address address)) }

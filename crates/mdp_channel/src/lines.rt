@@ -2,11 +2,12 @@
 
 ghost use Rattle.std.specs.Prelude.{◌≡◌};
 ghost use Rattle.std.specs.Iterator.{YieldsFirstRef, item_count};
-ghost use Rattle.std.specs.Str.Lines.{lines, strip_carriage_return};
+ghost use Rattle.std.specs.Str.Lines.{lines};
 
 use memchr::memchr;
 
-/// The lines of a text, each without its line feed and one carriage return before that. The last may lack both.
+/// The lines of a text that are left, each without its line feed and one carriage return before that.
+/// What stands behind the last line feed is a line as it is, unless it is empty.
 #[derive(Drop)]
 pub(crate) struct Lines<'a> {
     rest: &'a [u8],
@@ -14,7 +15,7 @@ pub(crate) struct Lines<'a> {
 
 impl<'a> Lines<'a> {
     /// Goes over the lines of a text from its first.
-    pub(crate) fn of(text: &'a [u8]) -> Lines<'a>
+    pub(crate) fn new(text: &'a [u8]) -> Lines<'a>
         ensures { result.rest.now ≡ text.now }
     {
         Lines { rest: text }
@@ -38,16 +39,7 @@ impl<'a> Iterator for Lines<'a> {
             return Some(text);
         };
         self.rest = &text[end + 1..];
-        Some(without_carriage_return(&text[..end]))
-    }
-}
-
-// Lends a line without one carriage return at its end.
-fn without_carriage_return(line: &[u8]) -> &[u8]
-    ensures { result.now ≡ strip_carriage_return line.now }
-{
-    match line {
-        [text @ .., b'\r'] => text,
-        _ => line,
+        let line = &text[..end];
+        Some(line.strip_suffix(b"\r").unwrap_or(line))
     }
 }

@@ -6,8 +6,10 @@ use refusing::Refusing;
 use std::alloc::{Allocator, Global};
 use std::test::Fail;
 
-const CHANNEL: &str =
-    "# channel 310\r\n\r\nI 1 NEAR O\r\nF A 224.0.31.1 14310\r\n#\nI 2 FAR O 5\nF B 224.0.32.1 15310\nF S 0.255.10.9 1\nF A 224.0.31.1 65535";
+const CHANNEL: &str = concat!(
+    "# channel 310\r\n\r\nI 1 NEAR O\r\nF A 224.0.31.1 14310\r\n#\nI 2 FAR O 5\n",
+    "F B 224.0.32.1 15310\nF S 0.255.10.9 1\nF A 224.0.31.1 65535",
+);
 
 // The feed of each address of `CHANNEL`, and of two that it doesn't have.
 fn feeds_in<A: Allocator>(file: &ChannelFile<A>) -> [Option<Feed>; 6] {
@@ -35,7 +37,7 @@ fn reads_instruments_and_addresses(rt: HostRuntime) -> Result<(), Fail> {
     Ok(())
 }
 
-// The line and the number of the fault that a text comes to, with line 0 where it is no line's, and (0, 0) for a channel.
+// The line and the number of the fault that a text comes to: line 0 where it is no line's, and (0, 0) for a channel.
 fn fault_of(alloc: Global, text: &str) -> (u64, u8) {
     match read_channel(alloc, text.as_bytes()) {
         Ok(_) => (0, 0),

@@ -2,9 +2,11 @@ use Rattle.std.proofs.Common.{◌≡◌, ℕ, ◌+◌, ◌-◌, ◌<◌, List, �
 use Rattle.std.specs.Str.Lines.{lines, strip_carriage_return}
 use Rattle.std.proofs.lemmas.Bool.{eqb-false}
 use Rattle.std.proofs.lemmas.List.{drop_all, take_rest}
+use denote.Ref.{Bor}
 use Rattle.memchr.specs.Find.{IsFirstByte, is_byte}
 use Rattle.mdp_capture.proofs.Pieces.{lines_at, lines_last}
 use Rattle.mdp_capture.proofs.Splits.{free_before, free_of, split_there}
+use Rattle.mdp_channel.proofs.Stripping.{stripped}
 use Rattle.mdp_channel.proofs.lines.LinesIterator.next.Goals as goal
 
 -- the line before the first line feed, and those behind it
@@ -23,9 +25,12 @@ returns-in_default-clause-steps c =
     ∙ ap (λ (rest : List ℕ). text ∷ lines rest) (sym (take_rest text (length text) ∙ drop_all (length text) text (omega arith)))
 
 pub returns-clause-steps : goal.returns-clause-steps
-returns-clause-steps c = cut_there c.args.self.now.rest.now c.without_carriage_return.result.now c.in-Some.end c.in-Some.ensures c.without_carriage_return.ensures
+returns-clause-steps c =
+    let is = ap (λ (line : Bor (List ℕ)). line.now) c.unwrap_or.ensures ∙ stripped _ c.strip_suffix.result c.strip_suffix.ensures.cases in
+    cut_there c.args.self.now.rest.now c.unwrap_or.result.now c.in-Some.end c.in-Some.ensures is
 
 pub returns-clause-goes : goal.returns-clause-goes
 returns-clause-goes c =
-    let steps = cut_there c.args.self.now.rest.now c.without_carriage_return.result.now c.in-Some.end c.in-Some.ensures c.without_carriage_return.ensures in
+    let is = ap (λ (line : Bor (List ℕ)). line.now) c.unwrap_or.ensures ∙ stripped _ c.strip_suffix.result c.strip_suffix.ensures.cases in
+    let steps = cut_there c.args.self.now.rest.now c.unwrap_or.result.now c.in-Some.end c.in-Some.ensures is in
     record { on = λ finite. (tt, tt, omega (arith, ap length steps)); keeps = tt; rests = λ finite. tt }
