@@ -31,14 +31,11 @@ pub(crate) fn address_of(line: &[u8]) -> Option<FeedAddress>
 fn feed_of(field: &[u8]) -> Option<Feed>
     ensures { result ≡ feed_of field.now }
 {
-    if field == b"A".as_slice() {
-        Some(Feed::A)
-    } else if field == b"B".as_slice() {
-        Some(Feed::B)
-    } else if field == b"S".as_slice() {
-        Some(Feed::S)
-    } else {
-        None
+    match field {
+        [b'A'] => Some(Feed::A),
+        [b'B'] => Some(Feed::B),
+        [b'S'] => Some(Feed::S),
+        _ => None,
     }
 }
 
