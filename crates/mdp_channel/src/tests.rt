@@ -79,6 +79,16 @@ fn refuses_lines(rt: HostRuntime) -> Result<(), Fail> {
 }
 
 #[test]
+fn refuses_the_513th_instrument(rt: HostRuntime) -> Result<(), Fail> {
+    let mut text = String::new(rt.alloc());
+    for id in 1..=513u32 {
+        write!(text, "I {id} N{id} O\n")?;
+    }
+    assert_eq!(rt; fault_of(rt.alloc(), text.as_str()), (513, 33));
+    Ok(())
+}
+
+#[test]
 fn counts_every_line(rt: HostRuntime) {
     for (text, fault) in [
         ("", (0, 34)),
