@@ -1,5 +1,5 @@
 -- What a text comes to, by the lines that were taken of it.
-use Rattle.std.proofs.Common.{◌≡◌, ℕ, ◌+◌, ◌<◌, ◌≤◌, List, [], ◌∷◌, Option, Some, None, Result, Ok, Err, refl, sym, ap, ◌∙◌, subst, arith, inl, inr}
+use Rattle.std.proofs.Common.{◌≡◌, ℕ, ◌+◌, ◌≤◌, List, [], ◌∷◌, Option, Some, None, Result, Err, refl, sym, ap, ◌∙◌, arith, inl, inr}
 use Rattle.std.proofs.lemmas.Bool.{cases_lt}
 use Rattle.mdp_channel.specs.Channel.{ChannelContent, HasOneAnswer, IsAnswer, IsFaultOf, IsFirstRefused, NoneRefused, channel_of, line_refusal, no_channel, refusal_at, whole, with_line}
 use Rattle.mdp_channel.specs.Channel.IsAnswer.{at_line, at_end}

@@ -1,9 +1,9 @@
 -- Decimal numbers with no sign and no leading zero, as text that std parses.
-use Rattle.std.proofs.Common.{◌≡◌, ℕ, ◌+◌, ◌-◌, ◌*◌, ◌^◌, ◌<◌, ◌≤◌, ◌≢◌, Bool, true, false, cond, List, [], ◌∷◌, length, get_or, None, Some, Result, Ok, Err, refl, sym, ap, ◌∙◌, subst, arith, eqb, leb, inl, inr, lit<, rules}
+use Rattle.std.proofs.Common.{◌≡◌, ℕ, ◌+◌, ◌-◌, ◌*◌, ◌^◌, ◌<◌, ◌≤◌, ◌≢◌, Bool, true, false, List, [], ◌∷◌, length, get_or, None, Some, Result, Ok, Err, refl, sym, ap, ◌∙◌, subst, arith, eqb, leb, inl, inr, lit<, rules}
 use Rattle.std.specs.Prelude.{◌&&◌, not, MatchOption, MatchResult}
 use Rattle.std.specs.List.{list_all}
 use Rattle.std.specs.Result.{OkIff, result_ok}
-use Rattle.std.specs.Str.{IsAscii, IsUtf8}
+use Rattle.std.specs.Str.{IsUtf8}
 use Rattle.std.specs.Str.Parse.{ParsesUnsigned}
 use Rattle.std.proofs.lemmas.Bool.{and_parts, cases_Bool, cases_lt, cond-false, cond-true, eqb-false, leb-true, le-leb}
 use Rattle.std.proofs.lemmas.List.{get_or_past}

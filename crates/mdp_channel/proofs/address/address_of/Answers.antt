@@ -1,5 +1,5 @@
 use Rattle.std.proofs.Common.{◌≡◌, ℕ, List, [], ◌∷◌, sym, ap, ◌∙◌}
-use Rattle.mdp_channel.specs.Address.{address_of_fields, parts, parts_left}
+use Rattle.mdp_channel.specs.Address.{address_of_fields, parts}
 use Rattle.mdp_channel.proofs.Parting.{address_of_left, address_of_no_port, none_left}
 use Rattle.mdp_channel.proofs.address.address_of.Goals as goal
 

@@ -1,4 +1,4 @@
-use Rattle.std.proofs.Common.{◌≡◌, ◌+◌, ◌≤◌, List, [], ◌∷◌, length, map, Ok, Err, sym, ap, ◌∙◌, subst, arith, rules}
+use Rattle.std.proofs.Common.{◌≡◌, List, length, map, Ok, Err, sym, ap, ◌∙◌, subst, arith, rules}
 use Rattle.std.proofs.lemmas.Result.{IfErr-weaker, IfOk-weaker}
 use Rattle.mdp_channel.specs.ChannelFile.{channel_in}
 use Rattle.mdp_channel.specs.ChannelLine.{ChannelLine, channel_line, channel_lines}

@@ -1,7 +1,7 @@
-use Rattle.std.proofs.Common.{◌+◌, ◌≤◌, length, map}
+use Rattle.std.proofs.Common.{◌+◌, ◌≤◌, length}
 use Rattle.std.specs.Str.Lines.{lines}
 use Rattle.mdp_channel.specs.ChannelFile.{channel_in}
-use Rattle.mdp_channel.specs.ChannelLine.{channel_line, channel_lines}
+use Rattle.mdp_channel.specs.ChannelLine.{channel_lines}
 use Rattle.mdp_channel.proofs.Fronts.{TakesFront}
 use Rattle.mdp_channel.proofs.channel_file.read_channel.Given as goal
 

@@ -1,9 +1,8 @@
 use Rattle.std.proofs.Common.{List, sym, ap, ◌∙◌}
-use Rattle.std.specs.Prelude.{reverse}
 use Rattle.mdp_capture.specs.Line.{line_of}
 use Rattle.mdp_capture.specs.Listed.{instrument_said}
 use Rattle.mdp_templates.specs.declared.instrument.Instrument.{Instrument}
-use Rattle.mdp_channel.specs.Channel.{ChannelContent, refusal_in}
+use Rattle.mdp_channel.specs.Channel.{refusal_in}
 use Rattle.mdp_channel.specs.ChannelFile.{channel_in}
 use Rattle.mdp_channel.proofs.Listings.{channel, listing_answered, listing_taken}
 use Rattle.mdp_channel.proofs.channel_file.ChannelFile.list_instrument.Goals as goal
