@@ -1,8 +1,8 @@
 #!/bin/bash
-# library.sh [PRESET]
+# library.sh [PRESET [PROGRAM]]
 # Prints the table of docs/PERFORMANCE.md on a datagram by the library: instructions and nanoseconds of `Handler`, of the calls from C and
-# from Python, and of the plain handler, with lines and with books alone. Needs the proved build of crates/handler_times, `make library`,
-# cargo, a C compiler and python3, and valgrind for instructions. Exit status 1 where they don't count the same books and bytes.
+# from Python, and of the plain handler, with lines and with books alone. Needs PROGRAM, the proved build of crates/handler_times, `make
+# library`, cargo, a C compiler and python3, and valgrind for instructions. Exit status 1 where they don't count the same books and bytes.
 #   RUNS=5          how many timed runs of each, by turns
 #   SEED=1          the seed of the preset
 # What reading the capture takes is taken off: each program says `nothing`, and of the plain handler a run that is refused after reading.
@@ -11,7 +11,7 @@ set -u
 preset=${1:-day}
 here=$(cd "$(dirname "$0")" && pwd)
 runs=${RUNS:-5} seed=${SEED:-1}
-direct=$here/../crates/handler_times/out/handler_times library=$here/../build
+direct=${2:-$here/../crates/handler_times/out/handler_times} library=$here/../build
 [ -x "$direct" ] || { echo "library.sh: no program $direct; 'rt run' in its crate builds it" >&2; exit 2; }
 [ -e "$library/libmdp_handler.a" ] || { echo "library.sh: no $library/libmdp_handler.a; 'make library' builds it" >&2; exit 2; }
 (cd "$here" && cargo build --quiet --release --offline) || exit 2
