@@ -68,12 +68,19 @@ static void follow(const struct capture *capture, uint32_t lines) {
     struct mdp_handler handler = MDP_HANDLER_CLOSED;
     struct mdp_options options = {sizeof options, 65536, MDP_FROM_ONE, lines, 0};
     struct mdp_lent lent;
+    struct mdp_became became;
     uint32_t slots[512];
-    uint64_t count, books = 0, bytes = 0;
+    uint64_t count, firsts = 0, jumps = 0, books = 0, bytes = 0;
+    uint32_t status;
     if (mdp_handler_open_text(&handler, &options, capture->bytes, capture->listing, NULL)) leave("the instruments are refused");
     for (size_t n = 0; n < capture->count; n++) {
         const struct datagram *it = &capture->datagrams[n];
-        if (mdp_handler_datagram(&handler, it->feed, it->bytes, it->length, NULL) == MDP_MEMORY) leave("out of memory");
+        status = mdp_handler_datagram(&handler, it->feed, it->bytes, it->length, &became);
+        if (status == MDP_MEMORY) leave("out of memory");
+        if (status == MDP_DONE) {
+            firsts += became.kind == 1 && became.fate == MDP_FIRST;
+            jumps += became.has_jump;
+        }
         mdp_handler_changed(&handler, slots, 512, &count);
         mdp_handler_lines(&handler, &lent);
         mdp_handler_clear_lines(&handler);
@@ -81,7 +88,8 @@ static void follow(const struct capture *capture, uint32_t lines) {
         bytes += lent.length;
     }
     mdp_handler_free(&handler);
-    printf("%zu datagrams, %llu books, %llu bytes of text\n", capture->count, (unsigned long long)books, (unsigned long long)bytes);
+    printf("%zu datagrams, %llu first copies, %llu jumps, %llu books, %llu bytes of text\n", capture->count, (unsigned long long)firsts,
+           (unsigned long long)jumps, (unsigned long long)books, (unsigned long long)bytes);
 }
 
 int main(int count, char **words) {

@@ -6,7 +6,7 @@ import sys
 from pathlib import Path
 
 sys.path.insert(0, str(Path(__file__).resolve().parent.parent / "bindings" / "python"))
-from mdp_handler import Feed, Handler  # noqa: E402
+from mdp_handler import Fate, Feed, Handler  # noqa: E402
 
 word = sys.argv[1] if len(sys.argv) == 2 else ""
 if word not in ("lines", "books", "nothing"):
@@ -15,11 +15,13 @@ lines = sys.stdin.buffer.read().splitlines(keepends=True)
 listing = b"".join(line for line in lines if line.startswith(b"I"))
 datagrams = [(Feed[chr(line[0])], bytes.fromhex(line[2:].decode())) for line in lines if line[:1] in (b"A", b"B", b"S")]
 if word != "nothing":
-    books = size = 0
+    firsts = jumps = books = size = 0
     with Handler(listing, window=65536, lines=word == "lines") as handler:
         for feed, payload in datagrams:
-            handler.datagram(feed, payload)
+            became = handler.datagram(feed, payload)
+            firsts += became.fate == Fate.FIRST
+            jumps += became.jump is not None
             books += sum(1 for _ in handler.changed())
             size += len(handler.lines())
             handler.clear_lines()
-    print(f"{len(datagrams)} datagrams, {books} books, {size} bytes of text")
+    print(f"{len(datagrams)} datagrams, {firsts} first copies, {jumps} jumps, {books} books, {size} bytes of text")

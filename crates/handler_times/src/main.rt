@@ -1,15 +1,16 @@
-//! Pushes what came on a channel into a handler, one datagram after another, and lets go after each what it made, so
-//! that the instructions of a datagram can be counted. A capture comes on standard input. The first word says what the
-//! handler keeps: `lines`, or `books` alone; with `nothing` the capture is only read.
+//! Pushes what came on a channel into a handler, one datagram after another, asks what became of each and what it
+//! moved, and lets go what it made, so that the instructions of a datagram can be counted. A capture comes on standard
+//! input. The first word says what the handler keeps: `lines`, or `books` alone; with `nothing` the capture is only
+//! read.
 #![tactic(auto)]
 
 ghost use Rattle.mdp_templates.specs.Instrument.{AreFit};
 
 use anyhow::bail;
-use mdp_arbiter::Start;
+use mdp_arbiter::{PacketFate, Start};
 use mdp_capture::{Capture, CountingReader, read_capture};
 use mdp_pipeline::Feeds;
-use mdp_receiver::Handler;
+use mdp_receiver::{Handler, Moved, Taken};
 use mdp_templates::Memory;
 use std::alloc::Global;
 use std::env;
@@ -22,8 +23,20 @@ const WINDOW: u32 = 65536;
 #[derive(Clone, Copy)]
 struct Counts {
     datagrams: u64,
+    firsts: u64,
+    jumps: u64,
     books: u64,
     bytes: u64,
+}
+
+// Counts what became of a datagram: whether it was the first copy of its packet, and whether recovery went on elsewhere.
+fn count_told(counts: Counts, taken: Taken, moved: Moved) -> Counts {
+    let is_first = taken == Taken::Packet(PacketFate::First);
+    Counts {
+        firsts: counts.firsts.saturating_add(u64::from(is_first)),
+        jumps: counts.jumps.saturating_add(u64::from(moved.jump.is_some())),
+        ..counts
+    }
 }
 
 // Counts what a datagram made: the books that were printed and the bytes of text.
@@ -38,6 +51,7 @@ fn count_made(counts: Counts, handler: &Handler<Global>) -> Counts {
         datagrams: counts.datagrams.saturating_add(1),
         books,
         bytes: counts.bytes.saturating_add(handler.lines().len() as u64),
+        ..counts
     }
 }
 
@@ -51,6 +65,8 @@ fn follow(alloc: Global, capture: &Capture<Global>, keeps_lines: bool) -> Result
     }
     let mut counts = Counts {
         datagrams: 0,
+        firsts: 0,
+        jumps: 0,
         books: 0,
         bytes: 0,
     };
@@ -58,7 +74,8 @@ fn follow(alloc: Global, capture: &Capture<Global>, keeps_lines: bool) -> Result
     while let Some((feed, record)) = feeds.next_by_line() {
         match record.bytes() {
             Some(bytes) => {
-                let _taken = handler.datagram(alloc, feed, bytes)?;
+                let (taken, moved) = handler.datagram_with_moves(alloc, feed, bytes)?;
+                counts = count_told(counts, taken, moved);
             }
             None => handler.close()?,
         }
@@ -81,8 +98,8 @@ fn main(rt: HostRuntime) -> anyhow::Result<()> {
         bail!("out of memory");
     };
     println!(rt;
-        "{} datagrams, {} books, {} bytes of text",
-        counts.datagrams, counts.books, counts.bytes
+        "{} datagrams, {} first copies, {} jumps, {} books, {} bytes of text",
+        counts.datagrams, counts.firsts, counts.jumps, counts.books, counts.bytes
     )?;
     Ok(())
 }

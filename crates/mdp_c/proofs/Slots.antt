@@ -88,6 +88,9 @@ few_from place (false ∷ marks) = let rest = few_from (place + 1) marks in omeg
 pub few_slots : (marks : List Bool) → length (slots_of marks) ≤ 4294967296
 few_slots marks = omega (arith, few_from 0 (seen marks), many_seen marks)
 
+pub few_of_marks : (marks : List Bool) → length (slots_of marks) ≤ length marks
+few_of_marks marks = omega (arith, few_from 0 (seen marks), many_seen marks)
+
 pub some_left : {X : Type 0} (all more : List X) (k : ℕ) (x : X) → drop k all ≡ x ∷ more → k < length all
 some_left all more k x left = let some : length all - k ≡ suc (length more) = sym (length-drop k all) ∙ ap length left in omega (arith, some)
 

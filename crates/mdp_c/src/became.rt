@@ -1,7 +1,7 @@
 //! What became of a datagram, by plain numbers.
 
-ghost use Rattle.std.specs.Prelude.{◌≡◌};
-ghost use Rattle.mdp_c.specs.Became.{became_of, counts_told, fate_number, jump_told, loss_told, moves_told, packet_told};
+ghost use Rattle.std.specs.Prelude.{◌≡◌, unwrap_or};
+ghost use Rattle.mdp_c.specs.Became.{became_of, counts_told, fate_number, jump_told, loss_told, packet_told};
 
 use mdp_arbiter::PacketFate;
 use mdp_receiver::{Jump, Loss, Moved, SnapshotCounts, Taken};
@@ -53,15 +53,18 @@ const NOTHING: Became = Became {
     jump_new: 0,
 };
 
-/// Tells what became of a datagram and what it moved; nothing of one that is refused.
-pub(crate) fn became_of(taken: Taken, moved: Moved) -> Option<Became>
-    ensures { result ≡ became_of taken moved }
+/// Tells what became of a datagram and what it moved, in the place of what was told before; nothing of one that is
+/// refused.
+pub(crate) fn tell_became(became: &mut Became, taken: Taken, moved: Moved)
+    ensures { became.new ≡ unwrap_or (became_of taken moved) became.old }
 {
     match taken {
-        Taken::Packet(fate) => Some(moves_told(packet_told(fate), moved)),
-        Taken::Snapshots(counts) => Some(moves_told(counts_told(counts), moved)),
-        Taken::Refused(_) => None,
+        Taken::Packet(fate) => *became = packet_told(fate),
+        Taken::Snapshots(counts) => *became = counts_told(counts),
+        Taken::Refused(_) => return,
     }
+    add_loss(became, moved.loss);
+    add_jump(became, moved.jump);
 }
 
 // Tells what became of a packet.
@@ -102,39 +105,24 @@ fn counts_told(counts: SnapshotCounts) -> Became
     }
 }
 
-// Adds what a datagram moved.
-fn moves_told(became: Became, moved: Moved) -> Became
-    ensures { result ≡ moves_told became moved }
-{
-    jump_told(loss_told(became, moved.loss), moved.jump)
-}
-
 // Adds a loss, if there is one.
-fn loss_told(became: Became, loss: Option<Loss>) -> Became
-    ensures { result ≡ loss_told became loss }
+fn add_loss(became: &mut Became, loss: Option<Loss>)
+    ensures { became.new ≡ loss_told became.old loss }
 {
-    match loss {
-        Some(loss) => Became {
-            has_loss: 1,
-            loss_next: loss.next,
-            loss_highest: loss.highest,
-            ..became
-        },
-        None => became,
+    if let Some(loss) = loss {
+        became.has_loss = 1;
+        became.loss_next = loss.next;
+        became.loss_highest = loss.highest;
     }
 }
 
 // Adds a jump, if there is one.
-fn jump_told(became: Became, jump: Option<Jump>) -> Became
-    ensures { result ≡ jump_told became jump }
+fn add_jump(became: &mut Became, jump: Option<Jump>)
+    ensures { became.new ≡ jump_told became.old jump }
 {
-    match jump {
-        Some(jump) => Became {
-            has_jump: 1,
-            jump_old: jump.old,
-            jump_new: jump.new,
-            ..became
-        },
-        None => became,
+    if let Some(jump) = jump {
+        became.has_jump = 1;
+        became.jump_old = jump.old;
+        became.jump_new = jump.new;
     }
 }

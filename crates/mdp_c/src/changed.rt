@@ -25,13 +25,29 @@ pub extern "C" fn mdp_changed(handle: &mut Handle, slots: &mut [u32], count: &mu
         return CLOSED;
     }
     let marked = handle.session().changed();
-    let many = count_slots(marked);
-    *count = many;
-    if (slots.len() as u64) < many {
+    if let Some(many) = past_room(marked, slots.len()) {
+        *count = many;
         return TOO_SHORT;
     }
-    put_slots(marked, slots);
+    *count = put_slots(marked, slots) as u64;
     DONE
+}
+
+// Tells how many marks are set where there is no room for all. Room for each mark that there is saves counting them.
+#[tactic(auto, using(crate::proofs::Slots::few_of_marks))]
+fn past_room(marked: &Marked<Global>, room: usize) -> Option<u64>
+    ensures some { IfSome result
+        (λ many. (many ≡ length (slots_of marked.now)) × (room < many)) }
+    ensures none { IfNone result (length (slots_of marked.now) ≤ room) }
+{
+    if marked.len() <= room {
+        return None;
+    }
+    let many = count_slots(marked);
+    if many <= room as u64 {
+        return None;
+    }
+    Some(many)
 }
 
 // Tells how many marks are set.
@@ -47,10 +63,13 @@ fn count_slots(marked: &Marked<Global>) -> u64
     count
 }
 
-// Puts the places of the marks that are set at the front of an array that has room for them.
-fn put_slots(marked: &Marked<Global>, slots: &mut [u32])
+// Puts the places of the marks that are set at the front of an array that has room for them, and tells how many they
+// are.
+fn put_slots(marked: &Marked<Global>, slots: &mut [u32]) -> usize
     requires { length (slots_of marked.now) ≤ length slots.old }
-    ensures { slots.new ≡ slots_of marked.now ++ drop (length (slots_of marked.now)) slots.old }
+    ensures count { result ≡ length (slots_of marked.now) }
+    ensures slots { slots.new
+        ≡ slots_of marked.now ++ drop (length (slots_of marked.now)) slots.old }
 {
     let mut count = 0usize;
     let mut from = 0usize;
@@ -59,6 +78,7 @@ fn put_slots(marked: &Marked<Global>, slots: &mut [u32])
         count += 1;
         from = slot as usize + 1;
     }
+    count
 }
 
 // Finds the first mark that is set, from a place on, and tells its place, which has 32 bits.

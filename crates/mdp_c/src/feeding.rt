@@ -1,9 +1,9 @@
 //! The calls that take in what came.
 
-ghost use Rattle.std.specs.Prelude.{◌≡◌, unwrap_or};
+ghost use Rattle.std.specs.Prelude.{◌≡◌};
 ghost use Rattle.mdp_c.specs.Feeding.{Closes, Feeds, FeedsSession, feed_of};
 
-use crate::became::{Became, became_of};
+use crate::became::{Became, tell_became};
 use crate::handle::Handle;
 use crate::status::{CLOSED, DONE, MEMORY, OUT_OF_RANGE, TOO_LONG, taken_status};
 use mdp_session::Session;
@@ -79,6 +79,6 @@ fn feed_session(
     let Ok((taken, moved)) = session.datagram_with_moves(alloc, feed, bytes) else {
         return MEMORY;
     };
-    *became = became_of(taken, moved).unwrap_or(*became);
+    tell_became(became, taken, moved);
     taken_status(taken)
 }

@@ -34,4 +34,4 @@ returns c =
     let marks = c.args.marked.now in
     let all = slots_of marks in
     let every : c.loop-slot.count ≡ length all = no_more all c.loop-slot.count (c.loop-slot.invariant.left ∙ none_found marks c.loop-slot.from c.in_default.ensures.none) c.loop-slot.invariant.few in
-    c.loop-slot.invariant.put ∙ all_filled c.loop-slot.count all c.args.slots.now every
+    record { count = every; slots = c.loop-slot.invariant.put ∙ all_filled c.loop-slot.count all c.args.slots.now every }
