@@ -5,6 +5,7 @@ pub mod Address
 pub mod Outcome
 pub mod Extent
 pub mod Block
+pub mod Fault
 pub mod File
 pub mod Placing
 pub mod Reader

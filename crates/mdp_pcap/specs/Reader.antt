@@ -45,10 +45,10 @@ content_of reader = record {
   fault = reader.fault;
 }
 
--- what takes frames took these: whatever it held before, it holds these after it
-abbrev pub Takes : {S : Type 0} → (S → List NumberedFrame → Type 0) → S → S → List NumberedFrame → Type 0
-Takes holds before after frames =
-    (earlier : List NumberedFrame) → holds before earlier → holds after (earlier ++ frames)
+-- what takes frames took these: whatever it held before, it holds these after it, and nothing beside them changed
+abbrev pub Takes : {B S : Type 0} → (B → S → List NumberedFrame → Type 0) → S → S → List NumberedFrame → Type 0
+Takes {B} holds before after frames =
+    (beside : B) (earlier : List NumberedFrame) → holds beside before earlier → holds beside after (earlier ++ frames)
 
 -- of a text the blocks up to `left` were read, and their frames, with their numbers, were taken
 pub record IsReadOn (Taken : List NumberedFrame → Type 0) (old now : ReaderContent)
@@ -93,8 +93,9 @@ ending_of now = ending_with now.reading.layout now.held now.fault
 abbrev pub at_first : ReaderContent
 at_first = record { reading = at_start; held = []; number = 1; fault = None }
 
--- of a text that ends here the frames were taken, from number 1 on, and the fault is the reader's
+-- of a text that ends here the frames were taken, from number 1 on, and the fault and the next number are the reader's
 pub record HasHandedOn (Taken : List NumberedFrame → Type 0) (now : ReaderContent) (text : List ℕ) : Type 0 where
   pub frames : List CapturedContent
   pub is : IsPcap text (record { frames = frames; fault = ending_of now })
+  pub counted : number_after 1 frames ≡ now.number
   pub taken : Taken (numbered 1 frames)

@@ -20,6 +20,34 @@ pub enum PcapFault {
     CutShort,
 }
 
+impl PcapFault {
+    ghost use Rattle.mdp_pcap.specs.Fault.{pcap_fault_name, pcap_fault_number};
+
+    /// Gives the number that is printed, from 71 to 74.
+    pub fn number(self) -> u8
+        ensures { result ≡ pcap_fault_number self }
+    {
+        match self {
+            PcapFault::NotPcap => 71,
+            PcapFault::LinkType => 72,
+            PcapFault::RecordSize => 73,
+            PcapFault::CutShort => 74,
+        }
+    }
+
+    /// Lends the name that is printed, in ASCII letters.
+    pub fn name(self) -> &'static str
+        ensures { result.now ≡ pcap_fault_name self }
+    {
+        match self {
+            PcapFault::NotPcap => "NotPcap",
+            PcapFault::LinkType => "LinkType",
+            PcapFault::RecordSize => "RecordSize",
+            PcapFault::CutShort => "CutShort",
+        }
+    }
+}
+
 /// What follows in a file.
 #[derive(Clone, Copy, Debug, PartialEq, Eq)]
 pub(crate) enum Layout {

@@ -18,8 +18,11 @@ pub trait TakesFrames {
     /// Why it takes no more.
     type Stop: Drop;
 
-    /// It has taken these frames, with their numbers.
-    ghost holds: { Self → List NumberedFrame → Type 0 };
+    /// What is known of it beside its frames, and no frame changes.
+    ghost Beside: { Type 0 };
+
+    /// It has taken these frames, with their numbers, and this is known beside them.
+    ghost holds: { Beside → Self → List NumberedFrame → Type 0 };
 
     /// Takes the next frame.
     ///

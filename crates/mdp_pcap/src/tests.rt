@@ -1,4 +1,5 @@
-//! Samples of captured traffic, in pieces of several sizes, against what tshark finds in them.
+//! Samples of captured traffic, in pieces of several sizes, against what tshark finds in them; and
+//! each allocation refused in turn.
 
 mod samples;
 
@@ -9,6 +10,7 @@ use crate::{
     TakesFrames,
 };
 use mdp_templates::Feed;
+use refusing::Refusing;
 use std::alloc::{AllocError, Global};
 use std::process::Abort;
 use std::test::Fail;
@@ -23,7 +25,9 @@ struct Lines {
 impl TakesFrames for Lines {
     type Stop = AllocError;
 
-    ghost holds = { λ _ _. Unit {0} };
+    ghost Beside = { Unit {0} };
+
+    ghost holds = { λ _ _ _. Unit {0} };
 
     fn take(&mut self, number: u32, frame: CapturedFrame<'_>) -> Result<(), AllocError> {
         match self.addresses.outcome_of(frame) {
@@ -214,4 +218,64 @@ fn reads_the_whole_frames_of_a_file_that_was_cut(rt: HostRuntime) -> Result<(), 
         )?
     );
     Ok(())
+}
+
+/// A pcapng with an interface of Ethernet and one of raw IP, a frame of each, and a simple packet.
+const TWO_INTERFACES: &[u8] = b"\
+\x0a\x0d\x0d\x0a\x1c\x00\x00\x00\x4d\x3c\x2b\x1a\x01\x00\x00\x00\
+\xff\xff\xff\xff\xff\xff\xff\xff\x1c\x00\x00\x00\
+\x01\x00\x00\x00\x14\x00\x00\x00\x01\x00\x00\x00\x00\x00\x00\x00\x14\x00\x00\x00\
+\x01\x00\x00\x00\x14\x00\x00\x00\x65\x00\x00\x00\x00\x00\x00\x00\x14\x00\x00\x00\
+\x06\x00\x00\x00\x50\x00\x00\x00\x00\x00\x00\x00\x00\x00\x00\x00\x00\x00\x00\x00\
+\x2d\x00\x00\x00\x2d\x00\x00\x00\
+\x01\x00\x5e\x00\x1f\x01\x02\x00\x00\x00\x00\x01\x08\x00\
+\x45\x00\x00\x1f\x00\x07\x00\x00\x10\x11\x00\x00\x0a\x00\x00\x01\xe0\x00\x1f\x01\
+\x9c\x40\x37\xe6\x00\x0b\x00\x00one\x00\x00\x00\x50\x00\x00\x00\
+\x06\x00\x00\x00\x40\x00\x00\x00\x01\x00\x00\x00\x00\x00\x00\x00\x00\x00\x00\x00\
+\x1f\x00\x00\x00\x1f\x00\x00\x00\
+\x45\x00\x00\x1f\x00\x07\x00\x00\x10\x11\x00\x00\x0a\x00\x00\x01\xe0\x00\x20\x01\
+\x9c\x40\x37\xe6\x00\x0b\x00\x00two\x00\x40\x00\x00\x00\
+\x03\x00\x00\x00\x40\x00\x00\x00\x2d\x00\x00\x00\
+\x01\x00\x5e\x00\x1f\x2b\x02\x00\x00\x00\x00\x01\x08\x00\
+\x45\x00\x00\x1f\x00\x07\x00\x00\x10\x11\x00\x00\x0a\x00\x00\x01\xe0\x00\x1f\x2b\
+\x9c\x40\x37\xe6\x00\x0b\x00\x00six\x00\x00\x00\x40\x00\x00\x00";
+
+/// Its frames.
+const TWO_INTERFACES_FRAMES: &str =
+    "1 datagram A 6f6e65\n2 datagram B 74776f\n3 datagram S 736978\n";
+
+/// How the file ends where memory suffices, or why it wasn't read to its end.
+type Ends = Result<Option<PcapFault>, Halt<AllocError>>;
+
+// Reads it in pieces of 7 bytes until memory runs out, and gives the frames that were handed on,
+// and how it ends.
+fn read_two_interfaces(alloc: Global, heap: &Refusing<Global>) -> Result<(String, Ends), Fail> {
+    let mut reader = PcapReader::new(heap);
+    let mut lines = Lines {
+        addresses: addresses(alloc)?,
+        text: String::new(alloc),
+    };
+    for piece in TWO_INTERFACES.chunks(7) {
+        if let Err(halt) = reader.take_piece(piece, &mut lines) {
+            return Ok((lines.text, Err(halt)));
+        }
+    }
+    Ok((lines.text, Ok(reader.ending())))
+}
+
+#[test]
+fn want_of_memory_halts_behind_the_first_frames(rt: HostRuntime) -> Result<(), Fail> {
+    for number in 1..100u64 {
+        let heap = Refusing::new(rt.alloc(), number);
+        let (text, ends) = read_two_interfaces(rt.alloc(), &heap)?;
+        if !heap.has_refused() {
+            assert_eq!(rt; ends, Ok(None));
+            assert_eq!(rt; text.as_str(), TWO_INTERFACES_FRAMES);
+            assert!(rt; number > 3);
+            return Ok(());
+        }
+        assert_eq!(rt; ends, Err(Halt::Memory));
+        assert!(rt; TWO_INTERFACES_FRAMES.starts_with(text.as_str()));
+    }
+    Err("an allocation is always refused".into())
 }
