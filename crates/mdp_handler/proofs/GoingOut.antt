@@ -11,8 +11,9 @@ use Rattle.mdp_capture.specs.Fronts.{front_of}
 use Rattle.mdp_capture.specs.Lines.{Brings, NumberedLine, instruments_of, line_with_number, numbered_lines}
 use Rattle.mdp_print.specs.Written.{HasCounted}
 use Rattle.mdp_templates.specs.declared.instrument.Instrument.{Instrument}
+use Rattle.mdp_pipeline.specs.Notes.{end_note}
 use Rattle.mdp_pipeline.specs.Output.{BeginsInTextOrder}
-use Rattle.mdp_pipeline.specs.Streamed.{EndsAsCapture, EndsBehind, Goes, HasHandedOn, LacksInstrument, LinesShow, PrintsLines, Setup, StandsBehind, StopsAt, StopsAtEnd, StopsInPiece, Streams, TakesEnd, TakesPiece, channel_with, numbered, text_held}
+use Rattle.mdp_pipeline.specs.Streamed.{EndsAfter, EndsAsCapture, Goes, HasHandedOn, LacksInstrument, LinesShow, PrintsLines, Setup, StandsBehind, StopsAt, StopsAtEnd, StopsInPiece, Streams, TakesEnd, TakesPiece, channel_with, numbered, text_held}
 use Rattle.mdp_pipeline.specs.Streamed.LinesShow.{unlisted}
 use Rattle.mdp_pipeline.specs.TextOrder.{arrivals_in}
 use Rattle.mdp_arbiter.specs.Channel.{ListedChannel}
@@ -26,20 +27,22 @@ use Rattle.mdp_pipeline.specs.declared.streamed_lines.StreamedLines.{StreamedLin
 use Rattle.mdp_pipeline.proofs.Beginnings.{begins_none}
 use Rattle.mdp_pipeline.proofs.TextOrder.{begins_in_text_order}
 use Rattle.mdp_capture.proofs.Following.{comes_to}
-use Rattle.mdp_pipeline.proofs.StreamedText.{begins_goes, brings_there, ended_shows, front_there, front_whole, instruments_there, lacks_one, makes_capture, numbered-append, refused_there, shows_all, shows_sent}
+use Rattle.mdp_pipeline.proofs.StreamedText.{begins_goes, brings_there, ended_shows, ends_with, front_there, front_whole, instruments_there, lacks_one, makes_capture, numbered-append, refused_there, shows_all, shows_sent}
 use Rattle.mdp_handler.specs.Faults.{Tells, end_line, note_line, note_lines}
 use Rattle.mdp_handler.specs.Live.{EndsFor, HasBegunLines, HasEnded, HasShown, IsInput, IsRefusedBehind, ReadsOnce, SoFar, StandsAtEnd, Went, and_then, reads_failed, went}
+use Rattle.mdp_handler.specs.declared.faults.Place.{Place}
+use Rattle.mdp_handler.specs.declared.faults.Place.TheVariants.{Line}
 use Rattle.mdp_handler.specs.declared.live.LiveFault.{LiveFault}
 use Rattle.mdp_handler.proofs.Telling.{tells_both}
 
-notes-append : (notes more : List Note) → note_lines (notes ++ more) ≡ note_lines notes ++ note_lines more
-notes-append notes more = flat_map-append note_line notes more
+notes-append : (place : Place) (notes more : List Note) → note_lines place (notes ++ more) ≡ note_lines place notes ++ note_lines place more
+notes-append place notes more = flat_map-append (note_line place) notes more
 
 -- what was told before, and more notes
-pub tells_more : {F : Type 0} (failed : F → ℕ) (taken : F → List ℕ) (first old new : F) (notes more : List Note) → Tells failed taken first old (note_lines notes) → Tells failed taken old new (note_lines more)
-    → Tells failed taken first new (note_lines (notes ++ more))
-tells_more failed taken first old new notes more before now =
-    subst (Tells failed taken first new) (sym (notes-append notes more)) (tells_both failed taken first old new (note_lines notes) (note_lines more) before now)
+pub tells_more : (place : Place) {F : Type 0} (failed : F → ℕ) (taken : F → List ℕ) (first old new : F) (notes more : List Note) → Tells failed taken first old (note_lines place notes) → Tells failed taken old new (note_lines place more)
+    → Tells failed taken first new (note_lines place (notes ++ more))
+tells_more place failed taken first old new notes more before now =
+    subst (Tells failed taken first new) (sym (notes-append place notes more)) (tells_both failed taken first old new (note_lines place notes) (note_lines place more) before now)
 
 -- what went out before, and more text
 pub went_more : (start sent more taken taken' : List ℕ) → taken ≡ start ++ sent → taken' ≡ taken ++ more → taken' ≡ start ++ (sent ++ more)
@@ -63,7 +66,7 @@ module _ {A : Type 0} where
 
   -- a text begins with the lines that a run stands behind, of which a beginning went out
   pub has_begun : (setup : Setup) (whole : List ℕ) (texts rest : List (List ℕ)) (start sent taken : List ℕ) (told : List Note) (now : StreamedLines A) (n : ℕ) (Told : List ℕ → Type 0)
-      → lines whole ≡ texts ++ rest → StandsBehind setup texts sent told now → taken ≡ (start ++ sent) ++ take n (text_held now.run) → Told (note_lines (told ++ now.notes.items))
+      → lines whole ≡ texts ++ rest → StandsBehind setup texts sent told now → taken ≡ (start ++ sent) ++ take n (text_held now.run) → Told (note_lines Line (told ++ now.notes.items))
       → HasBegunLines setup whole (went start taken Told)
   has_begun setup whole texts rest start sent taken told now n Told of stands taken_is telling =
       let listed : stands.capture.instruments ≡ flat_map instruments_of (numbered texts) = instruments_there texts stands.capture stands.comes_to in
@@ -84,7 +87,7 @@ module _ {A : Type 0} where
   -- ---- a refusal
 
   pub is_refused : (setup : Setup) (whole start sent taken : List ℕ) (told : List Note) (refused : RefusedLine) (now : StreamedRun A) (Told : List ℕ → Type 0)
-      → StopsAt setup whole sent told refused now → text_held now.lines.run ≡ [] → now.lines.notes.items ≡ [] → taken ≡ start ++ sent → Told (note_lines told)
+      → StopsAt setup whole sent told refused now → text_held now.lines.run ≡ [] → now.lines.notes.items ≡ [] → taken ≡ start ++ sent → Told (note_lines Line told)
       → IsRefusedBehind setup whole (went start taken Told) refused
   is_refused setup whole start sent taken told refused now Told stops no_text no_notes taken_is telling =
       let stands = stops.stands in
@@ -130,7 +133,7 @@ module _ {A : Type 0} where
 module _ {A F : Type 0} (failed : F → ℕ) (taken : F → List ℕ) where
   -- it was taken in, and all that it shows and tells went out
   pub piece_handled : (piece : List ℕ) (old mid new : StreamedRun A) (before after : List ℕ) (heard told : F) → TakesPiece piece old mid → new.cutter ≡ mid.cutter → HasHandedOn mid.lines new.lines
-      → after ≡ before ++ text_held mid.lines.run → Tells failed taken heard told (note_lines mid.lines.notes.items)
+      → after ≡ before ++ text_held mid.lines.run → Tells failed taken heard told (note_lines Line mid.lines.notes.items)
       → (setup : Setup) (text start : List ℕ) (first : F) → SoFar setup text (went start before (Tells failed taken first heard)) old
       → SoFar setup (text ++ piece) (went start after (Tells failed taken first told)) new
   piece_handled piece old mid new before after heard told takes same on out tells setup text start first so_far = record {
@@ -140,28 +143,28 @@ module _ {A F : Type 0} (failed : F → ℕ) (taken : F → List ℕ) where
     no_text = on.no_text;
     no_notes = on.no_notes;
     went_is = went_more start so_far.sent (text_held mid.lines.run) before after so_far.went_is out;
-    told = tells_more failed taken first heard told so_far.notes mid.lines.notes.items so_far.told tells;
+    told = tells_more Line failed taken first heard told so_far.notes mid.lines.notes.items so_far.told tells;
   }
 
   -- where a line of the piece refuses the run
   pub piece_refused : (piece : List ℕ) (refused : RefusedLine) (old mid new : StreamedRun A) (before after : List ℕ) (heard told : F) → StopsInPiece piece refused old mid → HasHandedOn mid.lines new.lines
-      → after ≡ before ++ text_held mid.lines.run → Tells failed taken heard told (note_lines mid.lines.notes.items)
+      → after ≡ before ++ text_held mid.lines.run → Tells failed taken heard told (note_lines Line mid.lines.notes.items)
       → (setup : Setup) (text more start : List ℕ) (first : F) → SoFar setup text (went start before (Tells failed taken first heard)) old
       → IsRefusedBehind setup ((text ++ piece) ++ more) (went start after (Tells failed taken first told)) refused
   piece_refused piece refused old mid new before after heard told stops on out tells setup text more start first so_far =
       is_refused setup ((text ++ piece) ++ more) start (so_far.sent ++ text_held mid.lines.run) after (so_far.notes ++ mid.lines.notes.items) refused new (Tells failed taken first told)
       (stops_on setup ((text ++ piece) ++ more) so_far.sent so_far.notes refused mid new on (stops setup text more so_far.sent so_far.notes so_far.streams)) on.no_text on.no_notes
       (went_more start so_far.sent (text_held mid.lines.run) before after so_far.went_is out)
-      (tells_more failed taken first heard told so_far.notes mid.lines.notes.items so_far.told tells)
+      (tells_more Line failed taken first heard told so_far.notes mid.lines.notes.items so_far.told tells)
 
   -- lines of which a beginning went out
   cut_off : (setup : Setup) (whole : List ℕ) (texts rest : List (List ℕ)) (start sent before after : List ℕ) (notes : List Note) (now : StreamedLines A) (n : ℕ) (heard told first : F)
       → lines whole ≡ texts ++ rest → StandsBehind setup texts sent notes now → before ≡ start ++ sent → after ≡ before ++ take n (text_held now.run)
-      → Tells failed taken first heard (note_lines notes) → Tells failed taken heard told (note_lines now.notes.items)
+      → Tells failed taken first heard (note_lines Line notes) → Tells failed taken heard told (note_lines Line now.notes.items)
       → HasBegunLines setup whole (went start after (Tells failed taken first told))
   cut_off setup whole texts rest start sent before after notes now n heard told first of stands was out before_told tells =
       has_begun setup whole texts rest start sent after notes now n (Tells failed taken first told) of stands (out ∙ ap (λ (t : List ℕ). t ++ take n (text_held now.run)) was)
-      (tells_more failed taken first heard told notes now.notes.items before_told tells)
+      (tells_more Line failed taken first heard told notes now.notes.items before_told tells)
 
   -- a text that goes on begins with the lines that have ended
   begins_there : (setup : Setup) (text more sent : List ℕ) (notes : List Note) (now : StreamedRun A) (so_far : Streams setup text sent notes now) → lines (text ++ more) ≡ so_far.front ++ lines (now.cutter ++ more)
@@ -169,7 +172,7 @@ module _ {A F : Type 0} (failed : F → ℕ) (taken : F → List ℕ) where
 
   -- a write failed of what the piece shows
   pub piece_cut : (piece : List ℕ) (old mid : StreamedRun A) (before after : List ℕ) (n : ℕ) (heard told : F) → TakesPiece piece old mid
-      → after ≡ before ++ take n (text_held mid.lines.run) → Tells failed taken heard told (note_lines mid.lines.notes.items)
+      → after ≡ before ++ take n (text_held mid.lines.run) → Tells failed taken heard told (note_lines Line mid.lines.notes.items)
       → (setup : Setup) (text more start : List ℕ) (first : F) → SoFar setup text (went start before (Tells failed taken first heard)) old
       → HasBegunLines setup ((text ++ piece) ++ more) (went start after (Tells failed taken first told))
   piece_cut piece old mid before after n heard told takes out tells setup text more start first so_far =
@@ -179,7 +182,7 @@ module _ {A F : Type 0} (failed : F → ℕ) (taken : F → List ℕ) where
 
   -- a write failed of what the lines before the refusal show
   pub piece_cut_refused : (piece : List ℕ) (refused : RefusedLine) (old mid : StreamedRun A) (before after : List ℕ) (n : ℕ) (heard told : F) → StopsInPiece piece refused old mid
-      → after ≡ before ++ take n (text_held mid.lines.run) → Tells failed taken heard told (note_lines mid.lines.notes.items)
+      → after ≡ before ++ take n (text_held mid.lines.run) → Tells failed taken heard told (note_lines Line mid.lines.notes.items)
       → (setup : Setup) (text more start : List ℕ) (first : F) → SoFar setup text (went start before (Tells failed taken first heard)) old
       → HasBegunLines setup ((text ++ piece) ++ more) (went start after (Tells failed taken first told))
   piece_cut_refused piece refused old mid before after n heard told stops out tells setup text more start first so_far =
@@ -193,13 +196,13 @@ module _ {A F : Type 0} (failed : F → ℕ) (taken : F → List ℕ) where
   stays_there setup text more start before heard first old so_far =
       has_begun setup (text ++ more) so_far.streams.front (lines (old.cutter ++ more)) start so_far.sent before so_far.notes old.lines 0 (Tells failed taken first heard)
       (so_far.streams.cuts more) so_far.streams.stands (so_far.went_is ∙ sym (append-nil (start ++ so_far.sent)))
-      (subst (λ (held : List Note). Tells failed taken first heard (note_lines held)) (sym (ap (λ (held : List Note). so_far.notes ++ held) so_far.no_notes ∙ append-nil so_far.notes)) so_far.told)
+      (subst (λ (held : List Note). Tells failed taken first heard (note_lines Line held)) (sym (ap (λ (held : List Note). so_far.notes ++ held) so_far.no_notes ∙ append-nil so_far.notes)) so_far.told)
 
 -- ---- the end of the text
 
 module _ {A F : Type 0} (failed : F → ℕ) (taken : F → List ℕ) where
   pub end_handled : (old mid new : StreamedRun A) (before after : List ℕ) (heard told : F) → TakesEnd old mid → HasHandedOn mid.lines new.lines
-      → after ≡ before ++ text_held mid.lines.run → Tells failed taken heard told (note_lines mid.lines.notes.items)
+      → after ≡ before ++ text_held mid.lines.run → Tells failed taken heard told (note_lines Line mid.lines.notes.items)
       → (setup : Setup) (text start : List ℕ) (first : F) → SoFar setup text (went start before (Tells failed taken first heard)) old
       → StandsAtEnd setup text (went start after (Tells failed taken first told)) new
   end_handled old mid new before after heard told takes on out tells setup text start first so_far = record {
@@ -209,21 +212,21 @@ module _ {A F : Type 0} (failed : F → ℕ) (taken : F → List ℕ) where
     no_text = on.no_text;
     no_notes = on.no_notes;
     went_is = went_more start so_far.sent (text_held mid.lines.run) before after so_far.went_is out;
-    told = tells_more failed taken first heard told so_far.notes mid.lines.notes.items so_far.told tells;
+    told = tells_more Line failed taken first heard told so_far.notes mid.lines.notes.items so_far.told tells;
   }
 
   pub end_refused : (refused : RefusedLine) (old mid new : StreamedRun A) (before after : List ℕ) (heard told : F) → StopsAtEnd refused old mid → HasHandedOn mid.lines new.lines
-      → after ≡ before ++ text_held mid.lines.run → Tells failed taken heard told (note_lines mid.lines.notes.items)
+      → after ≡ before ++ text_held mid.lines.run → Tells failed taken heard told (note_lines Line mid.lines.notes.items)
       → (setup : Setup) (text start : List ℕ) (first : F) → SoFar setup text (went start before (Tells failed taken first heard)) old
       → IsRefusedBehind setup text (went start after (Tells failed taken first told)) refused
   end_refused refused old mid new before after heard told stops on out tells setup text start first so_far =
       is_refused setup text start (so_far.sent ++ text_held mid.lines.run) after (so_far.notes ++ mid.lines.notes.items) refused new (Tells failed taken first told)
       (stops_on setup text so_far.sent so_far.notes refused mid new on (stops setup text so_far.sent so_far.notes so_far.streams)) on.no_text on.no_notes
       (went_more start so_far.sent (text_held mid.lines.run) before after so_far.went_is out)
-      (tells_more failed taken first heard told so_far.notes mid.lines.notes.items so_far.told tells)
+      (tells_more Line failed taken first heard told so_far.notes mid.lines.notes.items so_far.told tells)
 
   pub end_cut : (old mid : StreamedRun A) (before after : List ℕ) (n : ℕ) (heard told : F) → TakesEnd old mid
-      → after ≡ before ++ take n (text_held mid.lines.run) → Tells failed taken heard told (note_lines mid.lines.notes.items)
+      → after ≡ before ++ take n (text_held mid.lines.run) → Tells failed taken heard told (note_lines Line mid.lines.notes.items)
       → (setup : Setup) (text start : List ℕ) (first : F) → SoFar setup text (went start before (Tells failed taken first heard)) old
       → HasBegunLines setup text (went start after (Tells failed taken first told))
   end_cut old mid before after n heard told takes out tells setup text start first so_far =
@@ -231,7 +234,7 @@ module _ {A F : Type 0} (failed : F → ℕ) (taken : F → List ℕ) where
       (sym (append-nil (lines text))) (takes setup text so_far.sent so_far.notes so_far.streams) so_far.went_is out so_far.told tells
 
   pub end_cut_refused : (refused : RefusedLine) (old mid : StreamedRun A) (before after : List ℕ) (n : ℕ) (heard told : F) → StopsAtEnd refused old mid
-      → after ≡ before ++ take n (text_held mid.lines.run) → Tells failed taken heard told (note_lines mid.lines.notes.items)
+      → after ≡ before ++ take n (text_held mid.lines.run) → Tells failed taken heard told (note_lines Line mid.lines.notes.items)
       → (setup : Setup) (text start : List ℕ) (first : F) → SoFar setup text (went start before (Tells failed taken first heard)) old
       → HasBegunLines setup text (went start after (Tells failed taken first told))
   end_cut_refused refused old mid before after n heard told stops out tells setup text start first so_far =
@@ -251,7 +254,7 @@ module _ {A F : Type 0} (failed : F → ℕ) (taken : F → List ℕ) where
   stays_at_end setup text start before heard first run at =
       has_begun setup text (lines text) [] start at.sent before at.notes run.lines 0 (Tells failed taken first heard) (sym (append-nil (lines text))) at.stands
       (at.went_is ∙ sym (append-nil (start ++ at.sent)))
-      (subst (λ (held : List Note). Tells failed taken first heard (note_lines held)) (sym (ap (λ (held : List Note). at.notes ++ held) at.no_notes ∙ append-nil at.notes)) at.told)
+      (subst (λ (held : List Note). Tells failed taken first heard (note_lines Line held)) (sym (ap (λ (held : List Note). at.notes ++ held) at.no_notes ∙ append-nil at.notes)) at.told)
 
   -- no instrument is listed
   pub lacks_instrument : (setup : Setup) (text start before : List ℕ) (heard first : F) (run : StreamedRun A) (refused : RefusedLine) → LacksInstrument run.lines refused
@@ -278,32 +281,33 @@ module _ {A F : Type 0} (failed : F → ℕ) (taken : F → List ℕ) where
 
   -- the end was written and told
   pub has_ended : (setup : Setup) (text start before after : List ℕ) (heard told first : F) (run : StreamedRun A) (ended : EndedRun A) (note : Option EndNote) (standing : Standing) → EndsAsCapture run.lines ended
-      → ((setup : Setup) (texts : List (List ℕ)) (capture : CaptureContent) (start sent : List ℕ) (notes : List Note) → EndsBehind setup texts capture sent notes ended → before ≡ start ++ sent
-      → (whole : List ℕ) × (after ≡ start ++ whole) × PrintsLines (channel_with capture.instruments setup) (numbered texts) notes whole standing)
-      → Tells failed taken heard told (end_line note) → StandsAtEnd setup text (went start before (Tells failed taken first heard)) run
+      → ((channel : ListedChannel) (came : List NumberedLine) (start sent : List ℕ) (notes : List Note) → EndsAfter channel came sent notes ended → before ≡ start ++ sent
+      → (whole : List ℕ) × (after ≡ start ++ whole) × PrintsLines channel came notes whole standing)
+      → note ≡ end_note ended.instruments ended.run.handler → Tells failed taken heard told (end_line note) → StandsAtEnd setup text (went start before (Tells failed taken first heard)) run
       → HasEnded setup text (went start after (Tells failed taken first told))
-  has_ended setup text start before after heard told first run ended note standing ends writes tells at =
+  has_ended setup text start before after heard told first run ended note standing ends writes note_is tells at =
       let behind = ends setup (lines text) at.sent at.notes at.stands in
       let capture = behind.0 in
       let notes = at.notes ++ run.lines.notes.items in
-      let all = writes setup (lines text) capture start at.sent notes behind.1 at.went_is in
+      let all = writes (channel_with capture.instruments setup) (numbered (lines text)) start at.sent notes behind.1.ends at.went_is in
       record {
         capture = capture;
-        is = makes_capture text capture behind.1.comes_to behind.1.listed;
+        is = makes_capture text capture behind.1.comes_to behind.1.ends.listed;
         text = all.0;
         went_is = all.1;
         notes = notes;
         standing = standing;
         prints = all.2;
         note = note;
-        told = tells_both failed taken first heard told (note_lines notes) (end_line note)
-            (subst (λ (held : List Note). Tells failed taken first heard (note_lines held)) (sym (ap (λ (held : List Note). at.notes ++ held) at.no_notes ∙ append-nil at.notes)) at.told) tells;
+        note_is = ends_with (channel_with capture.instruments setup) (numbered (lines text)) at.sent notes ended note behind.1.ends note_is;
+        told = tells_both failed taken first heard told (note_lines Line notes) (end_line note)
+            (subst (λ (held : List Note). Tells failed taken first heard (note_lines Line held)) (sym (ap (λ (held : List Note). at.notes ++ held) at.no_notes ∙ append-nil at.notes)) at.told) tells;
       }
 
   -- the end was not written whole
   pub ended_early : (setup : Setup) (text start before after : List ℕ) (heard first : F) (run : StreamedRun A) (ended : EndedRun A) → EndsAsCapture run.lines ended
-      → ((setup : Setup) (texts : List (List ℕ)) (capture : CaptureContent) (start sent : List ℕ) (notes : List Note) → EndsBehind setup texts capture sent notes ended → before ≡ start ++ sent
-      → BeginsInTextOrder (channel_with capture.instruments setup) (numbered texts) start after)
+      → ((channel : ListedChannel) (came : List NumberedLine) (start sent : List ℕ) (notes : List Note) → EndsAfter channel came sent notes ended → before ≡ start ++ sent
+      → BeginsInTextOrder channel came start after)
       → StandsAtEnd setup text (went start before (Tells failed taken first heard)) run → HasBegunLines setup text (went start after (Tells failed taken first heard))
   ended_early setup text start before after heard first run ended ends begins at =
       let behind = ends setup (lines text) at.sent at.notes at.stands in
@@ -314,13 +318,13 @@ module _ {A F : Type 0} (failed : F → ℕ) (taken : F → List ℕ) where
         came = numbered (lines text);
         rest = [];
         of = sym (append-nil (numbered (lines text)));
-        begins = subst (λ (xs : List Instrument). BeginsInTextOrder (channel_with xs setup) (numbered (lines text)) start after) listed (begins setup (lines text) capture start at.sent notes behind.1 at.went_is);
+        begins = subst (λ (xs : List Instrument). BeginsInTextOrder (channel_with xs setup) (numbered (lines text)) start after) listed (begins (channel_with capture.instruments setup) (numbered (lines text)) start at.sent notes behind.1.ends at.went_is);
         shown = at.sent ++ ended.run.handler.held;
         has = record {
           notes = notes;
           shows = subst (λ (xs : List Instrument). LinesShow (channel_with xs setup) (numbered (lines text)) (at.sent ++ ended.run.handler.held) notes) listed
               (ended_shows setup (lines text) capture at.sent notes ended behind.1);
-          told = subst (λ (held : List Note). Tells failed taken first heard (note_lines held)) (sym (ap (λ (held : List Note). at.notes ++ held) at.no_notes ∙ append-nil at.notes)) at.told;
+          told = subst (λ (held : List Note). Tells failed taken first heard (note_lines Line held)) (sym (ap (λ (held : List Note). at.notes ++ held) at.no_notes ∙ append-nil at.notes)) at.told;
         };
       }
 
@@ -424,7 +428,7 @@ module _ {F : Type 0} (failed : F → ℕ) (taken : F → List ℕ) where
     has = record {
       notes = behind.has.notes;
       shows = behind.has.shows;
-      told = tells_both failed taken first heard told (note_lines behind.has.notes) why behind.has.told tells;
+      told = tells_both failed taken first heard told (note_lines Line behind.has.notes) why behind.has.told tells;
     };
   }
 
@@ -439,7 +443,7 @@ module _ {F : Type 0} (failed : F → ℕ) (taken : F → List ℕ) where
     has = record {
       notes = begun.has.notes;
       shows = begun.has.shows;
-      told = tells_both failed taken first heard told (note_lines begun.has.notes) why begun.has.told tells;
+      told = tells_both failed taken first heard told (note_lines Line begun.has.notes) why begun.has.told tells;
     };
   }
 

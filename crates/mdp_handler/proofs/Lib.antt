@@ -1,4 +1,6 @@
 mod Names
 mod Numbers
+mod Asking
 pub mod Telling
 pub mod GoingOut
+pub mod Frames

@@ -5,6 +5,7 @@ use Rattle.std.proofs.lemmas.Grind.{flat_map-append}
 use Rattle.std.proofs.lemmas.List.{take-append-drop, take_more}
 use Rattle.mdp_capture.specs.declared.skip.SkippedLine.{SkippedLine}
 use Rattle.mdp_pipeline.specs.declared.note.Note.{Note}
+use Rattle.mdp_handler.specs.declared.faults.Place.{Place}
 use Rattle.mdp_handler.specs.Faults.{LeavesOut, Tells, note_line, note_lines, skipped_line, skipped_lines}
 
 -- where all is sent, nothing is left out, however much may be
@@ -94,8 +95,8 @@ lines_more lines n d below =
     ∙ sym (ap skipped_lines (take_more lines n d below))
 
 -- one note more
-pub notes_on : (notes : List Note) (n : ℕ) (d : Note) → n < length notes → note_lines (take n notes) ++ note_line (get_or notes n d) ≡ note_lines (take (n + 1) notes)
-notes_on notes n d below =
-    ap (λ (bytes : List ℕ). note_lines (take n notes) ++ bytes) (sym (append-nil (note_line (get_or notes n d))))
-    ∙ sym (flat_map-append note_line (take n notes) (get_or notes n d ∷ []))
-    ∙ sym (ap note_lines (take_more notes n d below))
+pub notes_on : (place : Place) (notes : List Note) (n : ℕ) (d : Note) → n < length notes → note_lines place (take n notes) ++ note_line place (get_or notes n d) ≡ note_lines place (take (n + 1) notes)
+notes_on place notes n d below =
+    ap (λ (bytes : List ℕ). note_lines place (take n notes) ++ bytes) (sym (append-nil (note_line place (get_or notes n d))))
+    ∙ sym (flat_map-append (note_line place) (take n notes) (get_or notes n d ∷ []))
+    ∙ sym (ap (note_lines place) (take_more notes n d below))

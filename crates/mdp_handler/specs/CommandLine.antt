@@ -1,11 +1,12 @@
 -- The command line: the options of the program, and what words of a command line ask for.
-use Rattle.std.specs.Prelude.{◌≡◌, ◌≤◌, ℕ, Bool, true, false, List, [], ◌∷◌, Option, Some, None, IfSome, codes, map, pos}
+use Rattle.std.specs.Prelude.{◌≡◌, ◌≤◌, ℕ, Bool, true, false, List, [], ◌∷◌, Option, Some, None, IfSome, IsSome, ◌⊎◌, codes, map, pos}
 use denote.Ref.{Bor}
+use Rattle.std.specs.Option.{option_map}
 use Rattle.std.specs.Str.Parse.{IsNumeral, digits_value, without_leading_plus}
-use Rattle.clap.specs.Words.{App, Rule, Text, IsAmong, Kinds, fault_of, matches_of, new_app, new_rule, one_of, with_rule}
+use Rattle.clap.specs.Words.{App, Rule, Text, IsAmong, Kinds, fault_of, first_of, matches_of, new_app, new_rule, one_of, with_rule}
 use Rattle.clap.specs.declared.builder.action.ArgAction.TheVariants.{SetTrue}
 use Rattle.clap.specs.declared.builder.value_parser.ValueParser.{ValueParser}
-use Rattle.clap.specs.declared.builder.value_parser.ValueParser.TheVariants.{Signed}
+use Rattle.clap.specs.declared.builder.value_parser.ValueParser.TheVariants.{Signed, String}
 use Rattle.clap.specs.declared.error.kind.ErrorKind.{ErrorKind}
 use Rattle.clap.specs.declared.error.kind.ErrorKind.TheVariants as kind
 use Rattle.mdp_arbiter.specs.declared.start.Start.{Start}
@@ -39,12 +40,13 @@ plain = let app = new_app (codes "mdp_handler") in record app { top = record app
 -- the program with its options
 abbrev pub options : App
 options =
-    with_rule (with_rule (with_rule (with_rule (with_rule plain
+    with_rule (with_rule (with_rule (with_rule (with_rule (with_rule plain
     (with_default (codes "1024") (option (codes "window") (up_to 65536))))
     (option (codes "workers") (up_to 16)))
     (flag (codes "in-order")))
     (flag (codes "live")))
-    (flag (codes "join"))
+    (flag (codes "join")))
+    (option (codes "channel") String)
 
 -- the words have options of the program alone, each at most once and with a value in its range
 abbrev pub AsksToRun : List Text → Type 0
@@ -102,6 +104,10 @@ start_asked false = FromOne
 abbrev pub IsStart : List Text → Start → Type 0
 IsStart words start = (joins : Bool) × IsFlag (codes "join") words joins × (start ≡ start_asked joins)
 
+-- the text that is given for an option, if one is
+abbrev pub IsText : Text → List Text → Option (Bor Text) → Type 0
+IsText name words given = option_map (λ word. word.now) given ≡ first_of name (matches_of options words)
+
 -- the settings are those that the words give
 pub record AreSettings (words : List Text) (settings : Settings) : Type 0 where
   pub window : IsSetting (codes "window") 65536 1024 words settings.window
@@ -109,6 +115,7 @@ pub record AreSettings (words : List Text) (settings : Settings) : Type 0 where
   pub in_order : IsFlag (codes "in-order") words settings.in_order
   pub live : IsFlag (codes "live") words settings.live
   pub start : IsStart words settings.start
+  pub channel : IsText (codes "channel") words settings.channel
 
 -- as many workers as there may be
 abbrev pub AreWorkers : ℕ → Type 0
@@ -119,3 +126,7 @@ pub record AreLawful (settings : Settings) : Type 0 where
   pub some_window : 1 ≤ settings.window
   pub most_window : settings.window ≤ 65536
   pub workers : IfSome settings.workers AreWorkers
+
+-- the words ask for a run that handles its input as it comes
+abbrev pub AsksForPieces : List Text → Type 0
+AsksForPieces words = IsFlag (codes "live") words true ⊎ IsSome (first_of (codes "channel") (matches_of options words))

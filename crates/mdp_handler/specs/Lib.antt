@@ -2,4 +2,5 @@ pub mod CommandLine
 pub mod Faults
 pub mod Printed
 pub mod Live
+pub mod Recording
 pub mod Outcome

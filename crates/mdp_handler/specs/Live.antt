@@ -9,11 +9,12 @@ use Rattle.mdp_capture.specs.Fronts.{front_of}
 use Rattle.mdp_capture.specs.Lines.{Brings, NumberedLine, instruments_of, numbered_lines}
 use Rattle.mdp_templates.specs.declared.instrument.Instrument.{Instrument}
 use Rattle.mdp_pipeline.specs.Output.{BeginsInTextOrder}
-use Rattle.mdp_pipeline.specs.Streamed.{LinesShow, PrintsLines, Setup, StandsBehind, Streams, channel_with, text_held}
+use Rattle.mdp_pipeline.specs.Streamed.{EndsWith, LinesShow, PrintsLines, Setup, StandsBehind, Streams, channel_with, text_held}
 use Rattle.mdp_pipeline.specs.declared.ended.EndNote.{EndNote}
 use Rattle.mdp_pipeline.specs.declared.note.Note.{Note}
 use Rattle.mdp_pipeline.specs.declared.streamed.StreamedRun.{StreamedRun}
 use Rattle.mdp_handler.specs.Faults.{end_line, note_lines}
+use Rattle.mdp_handler.specs.declared.faults.Place.TheVariants.{Line}
 use Rattle.mdp_handler.specs.declared.live.LiveFault.{LiveFault}
 use Rattle.mdp_handler.specs.declared.live.LiveFault.TheVariants.{Refused, Run, Input}
 
@@ -38,7 +39,7 @@ pub record SoFar {A : Type 0} (setup : Setup) (text : List ℕ) (did : Went) (ru
   pub no_text : text_held run.lines.run ≡ []
   pub no_notes : run.lines.notes.items ≡ []
   pub went_is : did.after ≡ did.before ++ sent
-  pub told : did.Told (note_lines notes)
+  pub told : did.Told (note_lines Line notes)
 
 -- The same where the text has ended, and its last line was taken in.
 pub record StandsAtEnd {A : Type 0} (setup : Setup) (text : List ℕ) (did : Went) (run : StreamedRun A) : Type 0 where
@@ -48,14 +49,14 @@ pub record StandsAtEnd {A : Type 0} (setup : Setup) (text : List ℕ) (did : Wen
   pub no_text : text_held run.lines.run ≡ []
   pub no_notes : run.lines.notes.items ≡ []
   pub went_is : did.after ≡ did.before ++ sent
-  pub told : did.Told (note_lines notes)
+  pub told : did.Told (note_lines Line notes)
 
 -- These lines show this text, and what is told of them was told.
 pub record HasShown (setup : Setup) (listed : List Instrument) (came : List NumberedLine) (shown : List ℕ) (did : Went)
     : Type 0 where
   pub notes : List Note
   pub shows : LinesShow (channel_with listed setup) came shown notes
-  pub told : did.Told (note_lines notes)
+  pub told : did.Told (note_lines Line notes)
 
 -- The text of a whole capture went out, in the order of its lines; and all that is told of these was told, and then what
 -- keeps the run from going on, if anything does.
@@ -68,7 +69,8 @@ pub record HasEnded (setup : Setup) (whole : List ℕ) (did : Went) : Type 0 whe
   pub standing : Standing
   pub prints : PrintsLines (channel_with capture.instruments setup) (numbered_lines whole) notes text standing
   pub note : Option EndNote
-  pub told : did.Told (note_lines notes ++ end_line note)
+  pub note_is : EndsWith (channel_with capture.instruments setup) (numbered_lines whole) note
+  pub told : did.Told (note_lines Line notes ++ end_line note)
 
 -- The text is refused. All that the lines before the first that refuses it show went out, with no end; and all that is
 -- told of them was told.

@@ -1,7 +1,7 @@
 //! Each write of a run failing in turn, in each way, alone and where memory runs out too.
 
-use crate::program::program;
-use mdp_capture::CountingReader;
+use crate::doubles::{NoFiles, streams_over};
+use crate::program::{Streams, program};
 use refusing::Refusing;
 use std::alloc::Global;
 use std::io::ErrorKind;
@@ -40,18 +40,10 @@ fn fail_each<R: Threads + Wait + Sync + Abort>(
     wanted: &[u8],
 ) -> Result<(), Fail> {
     for call in 1..1000u64 {
-        let mut input = CountingReader::new(capture);
-        let mut output = Kept::slow(alloc, PIECE, call, failure);
-        let mut faults = Kept::new(alloc);
-        let status = program(
-            rt,
-            alloc,
-            alloc,
-            words,
-            &mut input,
-            &mut output,
-            &mut faults,
-        );
+        let output = Kept::slow(alloc, PIECE, call, failure);
+        let mut streams = streams_over(alloc, capture, output);
+        let status = program(rt, &NoFiles, alloc, alloc, words, &mut streams);
+        let Streams { output, faults, .. } = streams;
         if output.failures == 0 {
             assert_eq!(rt; status, 0);
             assert_eq!(rt; output.bytes.as_slice(), wanted);
@@ -95,19 +87,11 @@ fn a_failed_write_goes_before_want_of_memory(rt: HostRuntime) -> Result<(), Fail
     let mut met_both = false;
     for number in 1..10_000u64 {
         let heap = Refusing::new(alloc, number);
-        let mut input = CountingReader::new(SPREAD);
-        let mut output = Kept::slow(alloc, PIECE, 2, Failure::NoByte);
-        let mut faults = Kept::new(alloc);
+        let output = Kept::slow(alloc, PIECE, 2, Failure::NoByte);
+        let mut streams = streams_over(alloc, SPREAD, output);
         let words = ["mdp_handler", "--workers=2"];
-        let status = program(
-            &rt,
-            alloc,
-            &heap,
-            &words,
-            &mut input,
-            &mut output,
-            &mut faults,
-        );
+        let status = program(&rt, &NoFiles, alloc, &heap, &words, &mut streams);
+        let Streams { output, faults, .. } = streams;
         assert_eq!(rt; status, 1);
         if output.failures == 0 {
             assert_eq!(rt; faults.bytes.as_slice(), b"41 Memory\n".as_slice());

@@ -7,10 +7,13 @@ ghost use Rattle.mdp_pipeline.specs.Streamed.{HasHandedOn, Setup, text_held};
 ghost use Rattle.mdp_handler.specs.CommandLine.{AreLawful};
 ghost use Rattle.mdp_handler.specs.Faults.{Tells, note_lines};
 ghost use Rattle.mdp_handler.specs.Live.{CountsTo, EndsFor, FailsOnce, HasEnded, IsInput, ReadsOnce, SoFar, StandsAtEnd, reads_failed, went};
+ghost use Rattle.mdp_handler.specs.declared.faults.Place.TheVariants as places;
 ghost use Rattle.mdp_handler.specs.declared.live.LiveFault.TheVariants as live_faults;
 ghost use Rattle.mdp_handler.specs.Outcome.{Fails, HasFailedLive, HasRefusedLive, HasRunLive, effects, setup_asked};
 
-use crate::faults::{tell_end, tell_input, tell_memory, tell_notes, tell_output, tell_refused};
+use crate::faults::{
+    Place, tell_end, tell_input, tell_memory, tell_notes, tell_output, tell_refused,
+};
 use crate::program::{DONE, FAILED, REFUSED};
 use crate::settings::Settings;
 use mdp_capture::{CaptureFault, CaptureRefusal, CountedRead};
@@ -50,7 +53,7 @@ fn hand_on_all<O: CountedWrite, F: CountedWrite, A: Allocator + Copy>(
 ) -> Result<(), RunFault>
     requires { O.failed output.old < 2 ^ 64 - 1 }
     ensures told { Tells F.failed F.taken faults.old faults.new
-        (note_lines run.old.lines.notes.items) }
+        (note_lines places.Line run.old.lines.notes.items) }
     ensures shown { OnOk result
         (O.taken output.new ≡ O.taken output.old ++ text_held run.old.lines.run) }
     ensures cutter { run.new.cutter ≡ run.old.cutter }
@@ -62,7 +65,7 @@ fn hand_on_all<O: CountedWrite, F: CountedWrite, A: Allocator + Copy>(
         written_before fault ≡ length (O.taken output.new) - since) }
     ensures failed { FailsBy result (O.failed output.old) (O.failed output.new) }
 {
-    tell_notes(faults, run.notes());
+    tell_notes(faults, Place::Line, run.notes());
     hand_on(output, run.text(), since)?;
     run.clear();
     Ok(())
@@ -214,7 +217,7 @@ fn handle_end<O: CountedWrite, F: CountedWrite, A: Allocator + Copy>(
 // Handles a capture piece by piece to its end.
 fn handle_all<I: CountedRead, O: CountedWrite, F: CountedWrite, A: Allocator + Copy>(
     alloc: A,
-    settings: Settings,
+    settings: Settings<'_>,
     input: &mut I,
     output: &mut O,
     faults: &mut F,
@@ -223,10 +226,10 @@ fn handle_all<I: CountedRead, O: CountedWrite, F: CountedWrite, A: Allocator + C
     requires output { O.failed output.old < 2 ^ 64 - 1 }
     requires lawful { AreLawful settings }
     ensures done { OnOk result ((whole : List ℕ) × IsInput (I.rest input.old) whole
-        × HasEnded (setup_asked settings) whole (went (O.taken output.old) (O.taken output.new)
+        × HasEnded (setup_asked settings.entry) whole (went (O.taken output.old) (O.taken output.new)
         (Tells F.failed F.taken faults.old faults.new))) }
     ensures ended { IfErr result (λ fault. (whole : List ℕ) × IsInput (I.rest input.old) whole
-        × EndsFor (setup_asked settings) whole (went (O.taken output.old) (O.taken output.new)
+        × EndsFor (setup_asked settings.entry) whole (went (O.taken output.old) (O.taken output.new)
         (Tells F.failed F.taken faults.old faults.new)) fault) }
     ensures counted { IfErr result
         (CountsTo (length (O.taken output.new) - length (O.taken output.old))) }
@@ -247,8 +250,8 @@ fn handle_all<I: CountedRead, O: CountedWrite, F: CountedWrite, A: Allocator + C
     }
 }
 
-// Makes room for a piece, all zeros.
-fn room<A: Allocator>(alloc: A) -> Result<Vec<u8, A>, AllocError>
+/// Makes room for a piece, all zeros.
+pub fn room<A: Allocator>(alloc: A) -> Result<Vec<u8, A>, AllocError>
     ensures { IfOk result (λ piece. vec_len piece ≡ 65536) }
 {
     let piece = vec![in alloc; 0u8; PIECE]?;
@@ -259,7 +262,7 @@ fn room<A: Allocator>(alloc: A) -> Result<Vec<u8, A>, AllocError>
 /// before the next piece is read.
 pub fn run_live<I: CountedRead, O: CountedWrite, F: CountedWrite, A: Allocator + Copy>(
     alloc: A,
-    settings: Settings,
+    settings: Settings<'_>,
     input: &mut I,
     output: &mut O,
     faults: &mut F,
@@ -268,13 +271,13 @@ pub fn run_live<I: CountedRead, O: CountedWrite, F: CountedWrite, A: Allocator +
     requires output { O.failed output.old < 2 ^ 64 - 1 }
     requires lawful { AreLawful settings }
     ensures status { result ≤ 2 }
-    ensures done { result ≡ 0 → HasRunLive (I.rest input.old) settings
+    ensures done { result ≡ 0 → HasRunLive (I.rest input.old) settings.entry
         (O.taken output.old) (O.taken output.new) (Tells F.failed F.taken faults.old faults.new) }
-    ensures failed { result ≡ 1 → HasFailedLive (I.rest input.old) settings
+    ensures failed { result ≡ 1 → HasFailedLive (I.rest input.old) settings.entry
         (Fails I.failed input.old input.new)
         (effects (Fails O.failed output.old output.new) (O.taken output.old) (O.taken output.new)
         (Tells F.failed F.taken faults.old faults.new)) }
-    ensures refused { result ≡ 2 → HasRefusedLive (I.rest input.old) settings
+    ensures refused { result ≡ 2 → HasRefusedLive (I.rest input.old) settings.entry
         (O.taken output.old) (O.taken output.new) (Tells F.failed F.taken faults.old faults.new) }
     ensures reads { result ≢ 1 → I.failed input.new ≡ I.failed input.old }
     ensures writes { result ≢ 1 → O.failed output.new ≡ O.failed output.old }

@@ -1,12 +1,10 @@
 //! Captures that are handled as they come: pieces of each size, late instruments, and each read and allocation failing
 //! in turn.
 
-use crate::program::program;
-use mdp_capture::CountingReader;
+use crate::doubles::{NoFiles, Pieces, streams_over};
+use crate::program::{Streams, program};
 use refusing::Refusing;
 use std::alloc::Global;
-use std::io;
-use std::io::{ErrorKind, Read};
 use std::process::Abort;
 use std::sync::Wait;
 use std::test::Fail;
@@ -23,39 +21,6 @@ const LIVE: &[&str] = &["mdp_handler", "--live", "--window=4"];
 /// What is told of the recovery.
 const RECOVERY_NOTES: &[u8] = b"line 7: 51 Lost 1 5\nline 8: 52 Found 1 3\n";
 
-// Gives at most so many bytes a call, and fails at one call, from 1; at 0 at none.
-#[derive(Drop)]
-struct Pieces<'a> {
-    rest: &'a [u8],
-    most: usize,
-    calls: u64,
-    fail_at: u64,
-}
-
-impl<'a> Pieces<'a> {
-    fn of(text: &'a [u8], most: usize, fail_at: u64) -> Pieces<'a> {
-        Pieces {
-            rest: text,
-            most,
-            calls: 0,
-            fail_at,
-        }
-    }
-}
-
-impl<'a> Read for Pieces<'a> {
-    fn read(&mut self, buf: &mut [u8]) -> io::Result<usize> {
-        self.calls = self.calls.saturating_add(1);
-        if self.calls == self.fail_at {
-            return Err(io::Error::from(ErrorKind::Other));
-        }
-        let count = self.rest.len().min(self.most).min(buf.len());
-        buf[..count].copy_from_slice(&self.rest[..count]);
-        self.rest = &self.rest[count..];
-        Ok(count)
-    }
-}
-
 /// What a run came to.
 #[derive(Drop)]
 struct Ended {
@@ -71,22 +36,12 @@ fn run_over<R: Threads + Wait + Sync>(
     words: &[&str],
     pieces: Pieces<'_>,
 ) -> Ended {
-    let mut input = CountingReader::new(pieces);
-    let mut output = Kept::new(alloc);
-    let mut faults = Kept::new(alloc);
-    let status = program(
-        rt,
-        alloc,
-        alloc,
-        words,
-        &mut input,
-        &mut output,
-        &mut faults,
-    );
+    let mut streams = streams_over(alloc, pieces, Kept::new(alloc));
+    let status = program(rt, &NoFiles, alloc, alloc, words, &mut streams);
     Ended {
         status,
-        text: output.bytes,
-        told: faults.bytes,
+        text: streams.output.bytes,
+        told: streams.faults.bytes,
     }
 }
 
@@ -218,18 +173,10 @@ fn each_refused_allocation_leaves_a_beginning(rt: HostRuntime) -> Result<(), Fai
     let alloc = rt.alloc();
     for number in 1..10_000u64 {
         let heap = Refusing::new(alloc, number);
-        let mut input = CountingReader::new(Pieces::of(RECOVERY, 50, 0));
-        let mut output = Kept::new(alloc);
-        let mut faults = Kept::new(alloc);
-        let status = program(
-            &rt,
-            alloc,
-            &heap,
-            LIVE,
-            &mut input,
-            &mut output,
-            &mut faults,
-        );
+        let pieces = Pieces::of(RECOVERY, 50, 0);
+        let mut streams = streams_over(alloc, pieces, Kept::new(alloc));
+        let status = program(&rt, &NoFiles, alloc, &heap, LIVE, &mut streams);
+        let Streams { output, faults, .. } = streams;
         if !heap.has_refused() {
             assert_eq!(rt; status, 0);
             assert_eq!(rt; output.bytes.as_slice(), RECOVERY_TEXT);

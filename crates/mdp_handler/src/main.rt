@@ -1,13 +1,20 @@
-//! `mdp_handler`: reads a capture of one CME MDP 3.0 channel from standard input, and prints its books.
+//! `mdp_handler`: reads a capture or a recording of one CME MDP 3.0 channel from standard input, and prints its books.
 #![tactic(auto)]
 
+mod channel;
+#[cfg(test)]
+mod doubles;
 #[cfg(test)]
 mod failed_writes;
 mod faults;
+mod files;
 mod live;
 #[cfg(test)]
 mod live_tests;
 mod program;
+mod recording;
+#[cfg(test)]
+mod recording_tests;
 #[cfg(test)]
 mod refused_allocations;
 mod settings;
@@ -16,8 +23,10 @@ mod tests;
 
 ghost use Rattle.std.specs.Prelude.{◌≡◌, IfOk, map, string_bytes};
 
+use files::SystemFiles;
 use mdp_capture::CountingReader;
 use mdp_print::Counting;
+use program::{FAILED, REFUSED, Streams, program};
 use std::alloc::{AllocError, Global};
 use std::process::ExitCode;
 use std::{env, io};
@@ -28,38 +37,33 @@ const NO_TEXT: &[u8] = b"error: a word of the command line is not UTF-8\n";
 /// Runs the program over the real standard input, output and error.
 fn main(rt: HostRuntime) -> ExitCode {
     let alloc = rt.alloc();
-    let mut input = CountingReader::new(rt.reader());
-    let mut output = Counting::new(io::writer(&rt));
-    let mut faults = Counting::new(rt.stderr());
+    let mut streams = Streams {
+        input: CountingReader::new(rt.reader()),
+        output: Counting::new(io::writer(&rt)),
+        faults: Counting::new(rt.stderr()),
+    };
     let texts = match env::args(&rt) {
         Ok(texts) => texts,
         Err(error) if error.kind() == io::ErrorKind::InvalidData => {
-            faults::tell(&mut faults, NO_TEXT);
-            return ExitCode::from(program::REFUSED);
+            faults::tell(&mut streams.faults, NO_TEXT);
+            return ExitCode::from(REFUSED);
         }
         Err(_) => {
-            faults::tell_memory(&mut faults);
-            return ExitCode::from(program::FAILED);
+            faults::tell_memory(&mut streams.faults);
+            return ExitCode::from(FAILED);
         }
     };
     let collected: Result<Vec<String>, AllocError> = texts.collect(alloc);
     let Ok(texts) = collected else {
-        faults::tell_memory(&mut faults);
-        return ExitCode::from(program::FAILED);
+        faults::tell_memory(&mut streams.faults);
+        return ExitCode::from(FAILED);
     };
     let Ok(words) = words_of(alloc, &texts) else {
-        faults::tell_memory(&mut faults);
-        return ExitCode::from(program::FAILED);
+        faults::tell_memory(&mut streams.faults);
+        return ExitCode::from(FAILED);
     };
-    let status = program::program(
-        &rt,
-        alloc,
-        alloc,
-        &words,
-        &mut input,
-        &mut output,
-        &mut faults,
-    );
+    let files = SystemFiles::new(&rt);
+    let status = program(&rt, &files, alloc, alloc, &words, &mut streams);
     ExitCode::from(status)
 }
 

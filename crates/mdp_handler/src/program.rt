@@ -2,15 +2,19 @@
 
 ghost use Rattle.std.specs.Prelude.{◌≡◌, ◌≢◌, ◌≤◌, ◌<◌, ◌-◌, ◌^◌, ◌++◌, ◌⊎◌, [], ℕ, List, IfOk, IfErr, codes, true};
 ghost use Rattle.clap.specs.Words.{IsAmong, kind_of};
-ghost use Rattle.mdp_handler.specs.CommandLine.{AreLawful, AsksToRun, IsFlag, shown_kinds, texts_of};
+ghost use Rattle.mdp_handler.specs.CommandLine.{AreLawful, AsksForPieces, AsksToRun, shown_kinds, texts_of};
 ghost use Rattle.mdp_handler.specs.Faults.{Tells, skipped_lines};
-ghost use Rattle.mdp_handler.specs.Outcome.{Fails, HasDone, HasFailed, HasFailedWhole, HasFailedWrite, HasNoMemory, HasRefused, HasRefusedCapture, HasRunWhole, HasStopped, effects};
+ghost use Rattle.mdp_handler.specs.Outcome.{Fails, HasDone, HasFailed, HasFailedRun, HasFailedWhole, HasFailedWrite, HasNoMemory, HasRefused, HasRefusedCapture, HasRefusedRun, HasRun, HasRunWhole, HasStopped, effects, files_known, sources_of, way_asked};
+ghost use Rattle.mdp_handler.specs.Outcome.Way.{Whole};
+ghost use Rattle.mdp_handler.specs.Live.{went};
 ghost use Rattle.mdp_handler.specs.Printed.{HasBegun, HasPrinted};
 ghost use Rattle.mdp_print.specs.Written.{HasCounted};
 ghost use Rattle.mdp_crew.specs.Faults.{FailsBy, written_before};
 ghost use Rattle.mdp_templates.specs.Instrument.{AreFit};
 
+use crate::channel::run_channel;
 use crate::faults::{tell, tell_input, tell_memory, tell_output, tell_refused, tell_skipped};
+use crate::files::ReadsFiles;
 use crate::live::run_live;
 use crate::settings::{Settings, read_settings};
 use clap::Error;
@@ -30,53 +34,127 @@ pub const FAILED: u8 = 1;
 /// The exit status where the command line or the capture is refused.
 pub const REFUSED: u8 = 2;
 
+/// What the program reads and writes: its input, its output, and what it tells of faults.
+#[derive(Drop)]
+pub struct Streams<I, O, F> {
+    /// A capture or a recording.
+    pub input: I,
+    /// The text of the run, or help.
+    pub output: O,
+    /// What went wrong, and what was lost.
+    pub faults: F,
+}
+
 /// Runs the program: reads the command line `words`, of which the first is the program's name, then
-/// a capture from `input`, writes the text of the run to `output`, and tells what went wrong on
-/// `faults`. Answers the exit status: 0 for a run to the end and for help, 1 where memory ran out
-/// or a read or a write of the output failed, and 2 where the command line or the capture is
-/// refused; then nothing is written to `output`, but that with `--live` the capture is handled as
+/// a capture from the input, writes the text of the run to the output, and tells what went wrong on
+/// the stream for faults. Answers the exit status: 0 for a run to the end and for help, 1 where memory
+/// ran out or a read or a write of the output failed, and 2 where the command line or the capture is
+/// refused; then nothing is written to the output, but that with `--live` the capture is handled as
 /// it comes, and what its lines before the first refusal show was written. Only where the words ask
 /// for a run is anything read. A run goes over threads, unless the words say `--in-order` or
 /// `--live`. It tells a line for each line of the capture that was skipped, then at status 1 why it
 /// ended. Why no run began is told alone. With `--live` it tells as the lines come, and where the
 /// receiver was lost and found too; then why the run ended, or what keeps it from going on where the
-/// capture ends. A write to `faults` that fails is passed over.
-pub fn program<R, I, O, F, A>(
+/// capture ends. With `--channel` the input is a recording, which is handled in the same way over
+/// its frames, once the file that the words name has said the channel; one that has a fault behind
+/// its first frames, or ends inside a block, has status 1 and the text of its whole frames. A write
+/// that fails on the stream for faults is passed over.
+pub fn program<R, L, I, O, F, A>(
     rt: &R,
+    files: &L,
     words_alloc: Global,
     alloc: A,
     words: &[&str],
-    input: &mut I,
-    output: &mut O,
-    faults: &mut F,
+    streams: &mut Streams<I, O, F>,
 ) -> u8
 where
     R: Threads + Wait + Sync,
+    L: ReadsFiles,
     I: CountedRead,
     O: CountedWrite,
     F: CountedWrite,
     A: Allocator + Copy + Send + Sync,
-    requires input { I.failed input.old < 2 ^ 64 - 1 }
-    requires output { O.failed output.old < 2 ^ 64 - 1 }
+    requires input { I.failed streams.old.input < 2 ^ 64 - 1 }
+    requires output { O.failed streams.old.output < 2 ^ 64 - 1 }
     ensures status { result ≤ 2 }
-    ensures done { result ≡ 0 → HasDone (texts_of words.now) (I.rest input.old)
-        (O.taken output.old) (O.taken output.new) (Tells F.failed F.taken faults.old faults.new) }
-    ensures failed { result ≡ 1 → HasFailed (texts_of words.now) (I.rest input.old)
-        (Fails I.failed input.old input.new)
-        (effects (Fails O.failed output.old output.new) (O.taken output.old) (O.taken output.new)
-        (Tells F.failed F.taken faults.old faults.new)) }
-    ensures refused { result ≡ 2 → HasRefused (texts_of words.now) (I.rest input.old)
-        (O.taken output.old) (O.taken output.new) (Tells F.failed F.taken faults.old faults.new) }
-    ensures unprinted { result ≡ 2 → ¬ (IsFlag (codes "live") (texts_of words.now) true)
-        → output.new ≡ output.old }
-    ensures unread { ¬ (AsksToRun (texts_of words.now)) → input.new ≡ input.old }
-    ensures reads { result ≢ 1 → I.failed input.new ≡ I.failed input.old }
-    ensures writes { result ≢ 1 → O.failed output.new ≡ O.failed output.old }
+    ensures done { result ≡ 0 → HasDone (texts_of words.now)
+        (sources_of (I.rest streams.old.input) (files_known (L.IsText files.now) (L.IsUnread files.now)))
+        (went (O.taken streams.old.output) (O.taken streams.new.output)
+        (Tells F.failed F.taken streams.old.faults streams.new.faults)) }
+    ensures failed { result ≡ 1 → HasFailed (texts_of words.now)
+        (sources_of (I.rest streams.old.input) (files_known (L.IsText files.now) (L.IsUnread files.now)))
+        (Fails I.failed streams.old.input streams.new.input)
+        (effects (Fails O.failed streams.old.output streams.new.output)
+        (O.taken streams.old.output) (O.taken streams.new.output)
+        (Tells F.failed F.taken streams.old.faults streams.new.faults)) }
+    ensures refused { result ≡ 2 → HasRefused (texts_of words.now)
+        (sources_of (I.rest streams.old.input) (files_known (L.IsText files.now) (L.IsUnread files.now)))
+        (streams.new.input ≡ streams.old.input)
+        (went (O.taken streams.old.output) (O.taken streams.new.output)
+        (Tells F.failed F.taken streams.old.faults streams.new.faults)) }
+    ensures unprinted { result ≡ 2 → ¬ (AsksForPieces (texts_of words.now))
+        → streams.new.output ≡ streams.old.output }
+    ensures unread { ¬ (AsksToRun (texts_of words.now)) → streams.new.input ≡ streams.old.input }
+    ensures reads { result ≢ 1 → I.failed streams.new.input ≡ I.failed streams.old.input }
+    ensures writes { result ≢ 1 → O.failed streams.new.output ≡ O.failed streams.old.output }
 {
     match read_settings(words_alloc, words) {
-        Ok(settings) if settings.live => run_live(alloc, settings, input, output, faults),
-        Ok(settings) => run_over(rt, alloc, settings, input, output, faults),
-        Err(error) => show(alloc, &error, output, faults),
+        Ok(settings) => run_asked(rt, files, alloc, settings, streams),
+        Err(error) => show(alloc, &error, &mut streams.output, &mut streams.faults),
+    }
+}
+
+// Runs as the settings ask for.
+fn run_asked<R, L, I, O, F, A>(
+    rt: &R,
+    files: &L,
+    alloc: A,
+    settings: Settings<'_>,
+    streams: &mut Streams<I, O, F>,
+) -> u8
+where
+    R: Threads + Wait + Sync,
+    L: ReadsFiles,
+    I: CountedRead,
+    O: CountedWrite,
+    F: CountedWrite,
+    A: Allocator + Copy + Send + Sync,
+    requires input { I.failed streams.old.input < 2 ^ 64 - 1 }
+    requires output { O.failed streams.old.output < 2 ^ 64 - 1 }
+    requires lawful { AreLawful settings }
+    ensures status { result ≤ 2 }
+    ensures done { result ≡ 0 → HasRun (way_asked settings.entry)
+        (sources_of (I.rest streams.old.input) (files_known (L.IsText files.now) (L.IsUnread files.now)))
+        settings.entry (went (O.taken streams.old.output) (O.taken streams.new.output)
+        (Tells F.failed F.taken streams.old.faults streams.new.faults)) }
+    ensures failed { result ≡ 1 →
+        let FailedReads = Fails I.failed streams.old.input streams.new.input in
+        let did = effects (Fails O.failed streams.old.output streams.new.output)
+        (O.taken streams.old.output) (O.taken streams.new.output)
+        (Tells F.failed F.taken streams.old.faults streams.new.faults) in
+        (FailedReads 0 × HasNoMemory did)
+        ⊎ HasFailedRun (way_asked settings.entry)
+        (sources_of (I.rest streams.old.input) (files_known (L.IsText files.now) (L.IsUnread files.now)))
+        settings.entry FailedReads did }
+    ensures refused { result ≡ 2 → HasRefusedRun (way_asked settings.entry)
+        (sources_of (I.rest streams.old.input) (files_known (L.IsText files.now) (L.IsUnread files.now)))
+        settings.entry (streams.new.input ≡ streams.old.input)
+        (went (O.taken streams.old.output) (O.taken streams.new.output)
+        (Tells F.failed F.taken streams.old.faults streams.new.faults)) }
+    ensures unprinted { result ≡ 2 → way_asked settings.entry ≡ Whole
+        → streams.new.output ≡ streams.old.output }
+    ensures reads { result ≢ 1 → I.failed streams.new.input ≡ I.failed streams.old.input }
+    ensures writes { result ≢ 1 → O.failed streams.new.output ≡ O.failed streams.old.output }
+{
+    let Streams {
+        input,
+        output,
+        faults,
+    } = streams;
+    match settings.channel {
+        Some(name) => run_channel(files, alloc, name, settings, input, output, faults),
+        None if settings.live => run_live(alloc, settings, input, output, faults),
+        None => run_over(rt, alloc, settings, input, output, faults),
     }
 }
 
@@ -129,7 +207,7 @@ fn show<O: CountedWrite, F: CountedWrite, A: Allocator>(
 fn run_over<R, I, O, F, A>(
     rt: &R,
     alloc: A,
-    settings: Settings,
+    settings: Settings<'_>,
     input: &mut I,
     output: &mut O,
     faults: &mut F,
@@ -144,14 +222,14 @@ where
     requires output { O.failed output.old < 2 ^ 64 - 1 }
     requires lawful { AreLawful settings }
     ensures status { result ≤ 2 }
-    ensures done { result ≡ 0 → HasRunWhole (I.rest input.old) settings
+    ensures done { result ≡ 0 → HasRunWhole (I.rest input.old) settings.entry
         (O.taken output.old) (O.taken output.new) (Tells F.failed F.taken faults.old faults.new) }
     ensures failed { result ≡ 1 →
         let FailedReads = Fails I.failed input.old input.new in
         let did = effects (Fails O.failed output.old output.new) (O.taken output.old)
         (O.taken output.new) (Tells F.failed F.taken faults.old faults.new) in
         (FailedReads 0 × HasNoMemory did)
-        ⊎ HasFailedWhole (I.rest input.old) settings FailedReads did }
+        ⊎ HasFailedWhole (I.rest input.old) settings.entry FailedReads did }
     ensures refused { result ≡ 2 → HasRefusedCapture (I.rest input.old)
         (Tells F.failed F.taken faults.old faults.new) }
     ensures unprinted { result ≡ 2 → output.new ≡ output.old }
@@ -185,7 +263,7 @@ fn run_capture<R, O, F, A>(
     rt: &R,
     alloc: A,
     capture: &Capture<A>,
-    settings: Settings,
+    settings: Settings<'_>,
     output: &mut O,
     faults: &mut F,
 ) -> u8
@@ -199,10 +277,10 @@ where
     requires lawful { AreLawful settings }
     ensures status { result ≤ 1 }
     ensures printed { result ≡ 0 →
-        HasPrinted capture.now settings (O.taken output.old) (O.taken output.new) }
+        HasPrinted capture.now settings.entry (O.taken output.old) (O.taken output.new) }
     ensures told { result ≡ 0 →
         Tells F.failed F.taken faults.old faults.new (skipped_lines capture.now.skipped) }
-    ensures failed { result ≡ 1 → HasStopped capture.now settings
+    ensures failed { result ≡ 1 → HasStopped capture.now settings.entry
         (effects (Fails O.failed output.old output.new) (O.taken output.old) (O.taken output.new)
         (Tells F.failed F.taken faults.old faults.new)) }
     ensures writes { result ≢ 1 → O.failed output.new ≡ O.failed output.old }
@@ -227,7 +305,7 @@ fn run_records<R, O, A>(
     rt: &R,
     alloc: A,
     capture: &Capture<A>,
-    settings: Settings,
+    settings: Settings<'_>,
     output: &mut O,
 ) -> Result<Summary, RunFault>
 where
@@ -238,9 +316,9 @@ where
     requires fit { AreFit capture.now.instruments }
     requires lawful { AreLawful settings }
     ensures printed { IfOk result (λ _.
-        HasPrinted capture.now settings (O.taken output.old) (O.taken output.new)) }
+        HasPrinted capture.now settings.entry (O.taken output.old) (O.taken output.new)) }
     ensures begun { IfErr result (λ _.
-        HasBegun capture.now settings (O.taken output.old) (O.taken output.new)) }
+        HasBegun capture.now settings.entry (O.taken output.old) (O.taken output.new)) }
     ensures told { IfErr result (λ fault.
         HasCounted (O.taken output.old) (O.taken output.new) (written_before fault)) }
     ensures failed { FailsBy result (O.failed output.old) (O.failed output.new) }

@@ -1,7 +1,7 @@
 //! Each allocation of a run refused in turn: what went out is a beginning of the run's text.
 
+use crate::doubles::{NoFiles, streams_over};
 use crate::program::program;
-use mdp_capture::CountingReader;
 use refusing::Refusing;
 use std::alloc::Global;
 use std::process::Abort;
@@ -20,26 +20,16 @@ fn refuse_each<R: Threads + Wait + Sync + Abort>(
 ) -> Result<u64, Fail> {
     for number in 1..10_000u64 {
         let heap = Refusing::new(alloc, number);
-        let mut input = CountingReader::new(capture);
-        let mut output = Kept::new(alloc);
-        let mut faults = Kept::new(alloc);
-        let status = program(
-            rt,
-            alloc,
-            &heap,
-            words,
-            &mut input,
-            &mut output,
-            &mut faults,
-        );
-        let printed = output.bytes.as_slice();
+        let mut streams = streams_over(alloc, capture, Kept::new(alloc));
+        let status = program(rt, &NoFiles, alloc, &heap, words, &mut streams);
+        let printed = streams.output.bytes.as_slice();
         if !heap.has_refused() {
             assert_eq!(rt; status, 0);
             assert_eq!(rt; printed, wanted);
             return Ok(number - 1);
         }
         assert_eq!(rt; status, 1);
-        assert_eq!(rt; faults.bytes.as_slice(), b"41 Memory\n".as_slice());
+        assert_eq!(rt; streams.faults.bytes.as_slice(), b"41 Memory\n".as_slice());
         assert!(rt; wanted.starts_with(printed));
     }
     Err("no run without a refused allocation".into())

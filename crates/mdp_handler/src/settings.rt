@@ -1,6 +1,7 @@
 //! What the command line asks for.
 
 ghost use Rattle.std.specs.Prelude.{◌≡◌, ◌≤◌, IfOk, IfSome, None, Some, codes, false, map, unwrap_or};
+ghost use Rattle.clap.specs.declared.builder.value_parser.ValueParser.TheVariants as parsers;
 ghost use Rattle.clap.specs.Words.{FailsBy, app_of, fault_of, rule_of};
 ghost use Rattle.mdp_handler.specs.CommandLine.{AreLawful, AreSettings, AreWorkers, flag, option, options, start_asked, up_to, with_default};
 
@@ -11,7 +12,7 @@ use std::alloc::{AllocError, Global};
 
 /// What the command line asks for.
 #[derive(Clone, Copy, Debug, PartialEq, Eq)]
-pub struct Settings {
+pub struct Settings<'a> {
     /// A packet this many numbers or more ahead of the next one gives the next one up, from 1 to 65536.
     pub window: u32,
     /// How many threads keep books, from 1 to 16, where the words say so.
@@ -22,12 +23,14 @@ pub struct Settings {
     pub live: bool,
     /// Whether packet 1 is the first to pass, or the run joins a running channel by a jump.
     pub start: Start,
+    /// The file of the channel of which the input is a recording, where the words name one.
+    pub channel: Option<&'a str>,
 }
 
-impl Settings {
+impl<'a> Settings<'a> {
     /// Tells how many threads keep books: 2 where the words don't say.
     pub fn worker_count(self) -> u8
-        ensures { result ≡ unwrap_or self.workers 2 }
+        ensures { result ≡ unwrap_or self.entry.workers 2 }
     {
         self.workers.unwrap_or(2)
     }
@@ -51,6 +54,10 @@ With --live it also prints what they show as they come, before the next read.
 The books are kept in --workers threads; how many changes no line. With --join the
 capture may begin in the middle of a day: no packet is taken before snapshots of all
 securities have come.
+
+With --channel the input is a pcap or pcapng, and is handled as it comes. FILE has
+instruments as a capture has them, and:
+  F FEED GROUP PORT      an address of feed A, B or S
 
 At each event end these lines are printed for each security that it names, and after
 a jump for each security at the first event end past its snapshot. K.J is the
@@ -80,14 +87,14 @@ Example, which begins with a bid of 5 at a price of 100:
 
 Exit status, with the text on standard error:
   0  done; a line for each skipped line of the capture, as 'line 3: 22 Hex';
-     with --live also where packets were lost and made up for, as 'line 5: 51
-     Lost 1 5'
+     with --live or --channel also where packets were lost and made up for, as
+     'line 5: 51 Lost 1 5'
   1  out of memory (41 Memory), a failed write (42 Output after N bytes) or a
-     failed read (43 Input)
-  2  a fault of the command line, or a capture that is refused, as
-     'line 2: 31 DuplicateId'";
+     failed read (43 Input); a pcap that ends early, as 'frame 9: 74 CutShort'
+  2  a fault of the command line, or a capture, a channel file or a pcap that is
+     refused, as 'line 2: 31 DuplicateId'";
 
-// Makes an option with a value.
+// Makes an option with a number as its value.
 fn number_arg<'a>(alloc: Global, name: &'a str, parser: ValueParser<'a>, help: &'a str) -> Arg<'a>
     ensures rule { rule_of result ≡ option name.entry.now parser.entry }
     ensures own { result.global ≡ false }
@@ -153,6 +160,18 @@ fn join_arg<'a>(alloc: Global) -> Arg<'a>
         .action(ArgAction::SetTrue)
 }
 
+// Makes the option `--channel`.
+fn channel_arg<'a>(alloc: Global) -> Arg<'a>
+    ensures rule { rule_of result ≡ option (codes "channel") parsers.String }
+    ensures own { result.global ≡ false }
+{
+    Arg::new(alloc, "channel")
+        .long("channel")
+        .value_name("FILE")
+        .help("Read a pcap or pcapng of the channel whose instruments and feeds are in FILE")
+        .value_parser(ValueParser::String)
+}
+
 // Makes the command line that is understood.
 fn command<'a>(alloc: Global) -> Result<Command<'a>, AllocError>
     ensures { IfOk result (λ command. app_of command ≡ options) }
@@ -165,7 +184,8 @@ fn command<'a>(alloc: Global) -> Result<Command<'a>, AllocError>
         .arg(workers_arg(alloc))?
         .arg(in_order_arg(alloc))?
         .arg(live_arg(alloc))?
-        .arg(join_arg(alloc))
+        .arg(join_arg(alloc))?
+        .arg(channel_arg(alloc))
 }
 
 // Tells where a run starts that joins a running channel, or doesn't.
@@ -192,7 +212,7 @@ fn in_range(workers: Option<u8>) -> Option<u8>
 /// # Errors
 ///
 /// What is shown in place of a run: a fault of the command line, the help, the version, or want of memory.
-pub fn read_settings(alloc: Global, words: &[&str]) -> Result<Settings, Error>
+pub fn read_settings<'a>(alloc: Global, words: &'a [&str]) -> Result<Settings<'a>, Error>
     ensures fault { FailsBy (fault_of options (map (λ word. word.now) words.now)) result }
     ensures settings { IfOk result (AreSettings (map (λ word. word.now) words.now)) }
     ensures lawful { IfOk result AreLawful }
@@ -207,5 +227,6 @@ pub fn read_settings(alloc: Global, words: &[&str]) -> Result<Settings, Error>
         in_order: matches.get_flag("in-order"),
         live: matches.get_flag("live"),
         start: start_of(matches.get_flag("join")),
+        channel: matches.get_str("channel"),
     })
 }

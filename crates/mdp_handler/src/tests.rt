@@ -2,11 +2,12 @@
 
 ghost use Rattle.std.specs.Prelude.{◌<◌, ◌-◌, ◌^◌};
 
+use crate::doubles::{NoFiles, streams_over};
 use crate::program::program;
 use crate::settings::{Settings, read_settings};
 use clap::error::ErrorKind as ClapKind;
 use mdp_arbiter::Start;
-use mdp_capture::{CountedRead, CountingReader};
+use mdp_capture::CountedRead;
 use refusing::Refusing;
 use std::alloc::Global;
 use std::io;
@@ -49,33 +50,24 @@ fn a_failed_read_prints_nothing(rt: HostRuntime) -> Result<(), Fail> {
     let alloc = rt.alloc();
     let mut failed = 0u64;
     for fail_at in 1..100u64 {
-        let mut input = CountingReader::new(Halting {
+        let reader = Halting {
             rest: PLAIN,
             most: 10,
             calls: 0,
             fail_at,
-        });
-        let mut output = Kept::new(alloc);
-        let mut faults = Kept::new(alloc);
-        let status = program(
-            &rt,
-            alloc,
-            alloc,
-            WORDS,
-            &mut input,
-            &mut output,
-            &mut faults,
-        );
+        };
+        let mut streams = streams_over(alloc, reader, Kept::new(alloc));
+        let status = program(&rt, &NoFiles, alloc, alloc, WORDS, &mut streams);
         if status == 0 {
-            assert_eq!(rt; input.failures(), 0);
-            assert_eq!(rt; output.bytes.as_slice(), PLAIN_TEXT);
-            assert_eq!(rt; faults.bytes.as_slice(), b"".as_slice());
+            assert_eq!(rt; streams.input.failures(), 0);
+            assert_eq!(rt; streams.output.bytes.as_slice(), PLAIN_TEXT);
+            assert_eq!(rt; streams.faults.bytes.as_slice(), b"".as_slice());
             break;
         }
         failed = fail_at;
         assert_eq!(rt; status, 1);
-        assert_eq!(rt; output.bytes.as_slice(), b"".as_slice());
-        assert_eq!(rt; faults.bytes.as_slice(), b"43 Input\n".as_slice());
+        assert_eq!(rt; streams.output.bytes.as_slice(), b"".as_slice());
+        assert_eq!(rt; streams.faults.bytes.as_slice(), b"43 Input\n".as_slice());
     }
     // 149 bytes in pieces of 10, and a read that finds the end
     assert_eq!(rt; failed, 16);
@@ -86,24 +78,15 @@ fn a_failed_read_prints_nothing(rt: HostRuntime) -> Result<(), Fail> {
 fn a_failed_write_tells_what_went_out(rt: HostRuntime) -> Result<(), Fail> {
     let alloc = rt.alloc();
     for words in RUNS {
-        let mut input = CountingReader::new(PLAIN);
-        let mut output = Kept::slow(alloc, 1, 30, Failure::Error(ErrorKind::Other));
-        let mut faults = Kept::new(alloc);
-        let status = program(
-            &rt,
-            alloc,
-            alloc,
-            words,
-            &mut input,
-            &mut output,
-            &mut faults,
-        );
+        let output = Kept::slow(alloc, 1, 30, Failure::Error(ErrorKind::Other));
+        let mut streams = streams_over(alloc, PLAIN, output);
+        let status = program(&rt, &NoFiles, alloc, alloc, words, &mut streams);
         assert_eq!(rt; status, 1);
         assert_eq!(rt; PLAIN_TEXT.len(), 66);
-        assert_eq!(rt; output.bytes.as_slice(), &PLAIN_TEXT[..29]);
-        assert_eq!(rt; output.calls, 30);
+        assert_eq!(rt; streams.output.bytes.as_slice(), &PLAIN_TEXT[..29]);
+        assert_eq!(rt; streams.output.calls, 30);
         assert_eq!(rt;
-            faults.bytes.as_slice(),
+            streams.faults.bytes.as_slice(),
             b"42 Output after 29 bytes\n".as_slice()
         );
     }
@@ -115,19 +98,9 @@ fn each_refused_allocation_ends_the_run(rt: HostRuntime) -> Result<(), Fail> {
     let mut refused = 0u64;
     for number in 1..1000u64 {
         let heap = Refusing::new(rt.alloc(), number);
-        let mut input = CountingReader::new(PLAIN);
-        let mut output = Kept::new(rt.alloc());
-        let mut faults = Kept::new(rt.alloc());
-        let status = program(
-            &rt,
-            rt.alloc(),
-            &heap,
-            WORDS,
-            &mut input,
-            &mut output,
-            &mut faults,
-        );
-        let printed = output.bytes.as_slice();
+        let mut streams = streams_over(rt.alloc(), PLAIN, Kept::new(rt.alloc()));
+        let status = program(&rt, &NoFiles, rt.alloc(), &heap, WORDS, &mut streams);
+        let printed = streams.output.bytes.as_slice();
         if !heap.has_refused() {
             assert_eq!(rt; status, 0);
             assert_eq!(rt; printed, PLAIN_TEXT);
@@ -135,7 +108,7 @@ fn each_refused_allocation_ends_the_run(rt: HostRuntime) -> Result<(), Fail> {
         }
         refused = number;
         assert_eq!(rt; status, 1);
-        assert_eq!(rt; faults.bytes.as_slice(), b"41 Memory\n".as_slice());
+        assert_eq!(rt; streams.faults.bytes.as_slice(), b"41 Memory\n".as_slice());
         assert!(rt; PLAIN_TEXT.starts_with(printed));
     }
     assert!(rt; refused > 5);
@@ -148,50 +121,36 @@ fn want_of_memory_at_the_capture_tells_no_skipped_line(rt: HostRuntime) -> Resul
     let text = b"I 1 NEAR O\nQ\nA 00\nA 00\nA 00\nA 00\nA 00\n";
     for number in 1..6u64 {
         let heap = Refusing::new(rt.alloc(), number);
-        let mut input = CountingReader::new(text.as_slice());
-        let mut output = Kept::new(rt.alloc());
-        let mut faults = Kept::new(rt.alloc());
-        let status = program(
-            &rt,
-            rt.alloc(),
-            &heap,
-            WORDS,
-            &mut input,
-            &mut output,
-            &mut faults,
-        );
+        let mut streams = streams_over(rt.alloc(), text.as_slice(), Kept::new(rt.alloc()));
+        let status = program(&rt, &NoFiles, rt.alloc(), &heap, WORDS, &mut streams);
         assert_eq!(rt; status, 1);
-        assert_eq!(rt; output.bytes.as_slice(), b"".as_slice());
-        assert_eq!(rt; faults.bytes.as_slice(), b"41 Memory\n".as_slice());
+        assert_eq!(rt; streams.output.bytes.as_slice(), b"".as_slice());
+        assert_eq!(rt; streams.faults.bytes.as_slice(), b"41 Memory\n".as_slice());
     }
     Ok(())
 }
 
-// Asks for help with an output that fails at a call, and answers the status.
-fn ask_for_help<R: Threads + Wait + Sync>(
-    rt: &R,
-    alloc: Global,
-    output: &mut Kept,
-    faults: &mut Kept,
-) -> u8
-    requires { output.old.failures < 2 ^ 64 - 1 }
+// Asks for help, and answers the status, what was printed and what was told.
+fn ask_for_help<R: Threads + Wait + Sync>(rt: &R, alloc: Global, output: Kept) -> (u8, Kept, Kept)
+    requires { output.failures < 2 ^ 64 - 1 }
 {
     let words = ["mdp_handler", "--help"];
-    let mut input = CountingReader::new(Halting {
+    let reader = Halting {
         rest: b"",
         most: 0,
         calls: 0,
         fail_at: 1,
-    });
-    program(rt, alloc, alloc, &words, &mut input, output, faults)
+    };
+    let mut streams = streams_over(alloc, reader, output);
+    let status = program(rt, &NoFiles, alloc, alloc, &words, &mut streams);
+    (status, streams.output, streams.faults)
 }
 
 #[test]
 fn help_reads_no_capture(rt: HostRuntime) -> Result<(), Fail> {
     let alloc = rt.alloc();
-    let mut output = Kept::new(alloc);
-    let mut faults = Kept::new(alloc);
-    assert_eq!(rt; ask_for_help(&rt, alloc, &mut output, &mut faults), 0);
+    let (status, output, faults) = ask_for_help(&rt, alloc, Kept::new(alloc));
+    assert_eq!(rt; status, 0);
     let usage = b"Usage: mdp_handler";
     assert!(rt;
         output
@@ -200,8 +159,9 @@ fn help_reads_no_capture(rt: HostRuntime) -> Result<(), Fail> {
             .any(|text| text == usage.as_slice())
     );
     assert_eq!(rt; faults.bytes.as_slice(), b"".as_slice());
-    let mut output = Kept::slow(alloc, 1, 8, Failure::Error(ErrorKind::Other));
-    assert_eq!(rt; ask_for_help(&rt, alloc, &mut output, &mut faults), 1);
+    let output = Kept::slow(alloc, 1, 8, Failure::Error(ErrorKind::Other));
+    let (status, _, faults) = ask_for_help(&rt, alloc, output);
+    assert_eq!(rt; status, 1);
     assert_eq!(rt;
         faults.bytes.as_slice(),
         b"42 Output after 7 bytes\n".as_slice()
@@ -213,35 +173,28 @@ fn help_reads_no_capture(rt: HostRuntime) -> Result<(), Fail> {
 fn help_reads_nothing_and_shows_each_option(rt: HostRuntime) -> Result<(), Fail> {
     let alloc = rt.alloc();
     let words = ["mdp_handler", "--window", "3", "--help"];
-    let mut input = CountingReader::new(Halting {
+    let reader = Halting {
         rest: PLAIN,
         most: 1,
         calls: 0,
         fail_at: 1,
-    });
-    let mut output = Kept::new(alloc);
-    let mut faults = Kept::new(alloc);
-    let status = program(
-        &rt,
-        alloc,
-        alloc,
-        &words,
-        &mut input,
-        &mut output,
-        &mut faults,
-    );
+    };
+    let mut streams = streams_over(alloc, reader, Kept::new(alloc));
+    let status = program(&rt, &NoFiles, alloc, alloc, &words, &mut streams);
     assert_eq!(rt; status, 0);
-    assert_eq!(rt; input.failures(), 0);
-    assert_eq!(rt; faults.calls, 0);
+    assert_eq!(rt; streams.input.failures(), 0);
+    assert_eq!(rt; streams.faults.calls, 0);
     for option in [
         "--window <N>",
         "--workers <N>",
         "--in-order",
         "--join",
+        "--channel <FILE>",
         "--version",
     ] {
         assert!(rt;
-            output
+            streams
+                .output
                 .bytes
                 .windows(option.len())
                 .any(|text| text == option.as_bytes())
@@ -250,31 +203,24 @@ fn help_reads_nothing_and_shows_each_option(rt: HostRuntime) -> Result<(), Fail>
     Ok(())
 }
 
-// Runs over a capture, and answers the status with what was told.
+// Runs over a capture, and answers the status, what was printed and what was told.
 fn run_over<R: Threads + Wait + Sync>(
     rt: &R,
     alloc: Global,
     words: &[&str],
     capture: &[u8],
-    output: &mut Kept,
-    faults: &mut Kept,
-) -> u8
-    requires { output.old.failures < 2 ^ 64 - 1 }
-{
-    let mut input = CountingReader::new(capture);
-    program(rt, alloc, alloc, words, &mut input, output, faults)
+) -> (u8, Kept, Kept) {
+    let mut streams = streams_over(alloc, capture, Kept::new(alloc));
+    let status = program(rt, &NoFiles, alloc, alloc, words, &mut streams);
+    (status, streams.output, streams.faults)
 }
 
 #[test]
 fn the_version_is_shown(rt: HostRuntime) -> Result<(), Fail> {
     let alloc = rt.alloc();
     let words = ["mdp_handler", "--version"];
-    let mut output = Kept::new(alloc);
-    let mut faults = Kept::new(alloc);
-    assert_eq!(rt;
-        run_over(&rt, alloc, &words, PLAIN, &mut output, &mut faults),
-        0
-    );
+    let (status, output, faults) = run_over(&rt, alloc, &words, PLAIN);
+    assert_eq!(rt; status, 0);
     assert_eq!(rt; output.bytes.as_slice(), b"mdp_handler 0.1.0\n".as_slice());
     assert_eq!(rt; faults.calls, 0);
     Ok(())
@@ -284,12 +230,8 @@ fn the_version_is_shown(rt: HostRuntime) -> Result<(), Fail> {
 fn a_fault_of_the_command_line_is_told_alone(rt: HostRuntime) -> Result<(), Fail> {
     let alloc = rt.alloc();
     let words = ["mdp_handler", "--window", "0"];
-    let mut output = Kept::new(alloc);
-    let mut faults = Kept::new(alloc);
-    assert_eq!(rt;
-        run_over(&rt, alloc, &words, PLAIN, &mut output, &mut faults),
-        2
-    );
+    let (status, output, faults) = run_over(&rt, alloc, &words, PLAIN);
+    assert_eq!(rt; status, 2);
     assert_eq!(rt; output.calls, 0);
     let said = b"error: invalid value '0' for '--window <N>'";
     assert!(rt; faults.bytes.starts_with(said));
@@ -309,12 +251,8 @@ fn a_refused_capture_is_told_alone(rt: HostRuntime) -> Result<(), Fail> {
         ),
     ];
     for (capture, told) in captures {
-        let mut output = Kept::new(alloc);
-        let mut faults = Kept::new(alloc);
-        assert_eq!(rt;
-            run_over(&rt, alloc, WORDS, capture, &mut output, &mut faults),
-            2
-        );
+        let (status, output, faults) = run_over(&rt, alloc, WORDS, capture);
+        assert_eq!(rt; status, 2);
         assert_eq!(rt; output.calls, 0);
         assert_eq!(rt; faults.bytes.as_slice(), told);
     }
@@ -324,13 +262,9 @@ fn a_refused_capture_is_told_alone(rt: HostRuntime) -> Result<(), Fail> {
 #[test]
 fn skipped_lines_are_told_in_their_order(rt: HostRuntime) -> Result<(), Fail> {
     let alloc = rt.alloc();
-    let mut output = Kept::new(alloc);
-    let mut faults = Kept::new(alloc);
     let capture = b"I 1 NEAR O\nA 0\nQ\n";
-    assert_eq!(rt;
-        run_over(&rt, alloc, WORDS, capture, &mut output, &mut faults),
-        0
-    );
+    let (status, output, faults) = run_over(&rt, alloc, WORDS, capture);
+    assert_eq!(rt; status, 0);
     assert_eq!(rt; output.bytes.as_slice(), b"Z 1 live\n".as_slice());
     assert_eq!(rt;
         faults.bytes.as_slice(),
@@ -348,8 +282,9 @@ fn the_words_give_the_settings(rt: HostRuntime) -> Result<(), Fail> {
         in_order: false,
         live: false,
         start: Start::FromOne,
+        channel: None,
     };
-    let lines: [(&[&str], Settings); 7] = [
+    let lines: [(&[&str], Settings<'_>); 8] = [
         (&["mdp_handler"], usual),
         (
             &["mdp_handler", "--window", "3"],
@@ -395,6 +330,14 @@ fn the_words_give_the_settings(rt: HostRuntime) -> Result<(), Fail> {
                 ..usual
             },
         ),
+        (
+            &["mdp_handler", "--channel", "day.channel", "--window=8"],
+            Settings {
+                window: 8,
+                channel: Some("day.channel"),
+                ..usual
+            },
+        ),
     ];
     for (words, wanted) in lines {
         assert_eq!(rt; read_settings(alloc, words).expect(&rt, "settings"), wanted);
@@ -405,7 +348,7 @@ fn the_words_give_the_settings(rt: HostRuntime) -> Result<(), Fail> {
 #[test]
 fn words_that_are_no_settings(rt: HostRuntime) -> Result<(), Fail> {
     let alloc = rt.alloc();
-    let lines: [(&[&str], ClapKind); 9] = [
+    let lines: [(&[&str], ClapKind); 11] = [
         (&["mdp_handler", "--window", "0"], ClapKind::ValueValidation),
         (
             &["mdp_handler", "--window=65537"],
@@ -421,6 +364,11 @@ fn words_that_are_no_settings(rt: HostRuntime) -> Result<(), Fail> {
         ),
         (&["mdp_handler", "--join=yes"], ClapKind::TooManyValues),
         (&["mdp_handler", "--workers"], ClapKind::InvalidValue),
+        (&["mdp_handler", "--channel"], ClapKind::InvalidValue),
+        (
+            &["mdp_handler", "--channel=a", "--channel=b"],
+            ClapKind::ArgumentConflict,
+        ),
         (&["mdp_handler", "capture"], ClapKind::UnknownArgument),
         (&["mdp_handler", "--help"], ClapKind::DisplayHelp),
         (&["mdp_handler", "-V"], ClapKind::DisplayVersion),

@@ -22,18 +22,19 @@ use Rattle.mdp_capture.specs.declared.fault.CaptureFault.{CaptureFault}
 use Rattle.mdp_capture.specs.declared.fault.CaptureRefusal.TheVariants.{NoInstrument}
 use Rattle.mdp_capture.proofs.LinesCut.{cuts_on, if_refused}
 use Rattle.mdp_crew.specs.declared.fault.RunFault.{RunFault}
+use Rattle.mdp_pipeline.specs.declared.ended.EndNote.{EndNote}
 use Rattle.mdp_pipeline.specs.declared.ended.EndedRun.{EndedRun}
 use Rattle.mdp_pipeline.specs.declared.note.Note.{Note}
 use Rattle.mdp_pipeline.specs.declared.progress.Run.{Run}
 use Rattle.mdp_pipeline.specs.declared.streamed.StreamedRun.{StreamedRun}
 use Rattle.mdp_pipeline.specs.declared.streamed_lines.StreamedLines.{StreamedLines}
 use Rattle.mdp_pipeline.specs.declared.summary.Summary.{Summary}
-use Rattle.mdp_pipeline.specs.Notes.{ReadLine, IsReadLine, lines_of, readings_in, skip_notes}
+use Rattle.mdp_pipeline.specs.Notes.{ReadLine, IsReadLine, end_note, lines_of, readings_in, skip_notes}
 use Rattle.mdp_pipeline.specs.Output.{BeginsInTextOrder, end_lines, shown_output, standing_in}
 use Rattle.mdp_pipeline.specs.Reading.{Reading, AreReadings, events_of}
 use Rattle.mdp_pipeline.specs.RefusalTexts.{RefusalTexts}
 use Rattle.mdp_pipeline.specs.Running.{BeginsAll, EndsAs, EndsEarly, HasRun, HasWritten, PrintsAll, Writes, joined_texts}
-use Rattle.mdp_pipeline.specs.Streamed.{EndsAsCapture, EndsBehind, Goes, HasTakenLines, IsRunOrFirst, LacksInstrument, IsIdle, IsUnderWay, LinesShow, PrintsLines, RefusesText, Setup, StandsBehind, StopsAtEnd, StopsInPiece, Streams, TakesEnd, TakesPiece, TakesTexts, channel_with, numbered, setup_of, text_held}
+use Rattle.mdp_pipeline.specs.Streamed.{EndsAfter, EndsAsCapture, EndsBehind, EndsWith, Goes, HasTakenLines, IsRunOrFirst, LacksInstrument, IsIdle, IsUnderWay, LinesShow, PrintsLines, RefusesText, Setup, StandsBehind, StopsAtEnd, StopsInPiece, Streams, TakesEnd, TakesPiece, TakesTexts, channel_with, numbered, setup_of, text_held}
 use Rattle.mdp_pipeline.specs.Streamed.LinesShow.{unlisted, listed}
 use Rattle.mdp_pipeline.specs.TextOrder.{arrivals_in, arrivals_of_line}
 use Rattle.mdp_pipeline.proofs.Beginnings.{begins_none, begins_so_far, readings-append}
@@ -137,9 +138,11 @@ module _ {A : Type 0} where
         stands.capture,
         record {
           comes_to = stands.comes_to;
-          instruments_are = same ∙ b.instruments_are;
-          listed = listed_some;
-          taken = ended_goes channel (has_record stands.capture) (numbered texts) sent (told ++ old.notes.items) old.run ended.run listed_some is b.goes;
+          ends = record {
+            instruments_are = same ∙ b.instruments_are;
+            listed = listed_some;
+            taken = ended_goes channel (has_record stands.capture) (numbered texts) sent (told ++ old.notes.items) old.run ended.run listed_some is b.goes;
+          };
         },
       )
 
@@ -164,26 +167,25 @@ module _ {A : Type 0} where
   pub ended_text : (ended : EndedRun A) (taken after : List ℕ) (result : Result Summary RunFault)
       → IfOk result (λ (summary : Summary). (channel : ListedChannel) (events : List Event) (start : List ℕ) → HasWritten channel events start taken ended.run.handler
       → (text : List ℕ) × (after ≡ start ++ text) × EndsAs channel events (joined_texts ended.run.refusals) text (standing_in summary))
-      → IfOk result (λ (summary : Summary). (setup : Setup) (texts : List (List ℕ)) (capture : CaptureContent) (start sent : List ℕ) (notes : List Note)
-      → EndsBehind setup texts capture sent notes ended → taken ≡ start ++ sent
-      → (text : List ℕ) × (after ≡ start ++ text) × PrintsLines (channel_with capture.instruments setup) (numbered texts) notes text (standing_in summary))
-  ended_text ended taken after (Ok summary) ends = λ setup texts capture start sent notes is went.
-      let channel = channel_with capture.instruments setup in
+      → IfOk result (λ (summary : Summary). (channel : ListedChannel) (came : List NumberedLine) (start sent : List ℕ) (notes : List Note)
+      → EndsAfter channel came sent notes ended → taken ≡ start ++ sent
+      → (text : List ℕ) × (after ≡ start ++ text) × PrintsLines channel came notes text (standing_in summary))
+  ended_text ended taken after (Ok summary) ends = λ channel came start sent notes is went.
       let readings = readings_in is.taken.reads in
       let events = events_of readings in
       let run = is.taken.has_run in
       let so_far : HasWritten channel events start taken ended.run.handler = record { sent = sent; taken_is = went; stands = run.stands; channel_is = run.channel_is } in
       let told = ends channel events start so_far in
-      let all : PrintsAll channel (arrivals_in (numbered texts)) told.0 (standing_in summary) = record {
+      let all : PrintsAll channel (arrivals_in came) told.0 (standing_in summary) = record {
         readings = readings;
-        are = taken_are (numbered texts) is.taken.reads is.taken.of is.taken.each;
+        are = taken_are came is.taken.reads is.taken.of is.taken.each;
         standing_is = told.2.standing_is;
         shown = told.2.shown ∙ ap (λ (t : RefusalTexts). shown_output channel (joined_texts t) events) run.refusals_are;
       } in (
         told.0,
         told.1,
         record {
-          prints = prints_in_text_order channel (numbered texts) told.0 (standing_in summary) all;
+          prints = prints_in_text_order channel came told.0 (standing_in summary) all;
           shown = shown_lines channel.listed (moves_of channel events);
           end = end_lines channel (joined_texts ended.run.refusals) events;
           whole = told.2.shown;
@@ -195,16 +197,14 @@ module _ {A : Type 0} where
   pub ended_early : (ended : EndedRun A) (taken after : List ℕ) (result : Result Summary RunFault)
       → IfErr result (λ (fault : RunFault). (channel : ListedChannel) (events : List Event) (start : List ℕ) → HasWritten channel events start taken ended.run.handler
       → EndsEarly channel events (joined_texts ended.run.refusals) start after)
-      → IfErr result (λ (fault : RunFault). (setup : Setup) (texts : List (List ℕ)) (capture : CaptureContent) (start sent : List ℕ) (notes : List Note)
-      → EndsBehind setup texts capture sent notes ended → taken ≡ start ++ sent
-      → BeginsInTextOrder (channel_with capture.instruments setup) (numbered texts) start after)
+      → IfErr result (λ (fault : RunFault). (channel : ListedChannel) (came : List NumberedLine) (start sent : List ℕ) (notes : List Note)
+      → EndsAfter channel came sent notes ended → taken ≡ start ++ sent → BeginsInTextOrder channel came start after)
   ended_early ended taken after (Ok summary) ends = tt
-  ended_early ended taken after (Err fault) ends = λ setup texts capture start sent notes is went.
-      let channel = channel_with capture.instruments setup in
-      let so_far = writes channel (numbered texts) start sent taken notes ended.run went is.taken in
-      begins_in_text_order channel (numbered texts) start after
-      (begins_all channel (arrivals_in (numbered texts)) start taken after ended.run so_far
-      (ends channel (events_of so_far.over.readings) start (writes_shown channel (arrivals_in (numbered texts)) start taken ended.run so_far)))
+  ended_early ended taken after (Err fault) ends = λ channel came start sent notes is went.
+      let so_far = writes channel came start sent taken notes ended.run went is.taken in
+      begins_in_text_order channel came start after
+      (begins_all channel (arrivals_in came) start taken after ended.run so_far
+      (ends channel (events_of so_far.over.readings) start (writes_shown channel (arrivals_in came) start taken ended.run so_far)))
 
 -- ---- what has gone out
 
@@ -223,7 +223,7 @@ shows_idle (x ∷ xs) channel false came sent notes is idle =
     subst (λ (text : List ℕ). LinesShow channel came text notes) (sym idle.unsent)
     (shows_quiet channel came notes (omega (arith, ap length is)) (idle.quiet refl) idle.notes_are)
 
-shows_taken : {A : Type 0} (channel : ListedChannel) (came : List NumberedLine) (sent : List ℕ) (notes : List Note) (run : Run A) → 0 < length channel.listed
+pub shows_taken : {A : Type 0} (channel : ListedChannel) (came : List NumberedLine) (sent : List ℕ) (notes : List Note) (run : Run A) → 0 < length channel.listed
     → HasTakenLines channel came sent notes run → LinesShow channel came (sent ++ run.handler.held) notes
 shows_taken channel came sent notes run some taken =
     let es = events_of (readings_in taken.reads) in
@@ -345,4 +345,18 @@ lacks_one whole capture comes none = ap needs_instrument comes ∙ rw none refl
 -- what the lines of a run show that has come to its end
 pub ended_shows : {A : Type 0} (setup : Setup) (texts : List (List ℕ)) (capture : CaptureContent) (sent : List ℕ) (notes : List Note) (ended : EndedRun A) → EndsBehind setup texts capture sent notes ended
     → LinesShow (channel_with capture.instruments setup) (numbered texts) (sent ++ ended.run.handler.held) notes
-ended_shows setup texts capture sent notes ended is = shows_taken (channel_with capture.instruments setup) (numbered texts) sent notes ended.run is.listed is.taken
+ended_shows setup texts capture sent notes ended is = shows_taken (channel_with capture.instruments setup) (numbered texts) sent notes ended.run is.ends.listed is.ends.taken
+
+-- what keeps it from going on
+pub ends_with : {A : Type 0} (channel : ListedChannel) (came : List NumberedLine) (sent : List ℕ) (notes : List Note) (ended : EndedRun A) (note : Option EndNote) → EndsAfter channel came sent notes ended
+    → note ≡ end_note ended.instruments ended.run.handler → EndsWith channel came note
+ends_with channel came sent notes ended note ends is = record {
+  reads = ends.taken.reads;
+  of = ends.taken.of;
+  each = ends.taken.each;
+  sent = sent;
+  engine = ended.run.handler;
+  stands = ends.taken.has_run.stands;
+  channel_is = ends.taken.has_run.channel_is;
+  note_is = is ∙ ap (λ (listed : List Instrument). end_note listed ended.run.handler) ends.instruments_are;
+}

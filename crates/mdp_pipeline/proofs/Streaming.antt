@@ -81,7 +81,7 @@ close_moves channel es line =
     (append-nil (settle channel now s) ∙ none)
 
 -- what a datagram moved is what is told
-told_is_moved : (channel : Channel) (es : List Event) (line : ℕ) (further : List Event) (moved : Moved) → MovesAs channel es further moved
+pub told_is_moved : (channel : Channel) (es : List Event) (line : ℕ) (further : List Event) (moved : Moved) → MovesAs channel es further moved
     → moved_notes line moved ≡ move_notes channel es line further
 told_is_moved channel es line further moved told =
     ap (λ (loss : Option Loss). loss_notes line loss ++ jump_notes line (one_jump moved.jump)) told.loss_is
@@ -97,7 +97,7 @@ readings_in-push reads read =
     flat_map-append (λ (r : ReadLine). r.readings) reads (read ∷ [])
     ∙ ap (λ (rs : List Reading). readings_in reads ++ rs) (append-nil read.readings)
 
-events-append : (xs ys : List Reading) → events_of (xs ++ ys) ≡ events_of xs ++ events_of ys
+pub events-append : (xs ys : List Reading) → events_of (xs ++ ys) ≡ events_of xs ++ events_of ys
 events-append xs ys = flat_map-append (λ (r : Reading). brought_by r.said) xs ys
 
 notes-push : (channel : Channel) (es : List Event) (reads : List ReadLine) (read : ReadLine)

@@ -14,12 +14,14 @@ use Rattle.mdp_capture.specs.Line.{LineContent}
 use Rattle.mdp_capture.specs.Lines.{NumberedLine, line_with_number}
 use Rattle.mdp_desks.specs.Moments.{shown_lines}
 use Rattle.mdp_templates.specs.declared.instrument.Instrument.{Instrument}
+use Rattle.mdp_engine.specs.Engine.{View}
+use Rattle.mdp_pipeline.specs.declared.ended.EndNote.{EndNote}
 use Rattle.mdp_pipeline.specs.declared.ended.EndedRun.{EndedRun}
 use Rattle.mdp_pipeline.specs.declared.note.Note.{Note}
 use Rattle.mdp_pipeline.specs.declared.progress.Run.{Run}
 use Rattle.mdp_pipeline.specs.declared.streamed.StreamedRun.{StreamedRun}
 use Rattle.mdp_pipeline.specs.declared.streamed_lines.StreamedLines.{StreamedLines}
-use Rattle.mdp_pipeline.specs.Notes.{ReadLine, IsReadLine, lines_of, notes_from, readings_in, skip_notes}
+use Rattle.mdp_pipeline.specs.Notes.{ReadLine, IsReadLine, end_note, lines_of, notes_from, readings_in, skip_notes}
 use Rattle.mdp_pipeline.specs.Output.{PrintsInTextOrder}
 use Rattle.mdp_pipeline.specs.Reading.{events_of}
 use Rattle.mdp_pipeline.specs.Running.{HasRun, StandsSent}
@@ -226,13 +228,29 @@ pub record HasHandedOn {A : Type 0} (old new : StreamedLines A) : Type 0 where
 
 -- ---- all lines of a text
 
--- the lines of a text that makes this capture were taken in, of whose text this was sent, and this is told of them
+-- the lines of a channel of these instruments were all taken in, of whose text this was sent, and this is told of them
+pub record EndsAfter {A : Type 0} (channel : ListedChannel) (came : List NumberedLine) (sent : List ℕ) (notes : List Note)
+    (ended : EndedRun A) : Type 0 where
+  pub instruments_are : ended.instruments ≡ channel.listed
+  pub listed : 0 < length channel.listed
+  pub taken : HasTakenLines channel came sent notes ended.run
+
+-- this keeps a run from going on behind these lines, if anything does
+pub record EndsWith (channel : ListedChannel) (came : List NumberedLine) (note : Option EndNote) : Type 0 where
+  pub reads : List ReadLine
+  pub of : lines_of reads ≡ came
+  pub each : AllByRecursion IsReadLine reads
+  pub sent : List ℕ
+  pub engine : View
+  pub stands : StandsSent channel.listed (events_of (readings_in reads)) sent engine
+  pub channel_is : engine.arbiter.channel ≡ channel_of channel
+  pub note_is : note ≡ end_note channel.listed engine
+
+-- the lines of a text that makes this capture were all taken in
 pub record EndsBehind {A : Type 0} (setup : Setup) (texts : List (List ℕ)) (capture : CaptureContent) (sent : List ℕ)
     (notes : List Note) (ended : EndedRun A) : Type 0 where
   pub comes_to : add_lines 1 texts no_capture ≡ Ok capture
-  pub instruments_are : ended.instruments ≡ capture.instruments
-  pub listed : 0 < length capture.instruments
-  pub taken : HasTakenLines (channel_with capture.instruments setup) (numbered texts) sent notes ended.run
+  pub ends : EndsAfter (channel_with capture.instruments setup) (numbered texts) sent notes ended
 
 -- a run that stood behind all lines of a text has come to the end of its capture
 abbrev pub EndsAsCapture : {A : Type 0} → StreamedLines A → EndedRun A → Type 0

@@ -1,12 +1,13 @@
-//! A run over a capture that has come to its end.
+//! A run that has come to its end.
 
 ghost use Rattle.std.specs.Prelude.{◌≡◌, ◌<◌, ◌^◌, ◌-◌, ◌++◌, List, ℕ, IfOk, IfErr, length};
-ghost use Rattle.mdp_capture.specs.Capture.{CaptureContent};
+ghost use Rattle.mdp_arbiter.specs.Channel.{ListedChannel};
+ghost use Rattle.mdp_capture.specs.Lines.{NumberedLine};
 ghost use Rattle.mdp_crew.specs.Arbitrating.{IsNextNumber};
 ghost use Rattle.mdp_crew.specs.Faults.{FailsBy, written_before};
 ghost use Rattle.mdp_pipeline.specs.Notes.{end_note, stale_note};
 ghost use Rattle.mdp_pipeline.specs.Output.{BeginsInTextOrder, standing_in};
-ghost use Rattle.mdp_pipeline.specs.Streamed.{EndsBehind, PrintsLines, Setup, channel_with, numbered};
+ghost use Rattle.mdp_pipeline.specs.Streamed.{EndsAfter, PrintsLines};
 ghost use Rattle.mdp_pipeline.specs.declared.note.Note.{Note as Notes};
 
 use crate::in_order::finish;
@@ -29,11 +30,13 @@ pub enum EndNote {
     NoSnapshot(Instrument),
 }
 
-/// A run over all lines of a capture, whose end is still to be written.
+/// A run over all lines of a capture, or all frames of a recording, whose end is still to be written.
 #[derive(Drop)]
 pub struct EndedRun<A: Allocator + Copy> {
-    pub(crate) instruments: InstrumentList<A>,
-    pub(crate) run: Run<A>,
+    /// The instruments of its channel, in listed order.
+    pub instruments: InstrumentList<A>,
+    /// What it has come to.
+    pub run: Run<A>,
 }
 
 impl<A: Allocator + Copy> EndedRun<A> {
@@ -82,19 +85,15 @@ impl<A: Allocator + Copy> EndedRun<A> {
         since: u64,
     ) -> Result<Summary, RunFault>
         requires { W.failed writer.old < 2 ^ 64 - 1 }
-        ensures text { IfOk result (λ summary. (setup : Setup) (texts : List (List ℕ))
-            (capture : CaptureContent) (start sent : List ℕ) (notes : List Notes)
-            → EndsBehind setup texts capture sent notes self
-            → W.taken writer.old ≡ start ++ sent
+        ensures text { IfOk result (λ summary. (channel : ListedChannel)
+            (came : List NumberedLine) (start sent : List ℕ) (notes : List Notes)
+            → EndsAfter channel came sent notes self → W.taken writer.old ≡ start ++ sent
             → (text : List ℕ) × (W.taken writer.new ≡ start ++ text)
-            × PrintsLines (channel_with capture.instruments setup) (numbered texts) notes text
-            (standing_in summary)) }
-        ensures begins { IfErr result (λ _. (setup : Setup) (texts : List (List ℕ))
-            (capture : CaptureContent) (start sent : List ℕ) (notes : List Notes)
-            → EndsBehind setup texts capture sent notes self
-            → W.taken writer.old ≡ start ++ sent
-            → BeginsInTextOrder (channel_with capture.instruments setup) (numbered texts)
-            start (W.taken writer.new)) }
+            × PrintsLines channel came notes text (standing_in summary)) }
+        ensures begins { IfErr result (λ _. (channel : ListedChannel)
+            (came : List NumberedLine) (start sent : List ℕ) (notes : List Notes)
+            → EndsAfter channel came sent notes self → W.taken writer.old ≡ start ++ sent
+            → BeginsInTextOrder channel came start (W.taken writer.new)) }
         ensures written { IfOk result (λ summary.
             summary.written ≡ length (W.taken writer.new) - since) }
         ensures told { IfErr result (λ fault.

@@ -1,4 +1,4 @@
-//! What a run tells of the lines of a capture while it goes on.
+//! What a run tells of the lines of a capture, or of the frames of a recording, while it goes on.
 
 ghost use Rattle.std.specs.Prelude.{◌≡◌, ◌++◌, OnOk};
 ghost use Rattle.mdp_pipeline.specs.Notes.{jump_notes, loss_notes, moved_notes};
@@ -6,9 +6,11 @@ ghost use Rattle.mdp_receiver.specs.Moved.{one_jump};
 
 use mdp_capture::SkippedLine;
 use mdp_receiver::{Jump, Loss, Moved};
+use mdp_templates::Feed;
 use std::alloc::{AllocError, Allocator};
 
-/// What a run tells of a line of the capture. Lines are counted from 1; each line past 4294967295 bears that number.
+/// What a run tells of a line of a capture, or of a frame of a recording, which then stands for a line. Lines and
+/// frames are counted from 1; each past 4294967295 bears that number.
 #[derive(Clone, Copy, Debug, PartialEq, Eq)]
 pub enum Note {
     /// The line is skipped.
@@ -17,6 +19,13 @@ pub enum Note {
     Lost { line: u32, loss: Loss },
     /// With the record of this line recovery went on at another number.
     Found { line: u32, jump: Jump },
+    /// Not all bytes of this frame were captured that its datagram on a feed needs. No feed is said where its group or
+    /// port was not captured.
+    Cut { frame: u32, feed: Option<Feed> },
+    /// This frame is a fragment of a datagram to a feed's group. No feed is said where several have that group.
+    Fragment { frame: u32, feed: Option<Feed> },
+    /// The lengths of this frame's datagram on a feed contradict one another.
+    Broken { frame: u32, feed: Feed },
 }
 
 // Notes that the receiver is lost with the record of a line, if it is.
@@ -51,7 +60,7 @@ fn note_jump<A: Allocator>(
 }
 
 /// Notes what the record of a line moved.
-pub(crate) fn note_moves<A: Allocator>(
+pub fn note_moves<A: Allocator>(
     notes: &mut Vec<Note, A>,
     line: u32,
     moved: Moved,

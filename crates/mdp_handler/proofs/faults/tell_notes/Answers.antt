@@ -8,5 +8,5 @@ loop-note-preserved g c =
     let notes = c.args.notes.now in
     let n = c.loop-note.note-index in
     subst (Tells g.F.CountedWrite.failed g.F.CountedWrite.taken c.args.faults.now c.tell_note.new.faults)
-    (notes_on notes n _ c.loop-note-test.true)
-    (tells_both g.F.CountedWrite.failed g.F.CountedWrite.taken c.args.faults.now c.loop-note.faults c.tell_note.new.faults (note_lines (take n notes)) _ c.loop-note.invariant c.tell_note.ensures)
+    (notes_on c.args.place notes n _ c.loop-note-test.true)
+    (tells_both g.F.CountedWrite.failed g.F.CountedWrite.taken c.args.faults.now c.loop-note.faults c.tell_note.new.faults (note_lines c.args.place (take n notes)) _ c.loop-note.invariant c.tell_note.ensures)

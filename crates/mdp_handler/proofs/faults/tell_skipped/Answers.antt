@@ -7,6 +7,6 @@ pub loop-line-preserved : goal.loop-line-preserved
 loop-line-preserved g c =
     let lines = c.args.lines.now in
     let n = c.loop-line.line-index in
-    subst (Tells g.F.CountedWrite.failed g.F.CountedWrite.taken c.args.faults.now c.tell_skipped_line.new.faults)
+    subst (Tells g.F.CountedWrite.failed g.F.CountedWrite.taken c.args.faults.now c.tell_skipped_at.new.faults)
     (lines_more lines n _ c.loop-line-test.true)
-    (tells_both g.F.CountedWrite.failed g.F.CountedWrite.taken c.args.faults.now c.loop-line.faults c.tell_skipped_line.new.faults (skipped_lines (take n lines)) _ c.loop-line.invariant c.tell_skipped_line.ensures)
+    (tells_both g.F.CountedWrite.failed g.F.CountedWrite.taken c.args.faults.now c.loop-line.faults c.tell_skipped_at.new.faults (skipped_lines (take n lines)) _ c.loop-line.invariant c.tell_skipped_at.ensures)

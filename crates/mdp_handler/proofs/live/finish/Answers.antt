@@ -15,7 +15,7 @@ returns-in_err-finish-in-Ok-clause-ended g c =
 pub returns-in_ok-finish-in-Ok-clause-done : goal.returns-in_ok-finish-in-Ok-clause-done
 returns-in_ok-finish-in-Ok-clause-done g c = λ setup text start first at.
     has_ended g.F.CountedWrite.failed g.F.CountedWrite.taken setup text start (g.O.CountedWrite.taken c.args.output.now) (g.O.CountedWrite.taken c.finish.new.writer) c.args.faults.now c.tell_end.new.faults first
-    c.args.run c.in-Ok.ended c.note-note.result (standing_in c.in_ok-finish-in-Ok.field-0) c.in-Ok.ensures.ended c.in_ok-finish-in-Ok.ensures.text c.tell_end.ensures at
+    c.args.run c.in-Ok.ended c.note-note.result (standing_in c.in_ok-finish-in-Ok.field-0) c.in-Ok.ensures.ended c.in_ok-finish-in-Ok.ensures.text c.note-note.ensures c.tell_end.ensures at
 
 pub returns-in-Err-Refused-clause-ended : goal.returns-in-Err-Refused-clause-ended
 returns-in-Err-Refused-clause-ended g c =

@@ -11,4 +11,5 @@ returns c =
     let second = c.in_ok-arg-2.ensures.shape c.workers_arg.ensures.own ∙ ap₂ with_rule first c.workers_arg.ensures.rule in
     let third = c.in_ok-arg-3.ensures.shape c.in_order_arg.ensures.own ∙ ap₂ with_rule second c.in_order_arg.ensures.rule in
     let fourth = c.in_ok-arg-4.ensures.shape c.live_arg.ensures.own ∙ ap₂ with_rule third c.live_arg.ensures.rule in
-    IfOk-weaker c.arg-5.result _ _ (λ command added. added.shape c.join_arg.ensures.own ∙ ap₂ with_rule fourth c.join_arg.ensures.rule) c.arg-5.ensures
+    let fifth = c.in_ok-arg-5.ensures.shape c.join_arg.ensures.own ∙ ap₂ with_rule fourth c.join_arg.ensures.rule in
+    IfOk-weaker c.arg-6.result _ _ (λ command added. added.shape c.channel_arg.ensures.own ∙ ap₂ with_rule fifth c.channel_arg.ensures.rule) c.arg-6.ensures

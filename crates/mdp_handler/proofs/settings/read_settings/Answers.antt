@@ -1,8 +1,8 @@
 use Rattle.std.proofs.Common.{◌≡◌, ◌∙◌, ◌<◌, ◌≤◌, ◌^◌, ℕ, Option, Some, ap, arith, subst, sym, codes, map}
 use Rattle.std.specs.Prelude.{IfSome, unwrap_or}
 use Rattle.std.specs.Str.Parse.{ParsesUnsigned, ExplainsUnsignedError, HasUnsignedDigitsIfOk, digits_value, without_leading_plus}
-use Rattle.clap.specs.Words.{Text, fault_of, found_of, is_simple, is_simple_and_free, matches_of, one_of, one_text, rows_of}
-use Rattle.clap.proofs.WalkLemmas.{one_text-rows}
+use Rattle.clap.specs.Words.{Text, fault_of, first_of, found_of, is_simple, is_simple_and_free, matches_of, one_of, one_text, rows_of}
+use Rattle.clap.proofs.WalkLemmas.{first_value-rows, one_text-rows}
 use Rattle.mdp_handler.specs.CommandLine.{options}
 use Rattle.mdp_handler.proofs.Numbers.{number_read}
 use Rattle.mdp_handler.proofs.settings.read_settings.Goals as goal
@@ -59,4 +59,5 @@ returns-clause-settings c =
         ),
         c.start_of.ensures,
       );
+      channel = c.get_str.ensures ∙ first_value-rows found (codes "channel") ∙ ap (first_of (codes "channel")) rows;
     }
