@@ -1,7 +1,8 @@
 #!/bin/bash
 # compare.sh PRESET [PROGRAM]
 # Runs PROGRAM (mdp_handler, as `make run` built it) and the plain handler by turns on a preset, and prints one table:
-# instructions, seconds, peak memory, and whether both print the same bytes. Exit status 1 where they don't.
+# instructions, seconds, peak memory, and whether both print the same bytes, of a capture and of a pcap file. Exit
+# status 1 where they don't. A program without --channel has no figures of the pcap file.
 #   RUNS=5          how many timed runs of each
 #   SEED=1          the seed of the preset
 # Reading is a run over the same capture with an instrument's line behind its end, which is refused once all of it was
@@ -59,14 +60,17 @@ instructions() {
     valgrind --tool=callgrind --callgrind-out-file="$tmp/callgrind" "$@" < "$input" 2>&1 > "$tmp/out" |
         awk '/Collected/ { printf "%.1f", $4 / 1e6 }'
 }
-# Gives a row of the table: what it says, both figures, and their ratio.
+# Gives a row of the table: what it says, both figures, and their ratio. The first figure may be missing.
 row() {
-    awk -v name="$1" -v one="$2" -v other="$3" -v digits="$4" \
-        'BEGIN { printf "| %s | %.*f | %.*f | %s |\n", name, digits, one, digits, other, (other > 0 ? sprintf("%.2f", one / other) : "") }'
+    awk -v name="$1" -v one="$2" -v other="$3" -v digits="$4" 'BEGIN {
+        first = one == "" ? "" : sprintf("%.*f", digits, one)
+        ratio = one == "" || other <= 0 ? "" : sprintf("%.2f", one / other)
+        printf "| %s | %s | %.*f | %s |\n", name, first, digits, other, ratio
+    }'
 }
 # The n-th figure of a command's line of by_turns.
 figure() { sed -n "$2p" "$tmp/$1" | cut -d' ' -f"$3"; }
-megabytes() { figure "$1" "$2" 5 | awk '{ print $1 / 1024 }'; }
+megabytes() { figure "$1" "$2" 5 | awk 'NF { print $1 / 1024 }'; }
 minus() { awk -v a="$1" -v b="$2" 'BEGIN { print a - b }'; }
 
 commit=$(git -C "$here" rev-parse --short HEAD 2> "$tmp/told" || echo unknown)
@@ -87,13 +91,17 @@ if command -v valgrind > "$tmp/told"; then
     row "whole" "$whole_1" "$whole_2" 1
     pcap_1="" pcap_2=$(instructions "$tmp/piece.pcap" "$plain" --channel "$tmp/channel")
     [ $reads_pcap = no ] || pcap_1=$(instructions "$tmp/piece.pcap" "$program" --channel "$tmp/channel")
-    echo "| whole, as a pcap file | $pcap_1 | $pcap_2 | |"
+    row "whole, as a pcap file" "$pcap_1" "$pcap_2" 1
     echo "| handling, books alone | | $(minus "$books_2" "$reading_2") | |"
 else
     echo "compare.sh: no valgrind here, so no instructions" >&2
 fi
 "$built/by_turns" "$runs" "$tmp/whole" -- "$program" --in-order -- "$plain" --in-order > "$tmp/seconds" || exit 2
 "$built/by_turns" "$runs" "$tmp/whole.late" -- "$program" --in-order -- "$plain" --in-order > "$tmp/seconds.late" || exit 2
+# The plain handler comes first here: the program's line may be missing.
+pcap_words=("$plain" --channel "$tmp/channel")
+[ $reads_pcap = no ] || pcap_words+=(-- "$program" --channel "$tmp/channel")
+"$built/by_turns" "$runs" "$tmp/pcap" -- "${pcap_words[@]}" > "$tmp/seconds.pcap" || exit 2
 for which in "least 3" "median 4"; do
     name=${which% *} column=${which#* }
     reading_1=$(figure seconds.late 1 "$column") reading_2=$(figure seconds.late 2 "$column")
@@ -101,10 +109,12 @@ for which in "least 3" "median 4"; do
     row "Processor seconds, $name of $runs, reading" "$reading_1" "$reading_2" 3
     row "handling" "$(minus "$whole_1" "$reading_1")" "$(minus "$whole_2" "$reading_2")" 3
     row "whole" "$whole_1" "$whole_2" 3
+    row "whole, as a pcap file" "$(figure seconds.pcap 2 "$column")" "$(figure seconds.pcap 1 "$column")" 3
 done
 row "Seconds of the clock, least of $runs" "$(figure seconds 1 1)" "$(figure seconds 2 1)" 3
 row "median" "$(figure seconds 1 2)" "$(figure seconds 2 2)" 3
 row "Peak memory, MB" "$(megabytes seconds 1)" "$(megabytes seconds 2)" 1
+row "as a pcap file" "$(megabytes seconds.pcap 2)" "$(megabytes seconds.pcap 1)" 1
 echo "| Same bytes, capture | $same | | |"
 echo "| Same bytes, pcap file | $same_pcap | | |"
 [ "$same" = yes ] && [ "$same_pcap" != NO ]

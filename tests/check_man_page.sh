@@ -13,7 +13,7 @@ fi
 program=$(realpath "$1")
 cd "$(dirname "$(realpath "$0")")/.." || exit 2
 "$program" --help | python3 -c '
-import re, sys
+import glob, re, sys
 
 page = open("docs/mdp_handler.1", encoding="utf-8").read()
 # The words of the page without its macros and escapes, with one space between any two.
@@ -38,11 +38,11 @@ def stands(words, of="the help"):
 options = re.search(r"^Options:\n(.*?)\n\n", help_text, re.S | re.M).group(1).split("\n")
 named = set()
 for line in options:
-    match = re.match(r" *((?:-\w, )?--[\w-]+(?: <N>)?) +(.*)", line)
+    match = re.match(r" *((?:-\w, )?--[\w-]+(?: <[A-Z]+>)?) +(.*)", line)
     judge(bool(match), f"the help has an option in another form: {line}")
     if match:
         named |= set(re.findall(r"--?[\w-]+", match.group(1)))
-        stands(match.group(1).replace("<N>", "N"))
+        stands(re.sub(r"<([A-Z]+)>", r"\1", match.group(1)))
         stands(match.group(2))
 section = re.search(r"^\.SH OPTIONS\n(.*?)^\.SH ", page, re.S | re.M).group(1).replace("\\-", "-")
 for name in re.findall(r"(?<![\w-])--?[A-Za-z][\w-]*", section):
@@ -58,21 +58,28 @@ judge(len(found) == 3, "the help has not three exit statuses")
 for number, words in found:
     stands(f"{number} {words}")
 
-# The numbers and names of the sources.
-count = 0
-for path in ("crates/mdp_sbe/src/refusal.rt", "crates/mdp_capture/src/fault.rt", "crates/mdp_capture/src/skip.rt"):
+# The numbers and names of the sources: where one function numbers and another names the same, and where a text has both.
+sources = {}
+for path in sorted(glob.glob("crates/*/src/**/*.rt", recursive=True)):
+    if "tests" in path:
+        continue
     source = open(path, encoding="utf-8").read()
-    numbers = dict(re.findall(r"(\w+::\w+) => (\d+),", source))
-    names = dict(re.findall(r"(\w+::\w+) => \"(\w+)\",", source))
-    judge(bool(numbers) and set(numbers) == set(names), f"{path} numbers and names different ones")
-    for which in numbers:
-        count += 1
-        judge(re.search(rf"\b{numbers[which]} {names[which]}\b", plain) is not None, f"lacks {numbers[which]} {names[which]}")
-listed = re.findall(r"\b(\d+ [A-Z]\w+)", re.search(r"^\.SH NUMBERS\n(.*?)^\.SH ", page, re.S | re.M).group(1))
-judge(len(listed) == count + 7, f"lists {len(listed)} numbers, where the sources have {count}, and seven more stand for faults of a run and notes")
-source = open("crates/mdp_handler/src/faults.rt", encoding="utf-8").read()
-for words in re.findall(r"\"([45]\d \w+)", source):
-    stands(words, "crates/mdp_handler/src/faults.rt")
+    numbers = dict(re.findall(r"(\w+::\w+)(?:\([^)]*\)| \{[^}]*\})? => (\d+),", source))
+    names = dict(re.findall(r"(\w+::\w+)(?:\([^)]*\)| \{[^}]*\})? => \"([A-Z]\w+)\",", source))
+    both = set(numbers) & set(names)
+    if both:
+        judge(set(numbers) == set(names), f"{path} numbers and names different ones")
+    for which in both:
+        sources.setdefault(int(numbers[which]), set()).add(names[which])
+    for number, name in re.findall(r"\"([1-7]\d) ([A-Z]\w+)", source):
+        sources.setdefault(int(number), set()).add(name)
+listed = [(int(number), name) for number, name in re.findall(r"\b(\d+) ([A-Z]\w+)",
+    re.search(r"^\.SH NUMBERS\n(.*?)^\.SH ", page, re.S | re.M).group(1))]
+for number, names in sorted(sources.items()):
+    for name in names:
+        judge((number, name) in listed, f"lacks {number} {name}")
+wanted = [n for first, last in ((1, 18), (21, 23), (31, 35), (41, 43), (51, 57), (61, 64), (71, 74)) for n in range(first, last + 1)]
+judge([number for number, _ in listed] == wanted, f"lists the numbers {[number for number, _ in listed]}, where {wanted} are wanted")
 version = re.search(r"\.version\(\"(.*?)\"\)", open("crates/mdp_handler/src/settings.rt", encoding="utf-8").read()).group(1)
 stands(f"mdp_handler {version}")
 print(f"{passed} passed, {failed} failed")

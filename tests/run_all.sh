@@ -1,10 +1,10 @@
 #!/usr/bin/env bash
 # Proves everything from nothing and runs all tests: the merge gate, then the examples, the demonstration of the board, a pcap file where
-# tshark is there, the rows, captures as they come, cut and bent datagrams, the refusals of the system, refused allocations and the
-# manual's commands on the programs that the gate has built, the library with its callers (which it builds: the gate makes no archive), the
-# samples of captured traffic beside the crate's, the manual page beside the help, and a look at the documents: the names in
-# docs/DEFINITIONS.md, English and links, and the code that they show. The last line is 'N passed, M failed', over all of them. The exit
-# status is 1 if any failed.
+# tshark is there, the rows, captures as they come, recordings of a channel, cut and bent datagrams, the refusals of the system, refused
+# allocations and the manual's commands on the programs that the gate has built, the library with its callers (which it builds: the gate
+# makes no archive), the samples of captured traffic beside the crate's, the manual page beside the help, and a look at the documents: the
+# names in docs/DEFINITIONS.md, English and links, and the code that they show. The last line is 'N passed, M failed', over all of them.
+# The exit status is 1 if any failed.
 set -u
 
 cd "$(dirname "$(realpath "$0")")/.." || exit 2
@@ -48,6 +48,12 @@ run_examples() {
             failed=$((failed + 1))
         fi
     done
+    # The recording has the events of the recovery.
+    if "$program" --window 4 --channel examples/multicast.channel <examples/multicast.pcap 2>/dev/null | diff -u examples/recovery.txt -; then
+        passed=$((passed + 1))
+    else
+        failed=$((failed + 1))
+    fi
     echo "$passed passed, $failed failed"
 }
 
@@ -89,6 +95,13 @@ run_bench() {
     fi
 }
 
+# Runs over recordings of a channel, beside the plain handler that the bench's tests have built.
+run_recordings() {
+    local plain=$scratch/bench/debug/plain_handler words=("$program")
+    [ ! -x "$plain" ] || words+=("$plain")
+    tests/run_channel.py "${words[@]}"
+}
+
 run_part "rt ci" rt ci
 run_part "the examples" run_examples
 run_part "the demonstration" run_demo
@@ -97,6 +110,7 @@ run_part "the bench" run_bench
 run_part "the samples of captured traffic" tests/check_pcap_samples.py
 run_part "the rows" tests/run_rows.sh "$program"
 run_part "captures as they come" tests/run_live.py "$program"
+run_part "recordings of a channel" run_recordings
 run_part "cut and bent datagrams" tests/run_cut_and_bent.sh "$program" crates/datagram_rows/out/datagram_rows
 run_part "the library" tests/run_library.sh "$program"
 run_part "the refusals of the system" tests/run_refusals.sh "$program"

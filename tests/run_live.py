@@ -1,20 +1,18 @@
 #!/usr/bin/env python3
 """Runs a built program over pipes that stay open: tests/run_live.py PROGRAM
 
-With --live, what the lines of a capture show is there before the next line is sent, a late instrument ends the text behind all that
+With --live, what the lines of a capture show is there before the next line is sent, a late instrument ends the text after all that
 stands before it, and memory does not grow with the capture. Prints each check that fails, and then 'N passed, M failed'. The exit status
 is 1 if any failed.
 """
 import os
 import pathlib
-import select
 import subprocess
 import sys
-import time
+
+from piped import PATIENCE, QUIET, Run, text_by_packet
 
 ROOT = pathlib.Path(__file__).resolve().parent.parent
-PATIENCE = 20  # seconds to wait for text that must come
-QUIET = 0.05  # seconds in which no more may come
 FEW, MANY = 300_000, 3_000_000  # datagrams
 
 passed = failed = 0
@@ -26,56 +24,6 @@ def judge(is_right, says):
     failed += not is_right
     if not is_right:
         print(f"FAILED {says}")
-
-
-class Run:
-    """A program that is running, with pipes to it and from it."""
-
-    def __init__(self, words):
-        self.process = subprocess.Popen(words, stdin=subprocess.PIPE, stdout=subprocess.PIPE, stderr=subprocess.PIPE)
-        self.text = b""
-        self.told = b""
-
-    def send(self, text):
-        os.write(self.process.stdin.fileno(), text)
-
-    def read(self, patience, text, told):
-        """Reads until both outputs have so many bytes, or for so long, and then whatever else comes at once."""
-        end = time.monotonic() + patience
-        while len(self.text) < text or len(self.told) < told:
-            left = end - time.monotonic()
-            if left <= 0 or not self.read_once(left):
-                break
-        while self.read_once(QUIET):
-            pass
-
-    def read_once(self, patience):
-        pipes = {self.process.stdout.fileno(): "text", self.process.stderr.fileno(): "told"}
-        found, _, _ = select.select(list(pipes), [], [], patience)
-        got = False
-        for pipe in found:
-            piece = os.read(pipe, 65536)
-            setattr(self, pipes[pipe], getattr(self, pipes[pipe]) + piece)
-            got = got or bool(piece)
-        return got
-
-    def end(self):
-        self.process.stdin.close()
-        self.read(PATIENCE, 1 << 60, 1 << 60) if self.process.poll() is None else None
-        status = self.process.wait(PATIENCE)
-        while self.read_once(QUIET):
-            pass
-        return status
-
-
-def text_by_packet(text):
-    """Gives the lines of a text by the packet that they are of, and the others under 0."""
-    lines = {}
-    for line in text.splitlines(keepends=True):
-        fields = line.split()
-        packet = int(fields[1].split(b".")[0]) if fields[0] in b"DICFA" else 0
-        lines[packet] = lines.get(packet, b"") + line
-    return lines
 
 
 def follow(program):
@@ -117,7 +65,7 @@ def tell(program):
 
 
 def late(program, pieces, says):
-    """Sends an instrument behind records: the text before it is there, without an end."""
+    """Sends an instrument after records: the text before it is there, without an end."""
     text = (ROOT / "examples/plain.txt").read_bytes()
     text = b"".join(line for line in text.splitlines(keepends=True) if line[:1] not in b"XZ")
     run = Run([program, "--live"])

@@ -1,10 +1,10 @@
 #!/usr/bin/env bash
 # Runs a built program with each of its allocations refused in turn, those of the command line too: run_refused_allocations.sh PROGRAM
 #
-# A run in which one was refused ends within ten seconds: with status 1, the line `41 Memory` (with `--live` after what was told before
-# it) and a beginning of the text; or with status 2 and no text, where the words could not be read; or well and with the whole text, where the kit did without it, as where it
-# takes room for the words ahead. Prints each run that fails, a word where this machine can't do it, then one line 'N passed, M failed'.
-# The exit status is 1 if any failed.
+# A run in which one was refused ends within ten seconds: with status 1, the line `41 Memory` (with `--live`, and over a recording, after
+# what was told before it) and a beginning of the text; or with status 2 and no text, where the words could not be read; or well and with
+# the whole text, where the kit did without it, as where it takes room for the words ahead. Prints each run that fails, a word where this
+# machine can't do it, then one line 'N passed, M failed'. The exit status is 1 if any failed.
 set -u
 
 if [ $# -ne 1 ] || [ ! -x "$1" ]; then
@@ -19,7 +19,7 @@ library=$scratch/refuse_allocation.so
 passed=0
 failed=0
 
-# Whether the last run, whose words are given, ended as one must in which an allocation was refused.
+# Whether the last run ended as one must in which an allocation was refused.
 has_told_it() {
     case $(cat "$scratch/status") in
         1) [ "$(tail -n "$last" "$scratch/err")" = "41 Memory" ] && cmp -s -n "$(stat -c %s "$scratch/out")" "$scratch/out" "$text" ;;
@@ -29,20 +29,31 @@ has_told_it() {
     esac
 }
 
-# Runs over the row $1 with the words behind it, with each allocation refused in turn, until none is.
+# Runs over the row $1 with the words after it, with each allocation refused in turn, until none is.
 refuse_each() {
-    local row=$here/rows/$1 number text told went_well=0 last=+1
+    local input=$here/rows/$1/capture text=$here/rows/$1/stdout told=$here/rows/$1/stderr last=+1
     shift
-    text=$row/stdout
-    told=$row/stderr
     if [ "${*: -1}" = --live ]; then
         last=1
-        [ ! -e "$row/stderr.live" ] || told=$row/stderr.live
+        [ ! -e "${told}.live" ] || told=$told.live
     fi
+    refuse_over "$@"
+}
+
+# The same over a recording, which has the events of an example.
+refuse_over_a_recording() {
+    local input=$here/../examples/multicast.pcap text=$here/../examples/recovery.txt told=$scratch/told last=1
+    printf 'frame %s\n' '7: 51 Lost 2 6' '8: 52 Found 2 3' >"$told"
+    refuse_over --window=4 --channel="$here/../examples/multicast.channel"
+}
+
+# Runs over the input with these words, with each allocation refused in turn, until none is.
+refuse_over() {
+    local number went_well=0
     for ((number = 1; number < 5000; number++)); do
         rm -f "$scratch/mark"
         timeout 10 env REFUSED_ALLOCATION="$number" REFUSED_MARK="$scratch/mark" LD_PRELOAD="$library" \
-            "$program" "$@" <"$row/capture" >"$scratch/out" 2>"$scratch/err"
+            "$program" "$@" <"$input" >"$scratch/out" 2>"$scratch/err"
         echo $? >"$scratch/status"
         if [ ! -e "$scratch/mark" ]; then
             break
@@ -68,6 +79,7 @@ if cc -shared -fPIC -O1 -o "$library" "$here/refuse_allocation.c" 2>"$scratch/er
         refuse_each two_legs_and_a_spread "$words"
         refuse_each many_heartbeats "$words"
     done
+    refuse_over_a_recording
 else
     echo "not run: no C compiler makes the library here"
 fi

@@ -7,7 +7,7 @@ use crate::instruments::Instrument;
 use crate::lines::MOST_BYTES;
 use crate::live::MakesShows;
 use crate::notes::Notes;
-use crate::pcap_file::{FrameFinder, Next, PcapFault};
+use crate::pcap_file::{Captured, FrameFinder, Next, PcapFault};
 use crate::processor::{Work, quickly};
 use crate::receiver::{Feed, Receiver, Start};
 use crate::same::are_same;
@@ -39,8 +39,8 @@ impl<R: Read, S: Shows> Running<'_, R, S> {
         let mut before: Before = &[];
         loop {
             match self.finder.next(&bytes[at..])? {
-                Next::Frame(link, frame, length) => {
-                    self.take::<WIDE>(frame_of(link, frame), &mut before);
+                Next::Frame(Captured { link, bytes, original }, length) => {
+                    self.take::<WIDE>(frame_of(link, bytes, original), &mut before);
                     at += length;
                 }
                 Next::Other(length) => at += length,
@@ -88,16 +88,27 @@ impl<R: Read, S: Shows> Running<'_, R, S> {
                     self.notes.tell(&format!("frame {number}: 55 FrameCut {}", feed.letter()));
                 }
             }
-            Frame::HeadersCut if !self.has_told_cut => {
-                self.has_told_cut = true;
-                self.notes.tell(&format!("frame {number}: 55 FrameCut -"));
+            Frame::Broken(address) => {
+                if let Some(feed) = self.addresses.feed_at(address) {
+                    self.notes.tell(&format!("frame {number}: 57 FrameBroken {}", feed.letter()));
+                }
             }
+            Frame::CutBeforeGroup => self.tell_cut_headers(),
+            Frame::CutBeforePort(group) if self.addresses.feeds_of_group(group).0.is_some() => self.tell_cut_headers(),
             Frame::Fragment(group) => match self.addresses.feeds_of_group(group) {
                 (None, _) => {}
                 (_, true) => self.notes.tell(&format!("frame {number}: 56 Fragment -")),
                 (Some(feed), false) => self.notes.tell(&format!("frame {number}: 56 Fragment {}", feed.letter())),
             },
             _ => {}
+        }
+    }
+
+    /// Tells once that of a frame, which may be a feed's, the group or the port was cut away.
+    fn tell_cut_headers(&mut self) {
+        if !self.has_told_cut {
+            self.has_told_cut = true;
+            self.notes.tell(&format!("frame {}: 55 FrameCut -", self.finder.frames()));
         }
     }
 }

@@ -8,7 +8,7 @@ const FILE_HEADER: usize = 24;
 /// The length of a classic record's header.
 const RECORD_HEADER: usize = 16;
 
-/// The most captured bytes that a classic record may have.
+/// The most captured bytes that a frame may have.
 const MOST_CAPTURED: usize = 262_144;
 
 /// The longest block.
@@ -16,6 +16,9 @@ const MOST_BLOCK: usize = 16 << 20;
 
 /// The least block: its type, and its length twice.
 const LEAST_BLOCK: usize = 12;
+
+/// The least block that begins a section.
+const LEAST_SECTION: usize = 28;
 
 /// The type of a block that begins a section; it is the same in both orders of bytes.
 const SECTION: u32 = 0x0a0d_0d0a;
@@ -100,14 +103,22 @@ struct Interface {
 /// How a file goes on, as its beginning says.
 #[derive(Clone, PartialEq, Eq, Debug)]
 enum Form {
-    Classic(Order, Link),
+    Classic(Order, Option<Link>),
     Blocks(Order, Vec<Interface>),
+}
+
+/// A frame as it was captured.
+pub struct Captured<'a> {
+    pub link: Link,
+    pub bytes: &'a [u8],
+    /// How many bytes it had when it was sent.
+    pub original: usize,
 }
 
 /// What stands next in a file.
 pub enum Next<'a> {
     /// A frame, and how long it is with what belongs to it.
-    Frame(Link, &'a [u8], usize),
+    Frame(Captured<'a>, usize),
     /// Something else of a length.
     Other(usize),
     /// Not all of it is there.
@@ -134,7 +145,7 @@ impl FrameFinder {
     pub fn next<'a>(&mut self, bytes: &'a [u8]) -> Result<Next<'a>, PcapFault> {
         match &self.form {
             Some(Form::Classic(order, link)) => {
-                let next = record(*order, *link, bytes).ok_or(PcapFault::RecordSize(self.frames + 1))?;
+                let next = record(*order, *link, bytes).map_err(|why| why.at(self.frames + 1))?;
                 self.frames += u64::from(matches!(next, Next::Frame(..)));
                 Ok(next)
             }
@@ -160,17 +171,47 @@ impl FrameFinder {
             Some([0xd4, 0xc3, 0xb2, 0xa1] | [0x4d, 0x3c, 0xb2, 0xa1]) => Order::Little,
             Some([0xa1, 0xb2, 0xc3, 0xd4] | [0xa1, 0xb2, 0x3c, 0x4d]) => Order::Big,
             Some([0x0a, 0x0d, 0x0d, 0x0a]) => {
-                self.form = Some(Form::Blocks(Order::Little, Vec::new()));
-                return Ok(Next::Other(0));
+                if bytes.len() < LEAST_BLOCK {
+                    return Ok(Next::More);
+                }
+                section_order(bytes).ok_or(PcapFault::NotPcap)?;
+                let next = self.section(bytes)?.ok_or(PcapFault::NotPcap)?;
+                return Ok(next);
             }
             Some(_) => return Err(PcapFault::NotPcap),
         };
         if bytes.len() < FILE_HEADER {
             return Ok(Next::More);
         }
-        let link = Link::of_number(order.number(bytes, 20) & 0xffff).ok_or(PcapFault::LinkType(1))?;
-        self.form = Some(Form::Classic(order, link));
+        if (order.short(bytes, 4), order.short(bytes, 6)) != (2, 4) {
+            return Err(PcapFault::NotPcap);
+        }
+        self.form = Some(Form::Classic(order, Link::of_number(order.number(bytes, 20) & 0xffff)));
         Ok(Next::Other(FILE_HEADER))
+    }
+
+    /// Reads the block that begins a section; none where it is of another version, or of unknown order.
+    #[cold]
+    fn section<'a>(&mut self, bytes: &'a [u8]) -> Result<Option<Next<'a>>, PcapFault> {
+        let fault = PcapFault::RecordSize(self.frames + 1);
+        if bytes.len() < LEAST_BLOCK {
+            return Ok(Some(Next::More));
+        }
+        let Some(order) = section_order(bytes) else {
+            return Ok(None);
+        };
+        let length = block_length(order, bytes).ok_or(fault)?;
+        let Some(block) = bytes.get(..length) else {
+            return Ok(Some(Next::More));
+        };
+        if length < LEAST_SECTION || order.number(block, length - 4) as usize != length {
+            return Err(fault);
+        }
+        if order.short(block, 12) != 1 {
+            return Ok(None);
+        }
+        self.form = Some(Form::Blocks(order, Vec::new()));
+        Ok(Some(Next::Other(length)))
     }
 
     /// Reads a block of a pcapng file.
@@ -179,21 +220,13 @@ impl FrameFinder {
         let Some(Form::Blocks(order, interfaces)) = &mut self.form else {
             return Ok(Next::More);
         };
-        let Some(head) = bytes.get(..LEAST_BLOCK) else {
+        let Some(head) = bytes.get(..8) else {
             return Ok(Next::More);
         };
         if order.number(head, 0) == SECTION {
-            *order = match head[8..12] {
-                [0x4d, 0x3c, 0x2b, 0x1a] => Order::Little,
-                [0x1a, 0x2b, 0x3c, 0x4d] => Order::Big,
-                _ => return Err(fault),
-            };
-            interfaces.clear();
+            return self.section(bytes)?.ok_or(fault);
         }
-        let length = order.number(head, 4) as usize;
-        if !(LEAST_BLOCK..=MOST_BLOCK).contains(&length) || !length.is_multiple_of(4) {
-            return Err(fault);
-        }
+        let length = block_length(*order, head).ok_or(fault)?;
         let Some(block) = bytes.get(..length) else {
             return Ok(Next::More);
         };
@@ -201,7 +234,7 @@ impl FrameFinder {
             return Err(fault);
         }
         let body = &block[8..length - 4];
-        let (interface, frame) = match order.number(head, 0) {
+        let (interface, bytes, original) = match order.number(head, 0) {
             INTERFACE => {
                 interfaces.push(interface(*order, body).ok_or(fault)?);
                 return Ok(Next::Other(length));
@@ -212,22 +245,58 @@ impl FrameFinder {
         };
         let link = interface.link.ok_or(PcapFault::LinkType(self.frames + 1))?;
         self.frames += 1;
-        Ok(Next::Frame(link, frame, length))
+        Ok(Next::Frame(Captured { link, bytes, original }, length))
     }
 }
 
-/// Finds the classic record at the front of the bytes; none where it is too long.
+/// Gives the order of the bytes of a section, by the mark after its type and length.
+fn section_order(bytes: &[u8]) -> Option<Order> {
+    match bytes[8..12] {
+        [0x4d, 0x3c, 0x2b, 0x1a] => Some(Order::Little),
+        [0x1a, 0x2b, 0x3c, 0x4d] => Some(Order::Big),
+        _ => None,
+    }
+}
+
+/// Gives the length of a block, if it is a lawful one.
+fn block_length(order: Order, head: &[u8]) -> Option<usize> {
+    let length = order.number(head, 4) as usize;
+    let is_lawful = (LEAST_BLOCK..=MOST_BLOCK).contains(&length) && length.is_multiple_of(4);
+    is_lawful.then_some(length)
+}
+
+/// Why a classic record is no frame.
+enum NoRecord {
+    Size,
+    Link,
+}
+
+impl NoRecord {
+    #[cold]
+    fn at(self, frame: u64) -> PcapFault {
+        match self {
+            NoRecord::Size => PcapFault::RecordSize(frame),
+            NoRecord::Link => PcapFault::LinkType(frame),
+        }
+    }
+}
+
+/// Finds the classic record at the front of the bytes.
 #[inline(always)]
-fn record(order: Order, link: Link, bytes: &[u8]) -> Option<Next<'_>> {
+fn record(order: Order, link: Option<Link>, bytes: &[u8]) -> Result<Next<'_>, NoRecord> {
     let Some(header) = bytes.get(..RECORD_HEADER) else {
-        return Some(Next::More);
+        return Ok(Next::More);
     };
     let captured = order.number(header, 8) as usize;
     if captured > MOST_CAPTURED {
-        return None;
+        return Err(NoRecord::Size);
     }
     let length = RECORD_HEADER + captured;
-    Some(bytes.get(RECORD_HEADER..length).map_or(Next::More, |frame| Next::Frame(link, frame, length)))
+    let Some(bytes) = bytes.get(RECORD_HEADER..length) else {
+        return Ok(Next::More);
+    };
+    let link = link.ok_or(NoRecord::Link)?;
+    Ok(Next::Frame(Captured { link, bytes, original: order.number(header, 12) as usize }, length))
 }
 
 /// Reads the body of an interface's block.
@@ -236,17 +305,26 @@ fn interface(order: Order, body: &[u8]) -> Option<Interface> {
     Some(Interface { link: Link::of_number(order.short(body, 0)), most: order.number(body, 4) as usize })
 }
 
+/// An interface, the captured bytes of a frame, and how many it had.
+type Packet<'a> = (Interface, &'a [u8], usize);
+
 /// Reads the body of an enhanced packet's block.
-fn enhanced<'a>(order: Order, body: &'a [u8], interfaces: &[Interface]) -> Option<(Interface, &'a [u8])> {
+fn enhanced<'a>(order: Order, body: &'a [u8], interfaces: &[Interface]) -> Option<Packet<'a>> {
     let (head, rest) = body.split_at_checked(20)?;
     let interface = *interfaces.get(order.number(head, 0) as usize)?;
-    Some((interface, rest.get(..order.number(head, 12) as usize)?))
+    captured(rest, order.number(head, 12) as usize).map(|bytes| (interface, bytes, order.number(head, 16) as usize))
 }
 
 /// Reads the body of a simple packet's block, whose frame is cut to what the first interface takes.
-fn simple<'a>(order: Order, body: &'a [u8], interfaces: &[Interface]) -> Option<(Interface, &'a [u8])> {
+fn simple<'a>(order: Order, body: &'a [u8], interfaces: &[Interface]) -> Option<Packet<'a>> {
     let (head, rest) = body.split_at_checked(4)?;
     let interface = *interfaces.first()?;
     let most = if interface.most == 0 { usize::MAX } else { interface.most };
-    Some((interface, rest.get(..most.min(order.number(head, 0) as usize))?))
+    let original = order.number(head, 0) as usize;
+    captured(rest, most.min(original)).map(|bytes| (interface, bytes, original))
+}
+
+/// Gives the captured bytes of a frame; none where there are too many, or fewer than are said.
+fn captured(rest: &[u8], count: usize) -> Option<&[u8]> {
+    rest.get(..count).filter(|bytes| bytes.len() <= MOST_CAPTURED)
 }

@@ -60,7 +60,8 @@ fn frame(address: ([u8; 4], u16), payload: &[u8], tags: &[u16]) -> Vec<u8> {
 
 /// Makes a pcap file, by the bytes of its numbers.
 fn pcap(frames: &[Vec<u8>], bytes_of: fn(u32) -> [u8; 4]) -> Vec<u8> {
-    let mut file: Vec<u8> = [0xa1b2_c3d4, 2 | 4 << 16, 0, 0, 65_535, 1].into_iter().flat_map(bytes_of).collect();
+    let version = if bytes_of(1)[0] == 1 { 2 | 4 << 16 } else { 4 | 2 << 16 };
+    let mut file: Vec<u8> = [0xa1b2_c3d4, version, 0, 0, 65_535, 1].into_iter().flat_map(bytes_of).collect();
     for frame in frames {
         let length = frame.len() as u32;
         file.extend([1, 2, length, length].into_iter().flat_map(bytes_of));
@@ -79,11 +80,11 @@ fn pcapng(frames: &[Vec<u8>]) -> Vec<u8> {
         block.extend(bytes_of(12 + padded as u32));
         block
     };
-    let section = |bytes_of: fn(u32) -> [u8; 4]| {
-        block(0x0a0d_0d0a, bytes_of, &[bytes_of(0x1a2b_3c4d), [0; 4], [255; 4], [255; 4]].concat())
+    let section = |bytes_of: fn(u32) -> [u8; 4], version: [u8; 4]| {
+        block(0x0a0d_0d0a, bytes_of, &[bytes_of(0x1a2b_3c4d), version, [255; 4], [255; 4]].concat())
     };
     let (first, second) = frames.split_at(frames.len() / 2);
-    let mut file = section(u32::to_le_bytes);
+    let mut file = section(u32::to_le_bytes, [1, 0, 0, 0]);
     file.extend(block(1, u32::to_le_bytes, &[147, 0, 0, 0, 0, 0, 0, 0]));
     file.extend(block(1, u32::to_le_bytes, &[1, 0, 0, 0, 0, 0, 4, 0]));
     for frame in first {
@@ -91,7 +92,7 @@ fn pcapng(frames: &[Vec<u8>]) -> Vec<u8> {
         file.extend(block(6, u32::to_le_bytes, &[numbers.as_flattened(), frame].concat()));
         file.extend(block(77, u32::to_le_bytes, b"not known"));
     }
-    file.extend(section(u32::to_be_bytes));
+    file.extend(section(u32::to_be_bytes, [0, 1, 0, 0]));
     file.extend(block(1, u32::to_be_bytes, &[0, 1, 0, 0, 0, 0, 0, 0]));
     for frame in second {
         let length = (frame.len() as u32).to_be_bytes();
@@ -172,6 +173,13 @@ fn other_files_and_other_links_are_refused() {
     let mut link = pcap(&frames(), u32::to_le_bytes);
     link[20] = 147;
     assert_eq!(run(&link, 1 << 20).1, Err(PcapFault::LinkType(1)));
+    assert_eq!(run(&link[..24], 1 << 20).1, Ok(()));
+    let mut version = pcap(&frames(), u32::to_le_bytes);
+    version[4] = 3;
+    assert_eq!(run(&version, 1 << 20).1, Err(PcapFault::NotPcap));
+    let mut section = pcapng(&frames());
+    section[12] = 2;
+    assert_eq!(run(&section, 1 << 20).1, Err(PcapFault::NotPcap));
     assert_eq!(run(b"I 1 NEAR O\nA 00\n and more of the same", 1 << 20).1, Err(PcapFault::NotPcap));
     let mut long = pcap(&frames()[..2], u32::to_le_bytes);
     long[24 + 8..24 + 12].copy_from_slice(&262_145u32.to_le_bytes());
