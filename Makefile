@@ -1,5 +1,5 @@
 # make try            runs the program on an example, with no proof
-# make run            proves and builds the program, and runs it on an example
+# make run            proves and builds the program, and runs it on a capture and a recording
 # make install        puts the built program, its manual page and the library, where it is built, below DESTDIR and PREFIX
 # make library        proves and builds the library for C in build/: archives, shared library, header
 # make library-test   builds and runs its callers in C, C++, Rust and Python
@@ -24,6 +24,7 @@ try:
 
 run: build
 	@$(program) < examples/plain.capture
+	@$(program) --channel examples/multicast.channel < examples/multicast.pcap
 
 build:
 	@tools/prove.py

@@ -50,7 +50,8 @@ def prove(crates, jobs, begin):
     """Proves all crates, and returns whether all are proved."""
     command = subprocess.Popen(["rt", "all", "check", "--jobs", str(jobs)], stdin=subprocess.DEVNULL,
                                stdout=subprocess.PIPE, stderr=subprocess.STDOUT, text=True, errors="replace")
-    done, block, blocks = 0, [], []
+    # What rt prints of libraries before the first crate is done, the lines of a crate, and those of all crates.
+    done, early, block, blocks = 0, [], [], []
     ended = threading.Event()
 
     def tell_each_minute():
@@ -67,13 +68,13 @@ def prove(crates, jobs, begin):
             done += 1
             word = "proved" if line.startswith("logic=proved") else "NOT PROVED"
             tell(f"{done} of {crates}, {minutes_since(begin)}: {block[0][3:].strip()} {word}")
-        if blocks:
-            block.append(line)
-        else:
+        if "waiting for" in line:
             tell(line.rstrip())
+        (block if blocks else early).append(line)
     status = command.wait()
     ended.set()
     if status:
+        tell("".join(early).rstrip())
         for block in blocks:
             if not any(line.startswith("logic=proved") for line in block):
                 tell("".join(block).rstrip())
