@@ -29,7 +29,8 @@ struct Counts {
     bytes: u64,
 }
 
-// Counts what became of a datagram: whether it was the first copy of its packet, and whether recovery went on elsewhere.
+// Counts what became of a datagram: whether it was the first copy of its packet, and whether recovery went on at
+// another number.
 fn count_told(counts: Counts, taken: Taken, moved: Moved) -> Counts {
     let is_first = taken == Taken::Packet(PacketFate::First);
     Counts {
