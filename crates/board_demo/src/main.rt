@@ -258,7 +258,7 @@ fn run_watched<'s, E, R: Threads + Wait + Sync>(
     Ok((first?, second?))
 }
 
-/// Tells the window that the words ask for.
+/// Returns the window that the words ask for.
 fn window_asked(words: env::Args) -> u32
     ensures { (1 ≤ result) × (result ≤ 65536) }
 {

@@ -12,7 +12,7 @@ use std::alloc::{AllocError, Global};
 use std::io;
 use std::io::{BufRead, BufReader};
 
-// Tells what a fault says.
+// Returns what a fault says.
 fn fault_text(alloc: Global, fault: Fault) -> Result<String, AllocError> {
     match fault {
         Fault::Refused(refusal) => {
@@ -24,7 +24,7 @@ fn fault_text(alloc: Global, fault: Fault) -> Result<String, AllocError> {
     }
 }
 
-// Tells what a datagram of an incremental feed says, read by itself.
+// Returns what a datagram of an incremental feed says, read by itself.
 fn packet_answer(alloc: Global, bytes: &[u8]) -> Result<String, AllocError> {
     match read_packet(alloc, bytes) {
         Ok(packet) => packet_text(alloc, &packet),
@@ -32,7 +32,7 @@ fn packet_answer(alloc: Global, bytes: &[u8]) -> Result<String, AllocError> {
     }
 }
 
-// Tells what a datagram of an incremental feed says, read into the room of the packets before.
+// Returns what a datagram of an incremental feed says, read into the room of the packets before.
 fn kept_answer(
     alloc: Global,
     bytes: &[u8],
@@ -44,7 +44,7 @@ fn kept_answer(
     }
 }
 
-// Tells what a datagram of the snapshot feed says.
+// Returns what a datagram of the snapshot feed says.
 fn snapshots_answer(alloc: Global, bytes: &[u8]) -> Result<String, AllocError> {
     match read_snapshots(alloc, bytes) {
         Ok(snapshots) => snapshots_text(alloc, &snapshots),
@@ -52,7 +52,7 @@ fn snapshots_answer(alloc: Global, bytes: &[u8]) -> Result<String, AllocError> {
     }
 }
 
-// Tells what a datagram of a feed says. A packet is read twice, and both answers have to be the same.
+// Returns what a datagram of a feed says. A packet is read twice, and both answers have to be the same.
 fn answer(
     alloc: Global,
     feed: &str,

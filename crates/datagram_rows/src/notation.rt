@@ -3,7 +3,7 @@
 use mdp_templates::{Action, Entry, Kind, Level, Message, Packet, Snapshot};
 use std::alloc::{AllocError, Global};
 
-// Tells the word of a side.
+// Returns the word of a side.
 fn kind_word(kind: Kind) -> &'static str {
     match kind {
         Kind::Bid => "bid",

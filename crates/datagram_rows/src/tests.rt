@@ -110,7 +110,7 @@ fn read_into_none(heap: &Refusing<Global>) -> Result<Packet<&Refusing<Global>>, 
     Ok(room)
 }
 
-// Tells whether a packet is that of the datagram.
+// Returns whether a packet is that of the datagram.
 fn is_the_packet(packet: &Packet<&Refusing<Global>>) -> bool {
     if packet.len() != 1 {
         return false;

@@ -1,4 +1,4 @@
-//! Tells on standard error what the queues and the board of mdp_lanes cost, in nanoseconds, the least of five turns.
+//! Returns on standard error what the queues and the board of mdp_lanes cost, in nanoseconds, the least of five turns.
 //! The first argument is how many messages, reads or events a turn has, 10,000 where none is given.
 #![tactic(auto)]
 

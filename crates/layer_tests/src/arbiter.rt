@@ -313,7 +313,7 @@ fn three() -> Result<[Instrument; 3], Fail>
     Ok(listed)
 }
 
-/// Tells the first place without a fresh snapshot, by a walk over all.
+/// Returns the first place without a fresh snapshot, by a walk over all.
 fn first_by_walk(newest: &[Option<Snapshot>], top: u64, room: u64) -> Option<usize> {
     for slot in 0..newest.len() {
         let fresh = match &newest[slot] {

@@ -90,7 +90,7 @@ fn each_want_of_memory_is_answered(rt: HostRuntime) -> Result<(), Fail> {
     Ok(())
 }
 
-/// Tells what became of a record's datagram, and where the channel stands after it.
+/// Returns what became of a record's datagram, and where the channel stands after it.
 fn one<A: Allocator + Copy>(
     alloc: A,
     handler: &mut Handler<A>,
@@ -242,7 +242,7 @@ fn fill_with_one_message(text: &mut [u8], number: u8) {
     }
 }
 
-/// Pushes packets of these lengths, numbered from 1, and tells how many of them pass.
+/// Pushes packets of these lengths, numbered from 1, and returns how many of them pass.
 fn pass_all<A: Allocator + Copy>(
     alloc: A,
     handler: &mut Handler<A>,
@@ -290,7 +290,7 @@ fn jump(old: u64, new: u64) -> Option<Jump> {
     Some(Jump { old, new })
 }
 
-/// Tells what a packet of this number moves, which says nothing of any book.
+/// Returns what a packet of this number moves, which says nothing of any book.
 fn packet_moves<A: Allocator + Copy>(
     alloc: A,
     handler: &mut Handler<A>,
@@ -324,8 +324,8 @@ fn byte_of_snapshots(place: usize, lasts: &[u8]) -> u8 {
     }
 }
 
-/// Tells what a datagram moves with an empty snapshot of each of three securities, in listed order, which include these
-/// packets last.
+/// Returns what a datagram moves with an empty snapshot of each of three securities, in listed order, which include
+/// these packets last.
 fn snapshots_move<A: Allocator + Copy>(
     alloc: A,
     handler: &mut Handler<A>,

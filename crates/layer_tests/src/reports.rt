@@ -1,5 +1,5 @@
 //! Workers and a collector in one thread: the text and the board's steps of known captures, whatever the number of workers and wherever
-//! the turns are cut into batches, and each allocation refused in turn.
+//! the moves are cut into batches, and each allocation refused in turn.
 
 mod channel;
 mod expected;
@@ -11,7 +11,7 @@ use crate::reports::channel::{
     Came, FAULTY, FAULTY_TEXT, PLAIN, PLAIN_TEXT, RECOVERED, RECOVERED_TEXT, events_of, listed,
 };
 use crate::reports::expected::{FAULTY_STEPS, PLAIN_STEPS, RECOVERED_STEPS};
-use mdp_arbiter::{Arbiter, Start, Step, Turn};
+use mdp_arbiter::{Arbiter, OwnedMove, Start, Step};
 use mdp_engine::{replay, take_in};
 use mdp_reports::{Answer, BoardSteps, Collector, Posting, Reports, Room, Worker};
 use mdp_templates::{Instrument, Memory, Snapshot};
@@ -37,42 +37,42 @@ fn workers_of<A: Allocator + Copy>(
     Ok(workers)
 }
 
-/// Appends a worker's reports of these turns.
+/// Appends a worker's reports of these moves.
 fn report_all<A: Allocator + Copy>(
     alloc: A,
     worker: &mut Worker<A>,
-    turns: &[Turn<A>],
+    moves: &[OwnedMove<A>],
     out: &mut Reports<A>,
 ) -> Result<(), Memory> {
-    for turn in turns {
-        worker.report_turn(turn, out)?;
+    for one in moves {
+        worker.report_move(one, out)?;
     }
     Ok(())
 }
 
-/// The answers of the workers, one after another, to a batch of turns.
+/// The answers of the workers, one after another, to a batch of moves.
 fn answers_of<A: Allocator + Copy>(
     alloc: A,
     workers: &mut [Worker<A>],
-    turns: &[Turn<A>],
+    moves: &[OwnedMove<A>],
 ) -> Result<Vec<Answer<A>, A>, Memory> {
     let mut answers = Vec::new(alloc);
     for n in 0..workers.len() {
         let mut reports = Reports::with_room(alloc, Room::none())?;
-        report_all(alloc, &mut workers[n], turns, &mut reports)?;
+        report_all(alloc, &mut workers[n], moves, &mut reports)?;
         answers.push(Answer::Tells(reports))?;
     }
     Ok(answers)
 }
 
-/// The turn of a step, where a jump took these snapshots.
-fn turn_of<A: Allocator + Copy>(
+/// The move of a step, where a jump took these snapshots.
+fn move_of<A: Allocator + Copy>(
     alloc: A,
     step: Step<A>,
     newest: &[Option<Snapshot>],
-) -> Result<Turn<A>, Memory> {
+) -> Result<OwnedMove<A>, Memory> {
     let (old, new) = match step {
-        Step::Pass(packet) => return Ok(Turn::Passed(packet)),
+        Step::Pass(packet) => return Ok(OwnedMove::Passed(packet)),
         Step::Jump { old, new } => (old, new),
     };
     let mut snapshots = Vec::new(alloc);
@@ -82,54 +82,54 @@ fn turn_of<A: Allocator + Copy>(
             None => {}
         }
     }
-    Ok(Turn::Jumped {
+    Ok(OwnedMove::Jumped {
         old,
         new,
         snapshots,
     })
 }
 
-/// The turns of what came. No event makes more than eight.
-fn turns_of<A: Allocator + Copy>(
+/// The moves of what came. No event makes more than eight.
+fn moves_of<A: Allocator + Copy>(
     alloc: A,
     listed: &[Instrument],
     came: &[Came],
-) -> Result<Vec<Turn<A>, A>, Memory>
+) -> Result<Vec<OwnedMove<A>, A>, Memory>
     requires { AreFit listed.now }
 {
     let mut arbiter = Arbiter::new(alloc, listed, MapWindow::new(alloc, 4), Start::FromOne)?;
-    let mut turns = Vec::new(alloc);
+    let mut moves = Vec::new(alloc);
     for event in events_of(alloc, came)? {
         take_in(&mut arbiter, event)?;
         for _ in 0..8u8 {
             let Some(step) = arbiter.step() else {
                 break;
             };
-            turns.push(turn_of(alloc, step, arbiter.newest())?)?;
+            moves.push(move_of(alloc, step, arbiter.newest())?)?;
         }
     }
-    Ok(turns)
+    Ok(moves)
 }
 
-/// Appends the text and the steps that the collector makes of the workers' answers to a batch of turns.
+/// Appends the text and the steps that the collector makes of the workers' answers to a batch of moves.
 fn collect<A: Allocator + Copy>(
     alloc: A,
     workers: &mut [Worker<A>],
-    turns: &[Turn<A>],
+    moves: &[OwnedMove<A>],
     collector: &mut Collector<A>,
     text: &mut Vec<u8, A>,
     steps: &mut BoardSteps<A>,
 ) -> Result<(), Memory> {
-    let answers = answers_of(alloc, workers, turns)?;
+    let answers = answers_of(alloc, workers, moves)?;
     collector.take(alloc, &answers, text, steps)?;
     Ok(())
 }
 
-/// The text and the steps that so many workers and a collector make of turns, which are cut into two batches.
+/// The text and the steps that so many workers and a collector make of moves, which are cut into two batches.
 fn run_of<A: Allocator + Copy>(
     alloc: A,
     listed: &[Instrument],
-    turns: &[Turn<A>],
+    moves: &[OwnedMove<A>],
     count: u16,
     cut: usize,
 ) -> Result<(Vec<u8, A>, BoardSteps<A>), Memory>
@@ -140,7 +140,7 @@ fn run_of<A: Allocator + Copy>(
     let mut collector = Collector::new(alloc, listed)?;
     let mut text = Vec::new(alloc);
     let mut steps = BoardSteps::new(alloc);
-    let (first, second) = turns.split_at(turns.len().min(cut));
+    let (first, second) = moves.split_at(moves.len().min(cut));
     collect(
         alloc,
         &mut workers,
@@ -173,7 +173,7 @@ fn are_steps<A: Allocator + Copy>(
     assert!(rt; steps.at(expected.len()).is_none());
 }
 
-/// So many workers give the text and the steps, wherever the turns are cut.
+/// So many workers give the text and the steps, wherever the moves are cut.
 fn workers_print(
     rt: &impl Abort,
     alloc: Global,
@@ -186,9 +186,9 @@ fn workers_print(
     requires fit { AreFit listed.now }
     requires some { 0 < count }
 {
-    let turns = turns_of(alloc, listed, came)?;
+    let moves = moves_of(alloc, listed, came)?;
     for cut in 0..6usize {
-        let (made, made_steps) = run_of(alloc, listed, &turns, count, cut)?;
+        let (made, made_steps) = run_of(alloc, listed, &moves, count, cut)?;
         assert_eq!(rt; made.as_slice(), text);
         are_steps(rt, &made_steps, steps);
     }
@@ -236,8 +236,8 @@ fn any_number_of_workers_prints_what_the_engine_prints(rt: HostRuntime) -> Resul
 fn two_print(rt: &impl Abort, heap: &Refusing<Global>, listed: &[Instrument]) -> Result<(), Memory>
     requires { AreFit listed.now }
 {
-    let turns = turns_of(heap, listed, &RECOVERED)?;
-    let (text, steps) = run_of(heap, listed, &turns, 2, 2)?;
+    let moves = moves_of(heap, listed, &RECOVERED)?;
+    let (text, steps) = run_of(heap, listed, &moves, 2, 2)?;
     assert_eq!(rt; text.as_slice(), RECOVERED_TEXT);
     are_steps(rt, &steps, &RECOVERED_STEPS);
     Ok(())

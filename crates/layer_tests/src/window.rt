@@ -62,7 +62,8 @@ fn answer_to<W: Window<Packet<Global>>>(alloc: Global, window: &mut W, call: Cal
     }
 }
 
-/// Makes the first calls of the table, each with its answer, and tells where the window then begins and what it holds.
+/// Makes the first calls of the table, each with its answer, and returns where the window then begins, and what it
+/// holds.
 fn follow<W: Window<Packet<Global>>>(
     rt: &impl Abort,
     alloc: Global,

@@ -8,6 +8,6 @@ pub mod Snapshots
 pub mod Moves
 pub mod Standing
 pub mod Bases
-pub mod Turns
+pub mod OwnedMoves
 pub mod Fates
 pub mod Fronts

@@ -122,7 +122,7 @@ impl<A: Allocator + Copy, W: Window<Packet<A>> + Drop> Arbiter<A, W> {
         })
     }
 
-    /// Tells the number of the packet that passes next, from 1 to 4294967296.
+    /// Returns the number of the packet that passes next, from 1 to 4294967296.
     pub fn next(&self) -> u64
         ensures next { result ≡ self.now.next }
         ensures least { 1 ≤ result }
@@ -131,7 +131,7 @@ impl<A: Allocator + Copy, W: Window<Packet<A>> + Drop> Arbiter<A, W> {
         self.next
     }
 
-    /// Tells whether the receiver is lost: it has not joined the channel, or a packet came that is so far ahead that
+    /// Returns whether the receiver is lost: it has not joined the channel, or a packet came that is so far ahead that
     /// the next one is given up.
     pub fn lost(&self) -> bool
         ensures now { result ≡ is_lost_now self.now }
@@ -149,7 +149,7 @@ impl<A: Allocator + Copy, W: Window<Packet<A>> + Drop> Arbiter<A, W> {
         self.bases[slot].among(&self.newest[slot])
     }
 
-    /// Tells the least of the numbers of the packets that the snapshots of the latest jump include last, from 0 to
+    /// Returns the least of the numbers of the packets that the snapshots of the latest jump include last, from 0 to
     /// 4294967295: the jump went on at the number after it. None where there was no jump. It looks at each listed
     /// security.
     pub fn least_base(&self) -> Option<u32>
@@ -166,7 +166,7 @@ impl<A: Allocator + Copy, W: Window<Packet<A>> + Drop> Arbiter<A, W> {
         &self.newest
     }
 
-    /// Tells how many numbers after the next one a packet gives that one up, from 1 to 65536: the window's room.
+    /// Returns how many numbers after the next one a packet gives that one up, from 1 to 65536: the window's room.
     pub fn room(&self) -> u64
         ensures room { result ≡ self.now.channel.room }
         ensures least { 1 ≤ result }
@@ -175,14 +175,14 @@ impl<A: Allocator + Copy, W: Window<Packet<A>> + Drop> Arbiter<A, W> {
         self.room
     }
 
-    /// Tells the highest number of a packet that came, or the one before the next, if that is greater.
+    /// Returns the highest number of a packet that came, or the one before the next, if that is greater.
     pub fn highest(&self) -> u64
         ensures { result ≡ self.now.top }
     {
         self.top
     }
 
-    /// Tells what becomes of a packet of this number, if it comes now.
+    /// Returns what becomes of a packet of this number, if it comes now.
     pub fn fate_of(&self, number: u32) -> PacketFate
         ensures now { result ≡ fate_of self.now number }
         ensures stands { (es : List Event) → StandsAt es self.now
@@ -204,7 +204,7 @@ impl<A: Allocator + Copy, W: Window<Packet<A>> + Drop> Arbiter<A, W> {
         PacketFate::First
     }
 
-    /// Tells what becomes of a snapshot, if it comes now.
+    /// Returns what becomes of a snapshot, if it comes now.
     pub fn fate_of_snapshot(&self, snapshot: &Snapshot) -> SnapshotFate
         ensures now { result ≡ fate_of_snapshot self.now snapshot.now }
         ensures stands { (es : List Event) → StandsAt es self.now
@@ -213,7 +213,7 @@ impl<A: Allocator + Copy, W: Window<Packet<A>> + Drop> Arbiter<A, W> {
         self.see_fate(snapshot)
     }
 
-    /// Tells how many packets wait for one before them.
+    /// Returns how many packets wait for one before them.
     pub fn waiting(&self) -> u64
         ensures { result ≡ waiting self.now }
     {
@@ -223,7 +223,8 @@ impl<A: Allocator + Copy, W: Window<Packet<A>> + Drop> Arbiter<A, W> {
         }
     }
 
-    /// Tells the first listed place, from 0, whose newest snapshot is missing, or leaves out a packet that is given up.
+    /// Returns the first listed place, from 0, whose newest snapshot is missing, or leaves out a packet that is given
+    /// up.
     pub fn first_stale(&self) -> Option<usize>
         ensures { result ≡ first_stale self.now.channel.room self.now.top self.now.newest }
     {
@@ -254,7 +255,7 @@ impl<A: Allocator + Copy, W: Window<Packet<A>> + Drop> Arbiter<A, W> {
 
     /// Lets a packet pass at once where nothing stands in its way: it is the one that passes next, and none came with
     /// its number or a later one. That is what [`packet`](Arbiter::packet) and [`step`](Arbiter::step) would do,
-    /// without a stay in the window, and no further step is possible then. Tells whether it passed; where not, all is
+    /// without a stay in the window, and no further step is possible then. Returns whether it passed; where not, all is
     /// as before.
     pub fn pass_at_once(&mut self, packet: &Packet<A>) -> bool
         ensures tells { result ≡ passes_at_once packet.now.number self.old }
@@ -283,7 +284,7 @@ impl<A: Allocator + Copy, W: Window<Packet<A>> + Drop> Arbiter<A, W> {
     }
 
     /// Takes in a snapshot that is lent, as [`snapshot`](Arbiter::snapshot) does, and copies it only where it takes its
-    /// place; tells whether it does. Where not, all is as it was.
+    /// place; returns whether it does. Where not, all is as it was.
     pub fn snapshot_from(&mut self, snapshot: &Snapshot) -> bool
         ensures renews { Renews snapshot.now self.old self.new
             (if result then None else Some snapshot.now) }
@@ -311,7 +312,7 @@ impl<A: Allocator + Copy, W: Window<Packet<A>> + Drop> Arbiter<A, W> {
         self.take_step()
     }
 
-    // Tells what becomes of a snapshot, by what is held.
+    // Returns what becomes of a snapshot, by what is held.
     fn see_fate(&self, snapshot: &Snapshot) -> SnapshotFate
         ensures { result ≡ fate_of_snapshot self.now snapshot.now }
     {
@@ -327,7 +328,7 @@ impl<A: Allocator + Copy, W: Window<Packet<A>> + Drop> Arbiter<A, W> {
         SnapshotFate::Older
     }
 
-    // Tells the least number of which packets are held: lower ones have passed or are given up.
+    // Returns the least number of which packets are held: lower ones have passed or are given up.
     fn least_held(&self) -> u64
         ensures { result ≡ least_held self.now }
     {
@@ -353,7 +354,7 @@ impl<A: Allocator + Copy, W: Window<Packet<A>> + Drop> Arbiter<A, W> {
         count
     }
 
-    // Tells whether a packet of this number passes at once.
+    // Returns whether a packet of this number passes at once.
     fn is_free(&self, number: u32) -> bool
         ensures { result ≡ passes_at_once number self.now }
     {
@@ -387,7 +388,7 @@ impl<A: Allocator + Copy, W: Window<Packet<A>> + Drop> Arbiter<A, W> {
         answer
     }
 
-    // Tells the listed place whose newest snapshot gives way to this one, where there is one and the channel is open.
+    // Returns the listed place whose newest snapshot gives way to this one, where there is one and the channel is open.
     fn place_of_news(&self, snapshot: &Snapshot) -> Option<usize>
         ensures some { IfSome result (λ slot. IsNewsAt slot snapshot.now self.now) }
         ensures none { IfNone result (IsNotTaken snapshot.now self.now) }

@@ -62,7 +62,7 @@ pub(crate) fn take_newest(bases: &mut [Base])
     }
 }
 
-// Tells the lesser of the number so far and that of a security's snapshot, where the latest jump took one.
+// Returns the lesser of the number so far and that of a security's snapshot, where the latest jump took one.
 fn lesser_with(least: Option<u32>, newest: &Option<Snapshot>, base: &Base) -> Option<u32>
     ensures { result ≡ fold lesser least (snapshots_of (base_of newest.now base.now ∷ [])) }
 {
@@ -72,7 +72,7 @@ fn lesser_with(least: Option<u32>, newest: &Option<Snapshot>, base: &Base) -> Op
     }
 }
 
-/// Tells the least number of the snapshots that the latest jump took.
+/// Returns the least number of the snapshots that the latest jump took.
 pub(crate) fn least_base(newest: &[Option<Snapshot>], bases: &[Base]) -> Option<u32>
     ensures { result ≡ least_last (snapshots_of (bases_of newest.now bases.now)) }
 {

@@ -23,7 +23,7 @@ impl FreshFront {
         least: u32::MAX,
     };
 
-    /// Tells the first place whose snapshot is missing, or leaves out a packet that is given up, and keeps what is
+    /// Returns the first place whose snapshot is missing, or leaves out a packet that is given up, and keeps what is
     /// known now. It looks at no place that is known to be fresh.
     pub(crate) fn first_stale(
         &mut self,
@@ -48,8 +48,8 @@ impl FreshFront {
         None
     }
 
-    /// Tells whether each security has a snapshot that includes every packet which is given up, and keeps what is known
-    /// now.
+    /// Returns whether each security has a snapshot that includes every packet which is given up, and keeps what is
+    /// known now.
     pub(crate) fn are_all_fresh(&mut self, newest: &[Option<Snapshot>], top: u64, room: u64) -> bool
         requires room { room ≤ 65536 }
         requires leads { Leads self.old newest.now }
@@ -73,7 +73,7 @@ impl FreshFront {
     }
 }
 
-// Tells the lesser of a number and that of a snapshot, where it is there.
+// Returns the lesser of a number and that of a snapshot, where it is there.
 fn least_with(least: u32, snapshot: &Option<Snapshot>) -> u32
     ensures { result ≡ least_with least snapshot.now }
 {

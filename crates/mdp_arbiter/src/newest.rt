@@ -21,7 +21,7 @@ pub(crate) fn none_for<A: Allocator + Copy>(
     Ok(none)
 }
 
-/// Tells whether a snapshot includes a later packet than the newest so far.
+/// Returns whether a snapshot includes a later packet than the newest so far.
 pub(crate) fn renews(so_far: &Option<Snapshot>, snapshot: &Snapshot) -> bool
     ensures { result ≡ is_newer so_far.now snapshot.now }
 {
@@ -31,7 +31,7 @@ pub(crate) fn renews(so_far: &Option<Snapshot>, snapshot: &Snapshot) -> bool
     }
 }
 
-/// Tells whether a snapshot is there and includes every packet that is given up.
+/// Returns whether a snapshot is there and includes every packet that is given up.
 pub(crate) fn is_fresh_enough(snapshot: &Option<Snapshot>, top: u64, room: u64) -> bool
     requires { room ≤ 65536 }
     ensures { result ≡ is_fresh room top snapshot.now }
@@ -42,7 +42,7 @@ pub(crate) fn is_fresh_enough(snapshot: &Option<Snapshot>, top: u64, room: u64) 
     }
 }
 
-/// Tells the lesser of the number so far and that of a snapshot.
+/// Returns the lesser of the number so far and that of a snapshot.
 pub(crate) fn lesser_number(so_far: Option<u32>, snapshot: &Snapshot) -> u32
     ensures { Some result ≡ lesser so_far snapshot.now }
 {
@@ -52,7 +52,7 @@ pub(crate) fn lesser_number(so_far: Option<u32>, snapshot: &Snapshot) -> u32
     }
 }
 
-/// Tells the least number of the snapshots that are there.
+/// Returns the least number of the snapshots that are there.
 pub(crate) fn least_number(newest: &[Option<Snapshot>]) -> Option<u32>
     ensures { result ≡ least_last (snapshots_of newest.now) }
 {

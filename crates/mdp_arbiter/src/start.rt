@@ -13,7 +13,7 @@ pub enum Start {
 }
 
 impl Start {
-    /// Tells whether packets pass before a first jump.
+    /// Returns whether packets pass before a first jump.
     pub(crate) fn has_joined(self) -> bool
         ensures { result ≡ joined_from self }
     {

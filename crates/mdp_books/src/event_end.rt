@@ -1,6 +1,6 @@
 //! Where events end.
 
-/// The message of a packet that ends an event.
+/// The place of a message in its packet, where an event ends or may end.
 #[derive(Clone, Copy, Debug, PartialEq, Eq)]
 pub struct EventEnd {
     /// The packet sequence number, from 1 to 4294967295.

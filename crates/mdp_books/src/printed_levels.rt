@@ -102,7 +102,7 @@ impl<const CAPACITY: usize> PrintedLevels<CAPACITY> {
         self.levels.as_slice()
     }
 
-    /// Tells how many levels there are.
+    /// Returns how many levels there are.
     #[inline]
     pub fn len(&self) -> usize
         ensures value { result ≡ length self.now }

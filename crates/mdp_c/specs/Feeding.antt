@@ -1,5 +1,5 @@
 -- What becomes of a handle that takes in what came.
-use Rattle.std.specs.Prelude.{◌≡◌, ◌⊎◌, ◌==◌, ℕ, Bool, true, false, nat_le, if◌then◌else◌, List, [], ◌∷◌, length, Option, None, Some, unwrap_or}
+use Rattle.std.specs.Prelude.{◌≡◌, ◌⊎◌, ◌==◌, ℕ, true, false, nat_le, if◌then◌else◌, List, [], ◌∷◌, length, Option, None, Some, MatchOption, unwrap_or}
 use Rattle.mdp_templates.specs.declared.feed.Feed.{Feed}
 use Rattle.mdp_templates.specs.declared.feed.Feed.TheVariants.{A, B, S}
 use Rattle.mdp_print.specs.Pieces.{BeginsWith}
@@ -27,24 +27,30 @@ abbrev pub feed_of : ℕ → Option Feed
 feed_of number =
     if number == 0 then Some A else if number == 1 then Some B else if number == 2 then Some S else None
 
+-- what a handle or its session holds, and what stands where it is told what became of a datagram
+pub record Holding (H : Type 0) : Type 0 where
+  pub held : H
+  pub became : Became
+
+abbrev pub holding : {H : Type 0} → H → Became → Holding H
+holding held became = record { held = held; became = became }
+
 -- it was taken in, or is refused
-pub record Takes (feed : Feed) (bytes : List ℕ) (old : View) (b : Became) (new : View) (b' : Became) (r : ℕ)
-    : Type 0 where
+pub record Takes (feed : Feed) (bytes : List ℕ) (old new : Holding View) (r : ℕ) : Type 0 where
   pub told : Taken × Moved
-  pub taken : MovesDatagram feed bytes told old new
-  pub sound : old.has_failed ≡ false
-  pub became : b' ≡ unwrap_or (became_of (told.0) (told.1)) b
+  pub taken : MovesDatagram feed bytes told old.held new.held
+  pub sound : old.held.has_failed ≡ false
+  pub became : new.became ≡ unwrap_or (became_of (told.0) (told.1)) old.became
   pub status : r ≡ taken_status (told.0)
 
 -- memory ran out
-pub record FailsAt (feed : Feed) (bytes : List ℕ) (old : View) (b : Became) (new : View) (b' : Became) (r : ℕ)
-    : Type 0 where
-  pub fails : Fails (HasBrokenOffAt feed bytes) old new
-  pub became : b' ≡ b
+pub record FailsAt (feed : Feed) (bytes : List ℕ) (old new : Holding View) (r : ℕ) : Type 0 where
+  pub fails : Fails (HasBrokenOffAt feed bytes) old.held new.held
+  pub became : new.became ≡ old.became
   pub status : r ≡ memory
 
-abbrev pub FeedsSession : Feed → List ℕ → View → Became → View → Became → ℕ → Type 0
-FeedsSession feed bytes old b new b' r = Takes feed bytes old b new b' r ⊎ FailsAt feed bytes old b new b' r
+abbrev pub FeedsSession : Feed → List ℕ → Holding View → Holding View → ℕ → Type 0
+FeedsSession feed bytes old new r = Takes feed bytes old new r ⊎ FailsAt feed bytes old new r
 
 -- a handle is open, and this is said of what it holds
 abbrev pub IsOpenWith : (View → Type 0) → Option View → Type 0
@@ -52,19 +58,24 @@ IsOpenWith says None = ⊥
 IsOpenWith says (Some v) = says v
 
 -- nothing changes, and this is answered
-abbrev pub Answers : ℕ → Option View → Became → Option View → Became → ℕ → Type 0
-Answers status h b h' b' r = (r ≡ status) × (h' ≡ h) × (b' ≡ b)
+abbrev pub Answers : ℕ → Holding (Option View) → Holding (Option View) → ℕ → Type 0
+Answers status old new r = (r ≡ status) × (new.held ≡ old.held) × (new.became ≡ old.became)
 
--- an open handle, by the feed and by whether the datagram is short enough
-abbrev pub FeedsOpen : Option Feed → Bool → List ℕ → View → Became → Option View → Became → ℕ → Type 0
-FeedsOpen None short bytes v b h' b' r = Answers out_of_range (Some v) b h' b' r
-FeedsOpen (Some feed) false bytes v b h' b' r = Answers too_long (Some v) b h' b' r
-FeedsOpen (Some feed) true bytes v b h' b' r = IsOpenWith (λ new. FeedsSession feed bytes v b new b' r) h'
+-- the bytes of a datagram, if it is short enough
+abbrev pub short_enough : List ℕ → Option (List ℕ)
+short_enough bytes = if nat_le (length bytes) 2048 then Some bytes else None
 
--- what a handle holds before and after, what stands before and after where it is told what became, and the status
-abbrev pub Feeds : ℕ → List ℕ → Option View → Became → Option View → Became → ℕ → Type 0
-Feeds feed bytes None b h' b' r = Answers is_closed None b h' b' r
-Feeds feed bytes (Some v) b h' b' r = FeedsOpen (feed_of feed) (nat_le (length bytes) 2048) bytes v b h' b' r
+-- an open handle, by the feed and the datagram
+abbrev pub FeedsOpen : Option Feed → Option (List ℕ) → Holding View → Holding (Option View) → ℕ → Type 0
+FeedsOpen None bytes old new r = Answers out_of_range (holding (Some old.held) old.became) new r
+FeedsOpen (Some feed) None old new r = Answers too_long (holding (Some old.held) old.became) new r
+FeedsOpen (Some feed) (Some bytes) old new r =
+    IsOpenWith (λ v. FeedsSession feed bytes old (holding v new.became) r) new.held
+
+-- a handle, by whether it is open; and the status
+abbrev pub Feeds : ℕ → List ℕ → Holding (Option View) → Holding (Option View) → ℕ → Type 0
+Feeds feed bytes old new r = MatchOption old.held (Answers is_closed old new r)
+    (λ v. FeedsOpen (feed_of feed) (short_enough bytes) (holding v old.became) new r)
 
 -- ---- the close of the channel
 

@@ -39,36 +39,44 @@ abbrev pub Begins : Plan → List Instrument → Option View → ℕ → Type 0
 Begins plan [] h' r = (r ≡ none_listed) × (h' ≡ None)
 Begins plan (first ∷ more) h' r = HasBegun plan (first ∷ more) h' r
 
+-- what a handle holds after a call that opens it, the number that is told then, and the status
+pub record Opened : Type 0 where
+  pub held : Option View
+  pub number : ℕ
+  pub status : ℕ
+
+abbrev pub opened : Option View → ℕ → ℕ → Opened
+opened held number status = record { held = held; number = number; status = status }
+
 -- all entries are listed
-pub record OpensAll (plan : Plan) (listing : Listing) (n : ℕ) (h' : Option View) (n' r : ℕ) : Type 0 where
+pub record OpensAll (plan : Plan) (listing : Listing) (n : ℕ) (o : Opened) : Type 0 where
   pub instruments : List Instrument
   pub listed : AreListed listing.entries instruments
-  pub begins : Begins plan instruments h' r
-  pub number : n' ≡ n
+  pub begins : Begins plan instruments o.held o.status
+  pub number : o.number ≡ n
 
 -- one is the first that isn't listed
-pub record StopsAtOne (listing : Listing) (h' : Option View) (n' r : ℕ) : Type 0 where
+pub record StopsAtOne (listing : Listing) (o : Opened) : Type 0 where
   pub place : ℕ
   pub why : Unlisted
   pub unlisted : IsFirstUnlisted listing.entries place why
-  pub number : n' ≡ listing.first + place
-  pub status : r ≡ unlisted_status listing.no_instrument why
-  pub closed : h' ≡ None
+  pub number : o.number ≡ listing.first + place
+  pub status : o.status ≡ unlisted_status listing.no_instrument why
+  pub closed : o.held ≡ None
 
 -- memory ran out before all entries were looked at
-pub record RunsShort (n : ℕ) (h' : Option View) (n' r : ℕ) : Type 0 where
-  pub status : r ≡ memory
-  pub closed : h' ≡ None
-  pub number : n' ≡ n
+pub record RunsShort (n : ℕ) (o : Opened) : Type 0 where
+  pub status : o.status ≡ memory
+  pub closed : o.held ≡ None
+  pub number : o.number ≡ n
 
 -- a closed handle, by what the options say
-abbrev pub OpensBy : Option Plan → Listing → ℕ → Option View → ℕ → ℕ → Type 0
-OpensBy None listing n h' n' r = (r ≡ out_of_range) × (h' ≡ None) × (n' ≡ n)
-OpensBy (Some plan) listing n h' n' r =
-    OpensAll plan listing n h' n' r ⊎ (StopsAtOne listing h' n' r ⊎ RunsShort n h' n' r)
+abbrev pub OpensBy : Option Plan → Listing → ℕ → Opened → Type 0
+OpensBy None listing n o = (o.status ≡ out_of_range) × (o.held ≡ None) × (o.number ≡ n)
+OpensBy (Some plan) listing n o = OpensAll plan listing n o ⊎ (StopsAtOne listing o ⊎ RunsShort n o)
 
--- What a handle holds before and after, what stands before and after where a number is told, and the status. An open
--- handle stays as it is.
-abbrev pub Opens : Listing → Options → Option View → ℕ → Option View → ℕ → ℕ → Type 0
-Opens listing options (Some v) n h' n' r = (r ≡ is_open) × (h' ≡ Some v) × (n' ≡ n)
-Opens listing options None n h' n' r = OpensBy (plan_of options) listing n h' n' r
+-- What a handle holds before, what stands before where a number is told, and what they are after. An open handle stays
+-- as it is.
+abbrev pub Opens : Listing → Options → Option View → ℕ → Opened → Type 0
+Opens listing options (Some v) n o = (o.status ≡ is_open) × (o.held ≡ Some v) × (o.number ≡ n)
+Opens listing options None n o = OpensBy (plan_of options) listing n o

@@ -53,7 +53,7 @@ const NOTHING: Became = Became {
     jump_new: 0,
 };
 
-/// Tells what became of a datagram and what it moved, in the place of what was told before; nothing of one that is
+/// Reports what became of a datagram and what it moved, in the place of what was told before; nothing of one that is
 /// refused.
 pub(crate) fn tell_became(became: &mut Became, taken: Taken, moved: Moved)
     ensures { became.new ≡ unwrap_or (became_of taken moved) became.old }
@@ -67,7 +67,7 @@ pub(crate) fn tell_became(became: &mut Became, taken: Taken, moved: Moved)
     add_jump(became, moved.jump);
 }
 
-// Tells what became of a packet.
+// Returns what became of a packet.
 fn packet_told(fate: PacketFate) -> Became
     ensures { result ≡ packet_told fate }
 {
@@ -78,7 +78,7 @@ fn packet_told(fate: PacketFate) -> Became
     }
 }
 
-// Tells the number of a fate.
+// Returns the number of a fate.
 fn fate_number(fate: PacketFate) -> u32
     ensures { result ≡ fate_number fate }
 {
@@ -91,7 +91,7 @@ fn fate_number(fate: PacketFate) -> u32
     }
 }
 
-// Tells what became of snapshots.
+// Returns what became of snapshots.
 fn counts_told(counts: SnapshotCounts) -> Became
     ensures { result ≡ counts_told counts }
 {

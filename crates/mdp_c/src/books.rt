@@ -45,8 +45,8 @@ pub struct BookFault {
     pub reserved: u32,
 }
 
-/// Tells whether the book at a slot is the complete feed's right before the packet that comes next: no packet is given
-/// up, and the security's snapshot includes none that is still to come.
+/// Reports whether the book at a slot is the complete feed's right before the packet that comes next: no packet is
+/// given up, and the security's snapshot includes none that is still to come.
 ///
 /// Answers 0; 81; or 83, where no security is listed at the slot. Only at 0 is `current` written.
 #[unsafe(no_mangle)]
@@ -66,7 +66,7 @@ pub extern "C" fn mdp_is_current(handle: &mut Handle, slot: u32, current: &mut b
     DONE
 }
 
-/// Tells the best level of each consolidated side of the book at a slot.
+/// Reports the best level of each consolidated side of the book at a slot.
 ///
 /// Answers 0; 81; or 83, where no security is listed at the slot. Only at 0 is `best` written.
 #[unsafe(no_mangle)]
@@ -86,7 +86,7 @@ pub extern "C" fn mdp_best(handle: &mut Handle, slot: u32, best: &mut Best) -> u
     DONE
 }
 
-/// Tells whether the book at a slot is faulty, and where it became so.
+/// Reports whether the book at a slot is faulty, and where it became so.
 ///
 /// Answers 0; 81; or 83, where no security is listed at the slot. Only at 0 is `fault` written.
 #[unsafe(no_mangle)]
@@ -105,8 +105,8 @@ pub extern "C" fn mdp_fault(handle: &mut Handle, slot: u32, fault: &mut BookFaul
     DONE
 }
 
-/// Copies the levels of a side of a book at a slot, the best first, and tells how many there are: of the direct book 0,
-/// the implied one 1 or the consolidated one 2, and of its bids 0 or its offers 1. A faulty book has none.
+/// Copies the levels of a side of a book at a slot, the best first, and returns how many there are: of the direct book
+/// 0, the implied one 1 or the consolidated one 2, and of its bids 0 or its offers 1. A faulty book has none.
 ///
 /// Answers 0; 81; 83 where no security is listed at the slot, or a number names no book or no side; or 84 where
 /// `levels` has no room for all. At 84 nothing but `count` is written, and at 81 and 83 not even that.
@@ -141,14 +141,14 @@ pub extern "C" fn mdp_levels(
     copy_side(book, which, side, levels, count)
 }
 
-// Tells whether a security is listed at a slot.
+// Returns whether a security is listed at a slot.
 fn has_slot(session: &Session, slot: u32) -> bool
     ensures { result ≡ is_some (slice_get session.now.desks slot) }
 {
     session.book(slot as usize).is_some()
 }
 
-// Tells the best levels of a good book, or that the book is faulty.
+// Returns the best levels of a good book, or that the book is faulty.
 fn best_told(top: Option<TopOfBook>) -> Best
     ensures { result ≡ best_told top }
 {
@@ -165,7 +165,7 @@ fn best_told(top: Option<TopOfBook>) -> Best
     }
 }
 
-// Tells the best levels of a good book.
+// Returns the best levels of a good book.
 fn best_of(top: TopOfBook) -> Best
     ensures { result ≡ best_of top }
 {
@@ -182,7 +182,7 @@ fn best_of(top: TopOfBook) -> Best
 /// Where there is no level.
 const NO_LEVEL: Level = Level { price: 0, size: 0 };
 
-// Tells a total as a level, if there is one.
+// Returns a total as a level, if there is one.
 fn level_or_none(total: Option<Total>) -> Level
     ensures { result ≡ level_or_none total }
 {
@@ -192,7 +192,7 @@ fn level_or_none(total: Option<Total>) -> Level
     }
 }
 
-// Tells the place of a fault, if there is one.
+// Returns the place of a fault, if there is one.
 fn fault_told(book: &Book) -> BookFault
     ensures { result ≡ fault_told book.now }
 {
@@ -208,7 +208,7 @@ fn fault_told(book: &Book) -> BookFault
     }
 }
 
-// Tells the place of a fault.
+// Returns the place of a fault.
 fn place_told(place: Place) -> BookFault
     ensures { result ≡ fault_told (Book.Fault place) }
 {

@@ -9,7 +9,7 @@ use crate::status::{CLOSED, DONE, TOO_SHORT};
 use mdp_desks::Marked;
 use std::alloc::Global;
 
-/// Tells the slots of the securities whose books an event end printed since lines were cleared last, each once and
+/// Reports the slots of the securities whose books an event end printed since lines were cleared last, each once and
 /// ascending, and how many there are.
 ///
 /// Answers 0; 81; or 84 where `slots` has no room for all. At 84 nothing but `count` is written, and at 81 not even
@@ -33,7 +33,7 @@ pub extern "C" fn mdp_changed(handle: &mut Handle, slots: &mut [u32], count: &mu
     DONE
 }
 
-// Tells how many marks are set where there is no room for all. Room for each mark that there is saves counting them.
+// Returns how many marks are set where there is no room for all. Room for each mark that there is saves counting them.
 #[tactic(auto, using(crate::proofs::Slots::few_of_marks))]
 fn past_room(marked: &Marked<Global>, room: usize) -> Option<u64>
     ensures some { IfSome result
@@ -50,7 +50,7 @@ fn past_room(marked: &Marked<Global>, room: usize) -> Option<u64>
     Some(many)
 }
 
-// Tells how many marks are set.
+// Returns how many marks are set.
 fn count_slots(marked: &Marked<Global>) -> u64
     ensures { result ≡ length (slots_of marked.now) }
 {
@@ -63,7 +63,7 @@ fn count_slots(marked: &Marked<Global>) -> u64
     count
 }
 
-// Puts the places of the marks that are set at the front of an array that has room for them, and tells how many they
+// Puts the places of the marks that are set at the front of an array that has room for them, and returns how many they
 // are.
 fn put_slots(marked: &Marked<Global>, slots: &mut [u32]) -> usize
     requires { length (slots_of marked.now) ≤ length slots.old }

@@ -1,7 +1,7 @@
 //! The calls that take in what came.
 
 ghost use Rattle.std.specs.Prelude.{◌≡◌};
-ghost use Rattle.mdp_c.specs.Feeding.{Closes, Feeds, FeedsSession, feed_of};
+ghost use Rattle.mdp_c.specs.Feeding.{Closes, Feeds, FeedsSession, feed_of, holding};
 
 use crate::became::{Became, tell_became};
 use crate::handle::Handle;
@@ -24,7 +24,8 @@ pub extern "C" fn mdp_datagram(
     bytes: &[u8],
     became: &mut Became,
 ) -> u32
-    ensures { Feeds feed bytes.now handle.old.held became.old handle.new.held became.new result }
+    ensures { Feeds feed bytes.now (holding handle.old.held became.old)
+        (holding handle.new.held became.new) result }
 {
     if !handle.is_open() {
         return CLOSED;
@@ -54,7 +55,7 @@ pub extern "C" fn mdp_close(handle: &mut Handle) -> u32
     }
 }
 
-// Tells the feed of a number, if there is one.
+// Returns the feed of a number, if there is one.
 fn feed_of(number: u32) -> Option<Feed>
     ensures { result ≡ feed_of number }
 {
@@ -74,7 +75,8 @@ fn feed_session(
     bytes: &[u8],
     became: &mut Became,
 ) -> u32
-    ensures { FeedsSession feed bytes.now session.old became.old session.new became.new result }
+    ensures { FeedsSession feed bytes.now (holding session.old became.old)
+        (holding session.new became.new) result }
 {
     let Ok((taken, moved)) = session.datagram_with_moves(alloc, feed, bytes) else {
         return MEMORY;

@@ -35,7 +35,7 @@ pub(crate) enum WhichSide {
     Offer,
 }
 
-/// Tells which book has this number.
+/// Returns which book has this number.
 pub(crate) fn book_of(number: u32) -> Option<WhichBook>
     ensures { result ≡ book_of number }
 {
@@ -47,7 +47,7 @@ pub(crate) fn book_of(number: u32) -> Option<WhichBook>
     }
 }
 
-/// Tells which side has this number.
+/// Returns which side has this number.
 pub(crate) fn side_of(number: u32) -> Option<WhichSide>
     ensures { result ≡ side_of number }
 {
@@ -58,7 +58,7 @@ pub(crate) fn side_of(number: u32) -> Option<WhichSide>
     }
 }
 
-/// Tells how many levels a side has, and copies them, if the array has room for all. A faulty book has none.
+/// Reports how many levels a side has, and copies them, if the array has room for all. A faulty book has none.
 pub(crate) fn copy_side(
     book: &Book,
     which: WhichBook,
@@ -121,7 +121,7 @@ pub(crate) trait TellsLevel {
 
     ghost told: { Self → Level };
 
-    /// Tells the level.
+    /// Returns the level.
     fn level(&self) -> Level
         ensures { result ≡ told self.now };
 }
@@ -148,7 +148,7 @@ impl TellsLevel for Total {
     }
 }
 
-// Tells how many levels there are, and copies them, if the array has room for all.
+// Returns how many levels there are, and copies them, if the array has room for all.
 fn copy_levels<T: TellsLevel>(from: &[T], levels: &mut [Level], count: &mut u64) -> u32
     ensures status { result ≡ room_status (map T.told from.now) (length levels.old) }
     ensures levels { levels.new ≡ copied (map T.told from.now) levels.old }

@@ -2,7 +2,7 @@
 
 ghost use Rattle.std.specs.Prelude.{◌≡◌, ◌≤◌, IfOk, None};
 ghost use Rattle.mdp_templates.specs.Instrument.{AreFit};
-ghost use Rattle.mdp_c.specs.Opening.{Begins, Opens, Starts, of_array};
+ghost use Rattle.mdp_c.specs.Opening.{Begins, Opens, Starts, of_array, opened};
 
 use crate::handle::Handle;
 use crate::options::{Options, Plan, plan_of};
@@ -26,7 +26,7 @@ pub extern "C" fn mdp_open(
     place: &mut u64,
 ) -> u32
     ensures { Opens (of_array instruments.now) options.now
-        handle.old.held place.old handle.new.held place.new result }
+        handle.old.held place.old (opened handle.new.held place.new result) }
 {
     if handle.is_open() {
         return OPEN;

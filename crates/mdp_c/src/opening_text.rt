@@ -1,6 +1,6 @@
 //! The call that opens a handle with a text of instruments.
 
-ghost use Rattle.mdp_c.specs.Opening.{Opens, of_text};
+ghost use Rattle.mdp_c.specs.Opening.{Opens, of_text, opened};
 
 use crate::handle::Handle;
 use crate::opening::begin;
@@ -23,7 +23,7 @@ pub extern "C" fn mdp_open_text(
     line: &mut u64,
 ) -> u32
     ensures { Opens (of_text text.now) options.now
-        handle.old.held line.old handle.new.held line.new result }
+        handle.old.held line.old (opened handle.new.held line.new result) }
 {
     if handle.is_open() {
         return OPEN;

@@ -32,7 +32,7 @@ pub(crate) struct Plan {
 /// How many bytes the options have.
 const SIZE: u64 = size_of::<Options>() as u64;
 
-/// Tells what options say; nothing where a field is out of its range.
+/// Returns what options say; nothing where a field is out of its range.
 pub(crate) fn plan_of(options: &Options) -> Option<Plan>
     ensures plan { result ≡ plan_of options.now }
     ensures some { IfSome result (λ plan. 1 ≤ plan.window) }
@@ -50,14 +50,14 @@ pub(crate) fn plan_of(options: &Options) -> Option<Plan>
     })
 }
 
-// Tells whether options are of this size, keep nothing for later, and have a window.
+// Returns whether options are of this size, keep nothing for later, and have a window.
 fn are_known(options: &Options) -> bool
     ensures { result ≡ are_known options.now }
 {
     options.size == SIZE && options.reserved == 0 && options.window >= 1 && options.window <= 65536
 }
 
-// Tells which packet a receiver takes for the first, by number.
+// Returns which packet a receiver takes for the first, by number.
 fn start_of(number: u32) -> Option<Start>
     ensures { result ≡ start_of number }
 {
@@ -68,7 +68,7 @@ fn start_of(number: u32) -> Option<Start>
     }
 }
 
-// Tells what a flag says: 1 yes, and 0 no.
+// Returns what a flag says: 1 yes, and 0 no.
 fn flag_of(number: u32) -> Option<bool>
     ensures { result ≡ flag_of number }
 {

@@ -26,7 +26,7 @@ pub struct State {
     pub has_stale: u32,
 }
 
-/// Tells where the channel stands.
+/// Reports where the channel stands.
 ///
 /// Answers 0, or 81; then `state` stays.
 #[unsafe(no_mangle)]
@@ -42,7 +42,7 @@ pub extern "C" fn mdp_state(handle: &mut Handle, state: &mut State) -> u32
     DONE
 }
 
-// Tells where a channel stands, by plain numbers.
+// Returns where a channel stands, by plain numbers.
 fn state_told(state: ChannelState) -> State
     ensures { result ≡ state_told state }
 {
@@ -56,7 +56,7 @@ fn state_told(state: ChannelState) -> State
     }
 }
 
-// Tells a slot, if there is one.
+// Returns a slot, if there is one.
 fn slot_or_zero(slot: Option<usize>) -> u64
     ensures { result ≡ unwrap_or slot 0 }
 {

@@ -33,7 +33,7 @@ pub(crate) const OUT_OF_RANGE: u32 = 83;
 /// An array is too short.
 pub(crate) const TOO_SHORT: u32 = 84;
 
-/// Tells the status of an entry that isn't listed, where this is the status of one that says no instrument.
+/// Returns the status of an entry that isn't listed, where this is the status of one that says no instrument.
 pub(crate) fn unlisted_status(why: Unlisted, no_instrument: u32) -> u32
     ensures { result ≡ unlisted_status no_instrument why }
 {
@@ -43,7 +43,7 @@ pub(crate) fn unlisted_status(why: Unlisted, no_instrument: u32) -> u32
     }
 }
 
-/// Tells the status of a datagram of which this became.
+/// Returns the status of a datagram of which this became.
 pub(crate) fn taken_status(taken: Taken) -> u32
     ensures { result ≡ taken_status taken }
 {

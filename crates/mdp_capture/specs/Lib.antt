@@ -1,7 +1,7 @@
 pub mod Faults
 pub mod Record
 pub mod Held
-pub mod Reader
+pub mod CountedRead
 pub mod Line
 pub mod Capture
 pub mod Parsed

@@ -18,7 +18,7 @@ pub(crate) struct Blocks<A: Allocator> {
     room: BytesMut<A>,
 }
 
-// Writes the bytes that digits spell, two digits a byte, and tells whether they are digits. Where others stand among
+// Writes the bytes that digits spell, two digits a byte, and returns whether they are digits. Where others stand among
 // them, the bytes mean nothing.
 fn put_bytes(digits: &[u8], bytes: &mut [u8]) -> bool
     requires { length digits.now ≡ 2 * length bytes.old }
@@ -48,7 +48,7 @@ fn make_room<A: Allocator + Copy>(
     Ok(())
 }
 
-/// Decodes digits into a room, in the place of what is there, and tells whether they spell a datagram's bytes. Where
+/// Decodes digits into a room, in the place of what is there, and returns whether they spell a datagram's bytes. Where
 /// they don't, and where memory ran out, what is there means nothing. Where too few bytes fit, the room is a new one of
 /// this size, 2,048 bytes or more.
 pub(crate) fn decode_into<A: Allocator + Copy>(

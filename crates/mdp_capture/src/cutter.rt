@@ -157,7 +157,7 @@ impl<A: Allocator + Copy> LineCutter<A> {
         self.pending.extend_from_slice(text)
     }
 
-    /// Tells whether nothing is pending.
+    /// Returns whether nothing is pending.
     pub(crate) fn is_between_lines(&self) -> bool
         ensures { result ≡ true → self.now ≡ [] }
     {

@@ -94,7 +94,7 @@ impl<A: Allocator + Copy> LineDecoder<A> {
         self.decode_other(alloc, text)
     }
 
-    // Sees to it that the room has the bytes of these digits, where they are a datagram's, and tells whether it has.
+    // Sees to it that the room has the bytes of these digits, where they are a datagram's, and returns whether it has.
     fn take_digits(&mut self, alloc: A, digits: &[u8], last: &[u8]) -> Result<bool, AllocError>
         requires { 0 < length last.now → KnowsDatagramOf last.now self.old }
         ensures spelt { IfOk result (λ is_spelt.
@@ -111,7 +111,7 @@ impl<A: Allocator + Copy> LineDecoder<A> {
         Ok(is_spelt)
     }
 
-    // Tells whether the bytes of these digits are at hand, because the line before has the same digits.
+    // Returns whether the bytes of these digits are at hand, because the line before has the same digits.
     fn has_bytes_of(&self, digits: &[u8], last: &[u8]) -> bool
         requires { 0 < length last.now → KnowsDatagramOf last.now self.now }
         ensures known { result ≡ true → self.now.is_known ≡ true }

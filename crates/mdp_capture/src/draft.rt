@@ -170,7 +170,7 @@ impl<A: Allocator + Copy> Draft<A> {
         }
     }
 
-    // Tells whether a feed has a record.
+    // Returns whether a feed has a record.
     fn has_record(&self) -> bool
         ensures { result ≡ has_record (capture_so_far self.now) }
     {

@@ -27,7 +27,7 @@ pub enum CaptureRefusal {
 impl CaptureRefusal {
     ghost use Rattle.mdp_capture.specs.Faults.{refusal_number, refusal_name};
 
-    /// Tells the number that is printed, from 31 to 35.
+    /// Returns the number that is printed, from 31 to 35.
     pub fn number(self) -> u8
         ensures { result ≡ refusal_number self }
     {
@@ -40,7 +40,7 @@ impl CaptureRefusal {
         }
     }
 
-    /// Tells the name that is printed, in ASCII letters.
+    /// Returns the name that is printed, in ASCII letters.
     pub fn name(self) -> &'static str
         ensures { result.now ≡ refusal_name self }
     {

@@ -22,14 +22,14 @@ pub(crate) fn next_field(text: &[u8]) -> (&[u8], Option<&[u8]>)
     }
 }
 
-/// Tells whether a field is this one letter.
+/// Returns whether a field is this one letter.
 pub(crate) fn is_letter(field: &[u8], letter: u8) -> bool
     ensures { result ≡ bytes_eq field.now (letter ∷ []) }
 {
     field == [letter].as_slice()
 }
 
-/// Tells the id that a field spells, a decimal number from 1 to 2147483647 without sign or leading zero.
+/// Returns the id that a field spells, a decimal number from 1 to 2147483647 without sign or leading zero.
 pub(crate) fn id_of(field: &[u8]) -> Option<i32>
     ensures { result ≡ id_of field.now }
 {
@@ -37,7 +37,7 @@ pub(crate) fn id_of(field: &[u8]) -> Option<i32>
     Some(id as i32)
 }
 
-/// Tells the depth that a field spells, a decimal number from 1 to 10 without sign or leading zero.
+/// Returns the depth that a field spells, a decimal number from 1 to 10 without sign or leading zero.
 pub(crate) fn depth_of(field: &[u8]) -> Option<u8>
     ensures { result ≡ depth_of field.now }
 {
@@ -45,7 +45,7 @@ pub(crate) fn depth_of(field: &[u8]) -> Option<u8>
     Some(depth as u8)
 }
 
-// Tells the decimal number from 1 to the most that a field spells, without sign or leading zero.
+// Returns the decimal number from 1 to the most that a field spells, without sign or leading zero.
 fn number_of(field: &[u8], most: u32) -> Option<u64>
     ensures is { result ≡ number_of most field.now }
     ensures few { IfSome result (λ number. number ≤ most) }
@@ -64,7 +64,7 @@ fn number_of(field: &[u8], most: u32) -> Option<u64>
     if number == 0 { None } else { Some(number) }
 }
 
-// Tells whether a field has decimal digits alone and no leading zero.
+// Returns whether a field has decimal digits alone and no leading zero.
 fn is_number(field: &[u8]) -> bool
     ensures { result ≡ is_number field.now }
 {
@@ -74,7 +74,7 @@ fn is_number(field: &[u8]) -> bool
     }
 }
 
-// Tells whether each byte of a field is a decimal digit.
+// Returns whether each byte of a field is a decimal digit.
 fn has_digits_alone(field: &[u8]) -> bool
     ensures { result ≡ list_all is_digit field.now }
 {
@@ -93,14 +93,14 @@ pub(crate) fn name_of(field: &[u8]) -> Option<Name>
     Some(Name::new(text))
 }
 
-// Tells whether a field has 1 to 20 bytes, each from 33 to 126.
+// Returns whether a field has 1 to 20 bytes, each from 33 to 126.
 fn is_name(field: &[u8]) -> bool
     ensures { result ≡ is_name field.now }
 {
     !field.is_empty() && field.len() <= 20 && is_graphic(field)
 }
 
-// Tells whether each byte of a field is a visible ASCII character, 33 to 126.
+// Returns whether each byte of a field is a visible ASCII character, 33 to 126.
 fn is_graphic(field: &[u8]) -> bool
     ensures { result ≡ list_all is_graphic field.now }
 {

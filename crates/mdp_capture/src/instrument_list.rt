@@ -116,7 +116,7 @@ impl<A: Allocator> InstrumentList<A> {
         }
     }
 
-    // Tells why an instrument is refused, if it is; the first reason that holds.
+    // Returns why an instrument is refused, if it is; the first reason that holds.
     fn refusal_of(&self, instrument: &Instrument) -> Option<CaptureRefusal>
         ensures { result ≡ refusal_after self.now instrument.now }
     {
@@ -131,7 +131,7 @@ impl<A: Allocator> InstrumentList<A> {
         }
     }
 
-    // Tells whether the legs are listed that an instrument asks for.
+    // Returns whether the legs are listed that an instrument asks for.
     fn has_its_legs(&self, instrument: &Instrument) -> bool
         ensures { result ≡ has_legs self.now instrument.now.kind }
     {
@@ -139,21 +139,21 @@ impl<A: Allocator> InstrumentList<A> {
     }
 }
 
-// Tells whether an instrument with this one's id or name is listed.
+// Returns whether an instrument with this one's id or name is listed.
 fn is_listed(instruments: &[Instrument], instrument: &Instrument) -> bool
     ensures { result ≡ is_listed instruments.now instrument.now }
 {
     has_id(instruments, instrument.id) || has_name(instruments, instrument.name.as_str())
 }
 
-// Tells whether an instrument with this id is listed.
+// Returns whether an instrument with this id is listed.
 fn has_id(instruments: &[Instrument], id: i32) -> bool
     ensures { result ≡ list_any (λ other. int_eq other.id id) instruments.now }
 {
     instruments.iter().any(|other| other.id == id)
 }
 
-// Tells whether an instrument with this name is listed.
+// Returns whether an instrument with this name is listed.
 fn has_name(instruments: &[Instrument], name: &str) -> bool
     ensures { result ≡ list_any (λ other. bytes_eq other.name name.now) instruments.now }
 {

@@ -24,7 +24,7 @@ fn values_of(digits: u8x16) -> u8x16
     decimal.simd_min(letter.simd_min(u8x16::splat(245)) + ten)
 }
 
-// Tells whether all lanes of two vectors are below 16.
+// Returns whether all lanes of two vectors are below 16.
 #[inline(always)]
 fn are_below_16(first: u8x16, second: u8x16) -> bool
     ensures { result ≡ true → AreBelow16 first × AreBelow16 second }
@@ -55,7 +55,7 @@ fn bytes_of(first: u8x16, second: u8x16) -> u8x16
     pairs_in(first).shuffle(pairs_in(second), ODD)
 }
 
-// Writes sixteen bytes from a place on, and tells whether their 32 digits are digits.
+// Writes sixteen bytes from a place on, and returns whether their 32 digits are digits.
 #[inline(always)]
 fn put_sixteen(digits: &[u8], at: usize, bytes: &mut [u8]) -> bool
     requires digits { 2 * at + 32 ≤ length digits.now }
@@ -73,8 +73,8 @@ fn put_sixteen(digits: &[u8], at: usize, bytes: &mut [u8]) -> bool
     true
 }
 
-/// Writes the bytes that digits spell, sixteen or more, and tells whether they are digits. The last sixteen are decoded
-/// together, so that some are mostly written twice.
+/// Writes the bytes that digits spell, sixteen or more, and returns whether they are digits. The last sixteen are
+/// decoded together, so that some are mostly written twice.
 pub(crate) fn put_lanes(digits: &[u8], bytes: &mut [u8]) -> bool
     requires twice { length digits.now ≡ 2 * length bytes.old }
     requires enough { LANES ≤ length bytes.old }

@@ -4,6 +4,7 @@
 
 mod blocks;
 mod capture;
+mod counted_read;
 mod cutter;
 mod decoder;
 mod draft;
@@ -15,13 +16,13 @@ mod laws;
 mod line;
 mod over_threads;
 mod part;
-mod reader;
 mod reading;
 mod record;
 mod repeats;
 mod skip;
 
 pub use capture::Capture;
+pub use counted_read::{CountedRead, CountingReader};
 pub use cutter::{LineCutter, TakesLines};
 pub use decoder::{DecodedLine, LineDecoder};
 pub use fault::{CaptureFault, CaptureRefusal};
@@ -31,7 +32,6 @@ pub use laws::{
     only_late_instruments_follow_records, refusals_are_of_the_first_line, texts_have_one_answer,
 };
 pub use over_threads::read_capture_over_threads;
-pub use reader::{CountedRead, CountingReader};
 pub use reading::read_capture;
 pub use record::Record;
 pub use skip::{Skip, SkippedLine};

@@ -90,7 +90,7 @@ pub(crate) fn instrument_on(text: &[u8]) -> Option<Instrument>
     instrument_of(rest)
 }
 
-// Tells what a line says that begins with `I`.
+// Returns what a line says that begins with `I`.
 fn listing_of<A: Allocator>(rest: Option<&[u8]>) -> Line<A>
     ensures { content_of result ≡ listing (instrument_of (fields_left rest.entry)) }
 {
@@ -163,7 +163,7 @@ fn calendar_of(legs: Option<&[u8]>) -> Option<(InstrumentKind, u8)>
     Some((InstrumentKind::Calendar { leg1, leg2 }, USUAL_DEPTH))
 }
 
-// Tells what a line of a feed says: its datagram, or why it is skipped.
+// Returns what a line of a feed says: its datagram, or why it is skipped.
 fn packet_of<A: Allocator>(alloc: A, feed: Feed, rest: Option<&[u8]>) -> Result<Line<A>, AllocError>
     ensures { IfOk result (λ line. content_of line ≡ packet_of feed (fields_left rest.entry)) }
 {
@@ -202,7 +202,7 @@ fn bytes_of<A: Allocator>(alloc: A, digits: &[u8]) -> Result<Result<Vec<u8, A>, 
     }
 }
 
-// Tells why the line of something other than digits is skipped: for a field too many, or for a byte that is no digit.
+// Returns why the line of something other than digits is skipped: for a field too many, or for a byte that is no digit.
 fn skip_of(digits: &[u8]) -> Skip
     ensures { IsErr (decode_of digits.now) → IsSkippedFor digits.now result }
 {
@@ -212,7 +212,7 @@ fn skip_of(digits: &[u8]) -> Skip
     }
 }
 
-// Tells what a line says that begins with `X`.
+// Returns what a line says that begins with `X`.
 fn closing_of<A: Allocator>(rest: Option<&[u8]>) -> Line<A>
     ensures { content_of result ≡ closing_of (fields_left rest.entry) }
 {

@@ -8,9 +8,9 @@ ghost use Rattle.mdp_capture.specs.Reading.{RefusesPiece, TakesPiece};
 ghost use Rattle.mdp_templates.specs.Instrument.{AreFit};
 
 use crate::capture::Capture;
+use crate::counted_read::CountedRead;
 use crate::fault::CaptureFault;
 use crate::part::{Part, read_part};
-use crate::reader::CountedRead;
 use crate::reading::{Reading, room_for};
 use memchr::memchr;
 use std::alloc::{AllocError, Allocator};
@@ -138,7 +138,7 @@ fn take_part<A: Allocator + Copy>(
     reading.take_piece(alloc, text)
 }
 
-// Tells where the first part of a text ends: at the end of the line that has the byte at this size.
+// Returns where the first part of a text ends: at the end of the line that has the byte at this size.
 fn end_of_part(text: &[u8], size: usize) -> usize
     ensures inside { result ≤ length text.now }
     ensures some { 0 < length text.now → 0 < result }

@@ -8,11 +8,11 @@ ghost use Rattle.mdp_capture.specs.Reading.{HasRead, RefusesPiece, TakesPiece};
 ghost use Rattle.mdp_templates.specs.Instrument.{AreFit};
 
 use crate::capture::Capture;
+use crate::counted_read::CountedRead;
 use crate::cutter::LineCutter;
 use crate::draft::Draft;
 use crate::fault::CaptureFault;
 use crate::part::Part;
-use crate::reader::CountedRead;
 use std::alloc::{AllocError, Allocator};
 
 /// Reads a capture to its end: the instruments, the records of the three feeds, and the lines that were skipped.
@@ -85,7 +85,7 @@ impl<A: Allocator + Copy> Reading<A> {
         self.cutter.take_piece(alloc, piece, &mut self.draft)
     }
 
-    /// Tells whether a line begins with the next piece.
+    /// Returns whether a line begins with the next piece.
     pub(crate) fn is_between_lines(&self) -> bool
         ensures { result ≡ true → self.now.cutter ≡ [] }
     {

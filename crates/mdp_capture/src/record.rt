@@ -67,7 +67,7 @@ impl<A: Allocator> Record<A> {
         Record { line, held }
     }
 
-    /// Tells the number of the line, from 1; each line past 4294967295 bears that number.
+    /// Returns the number of the line, from 1; each line past 4294967295 bears that number.
     pub fn line(&self) -> u32
         ensures { result ≡ self.now.line }
     {

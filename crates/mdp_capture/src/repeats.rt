@@ -112,7 +112,7 @@ impl<A: Allocator + Copy> Draft<A> {
     }
 }
 
-/// Tells whether a line begins as a datagram's does and has these digits.
+/// Returns whether a line begins as a datagram's does and has these digits.
 pub(crate) fn has_digits(text: &[u8], digits: &[u8]) -> bool
     ensures { result ≡ true → (feed : Feed)
         × (line_of text.now ≡ packet_of feed (fields digits.now)) }

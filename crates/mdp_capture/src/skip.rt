@@ -16,7 +16,7 @@ pub enum Skip {
 impl Skip {
     ghost use Rattle.mdp_capture.specs.Faults.{skip_number, skip_name};
 
-    /// Tells the number that is printed, from 21 to 23.
+    /// Returns the number that is printed, from 21 to 23.
     pub fn number(self) -> u8
         ensures { result ≡ skip_number self }
     {
@@ -27,7 +27,7 @@ impl Skip {
         }
     }
 
-    /// Tells the name that is printed, in ASCII letters.
+    /// Returns the name that is printed, in ASCII letters.
     pub fn name(self) -> &'static str
         ensures { result.now ≡ skip_name self }
     {

@@ -124,7 +124,7 @@ impl<A: Allocator + Copy> ChannelFile<A> {
     }
 }
 
-// Tells whether a line is empty or a comment.
+// Returns whether a line is empty or a comment.
 fn is_passed_over(line: &[u8]) -> bool
     ensures { result ≡ is_passed_over line.now }
 {
@@ -135,7 +135,7 @@ fn is_passed_over(line: &[u8]) -> bool
     }
 }
 
-// Tells why a line's instrument isn't listed, by what was answered to it.
+// Returns why a line's instrument isn't listed, by what was answered to it.
 fn refusal_in(answer: ListedLine) -> Option<LineRefusal>
     ensures { result ≡ refusal_in answer }
 {

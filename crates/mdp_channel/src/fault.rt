@@ -20,7 +20,7 @@ pub enum LineRefusal {
 impl LineRefusal {
     ghost use Rattle.mdp_channel.specs.Fault.{line_refusal_name, line_refusal_number};
 
-    /// Tells the number that is printed: 61, 62, or 31 to 33.
+    /// Returns the number that is printed: 61, 62, or 31 to 33.
     pub fn number(self) -> u8
         ensures { result ≡ line_refusal_number self }
     {
@@ -59,7 +59,7 @@ pub enum ChannelFault {
 impl ChannelFault {
     ghost use Rattle.mdp_channel.specs.Fault.{channel_fault_name, channel_fault_number};
 
-    /// Tells the number that is printed: that of the line's refusal, 34, 63, or 41 for memory.
+    /// Returns the number that is printed: that of the line's refusal, 34, 63, or 41 for memory.
     pub fn number(self) -> u8
         ensures { result ≡ channel_fault_number self }
     {

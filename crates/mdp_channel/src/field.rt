@@ -47,14 +47,14 @@ fn number_text(field: &[u8]) -> Option<&str>
     str::from_utf8(field).ok()
 }
 
-// Tells whether a field has decimal digits alone and no leading zero.
+// Returns whether a field has decimal digits alone and no leading zero.
 fn is_number(field: &[u8]) -> bool
     ensures { result ≡ is_number field.now }
 {
     !field.starts_with(b"0") && has_digits_alone(field)
 }
 
-// Tells whether each byte of a field is a decimal digit.
+// Returns whether each byte of a field is a decimal digit.
 fn has_digits_alone(field: &[u8]) -> bool
     ensures { result ≡ list_all is_digit field.now }
 {

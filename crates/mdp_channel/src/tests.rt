@@ -103,7 +103,7 @@ fn counts_every_line(rt: HostRuntime) {
     }
 }
 
-// Reads `CHANNEL` with an allocation refused, and tells whether one was.
+// Reads `CHANNEL` with an allocation refused, and returns whether one was.
 fn wants_memory(heap: &Refusing<Global>) -> Result<bool, Fail> {
     match read_channel(heap, CHANNEL.as_bytes()) {
         Ok(_) if heap.has_refused() => Err(

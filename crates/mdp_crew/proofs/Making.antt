@@ -17,7 +17,7 @@ use Rattle.mdp_arbiter.proofs.Jumps.{law_of_jumps}
 use Rattle.mdp_arbiter.proofs.Runs.{law_of_events, law_of_fronts, law_of_moves}
 use Rattle.mdp_engine.specs.Engine.{IsSettled}
 use Rattle.mdp_engine.proofs.Moving.{Leads, leads-push, no_move}
-use Rattle.mdp_arbiter.specs.Turns.{stepped_move}
+use Rattle.mdp_arbiter.specs.OwnedMoves.{stepped_move}
 use Rattle.mdp_crew.specs.Fed.{HasComeTo, IsFedAll, MakesMoves, feeding}
 
 -- with what settles from there, they settle
@@ -57,21 +57,21 @@ one_made channel es old new newest (Jump from to) (Some (passed p)) possible ans
 
 -- ---- moves so far
 
-pub record HasMade (es : List Event) (old now : View) (turns turns' : List Move) : Type 0 where
+pub record HasMade (es : List Event) (old now : View) (owned_moves owned_moves' : List Move) : Type 0 where
   pub made : List Move
-  pub appended : turns' ≡ turns ++ made
+  pub appended : owned_moves' ≡ owned_moves ++ made
   pub leads : Leads old.channel es (state old) made (state now)
   pub stands : StandsAt es now
   pub channel : now.channel ≡ old.channel
 
 abbrev pub MovesTo : View → View → List Move → List Move → Type 0
-MovesTo old now turns turns' = (es : List Event) → StandsAt es old → HasMade es old now turns turns'
+MovesTo old now owned_moves owned_moves' = (es : List Event) → StandsAt es old → HasMade es old now owned_moves owned_moves'
 
 -- a step more
-pub moves_further : {A : Type 0} (old now new : View) (turns so_far full : List Move) (step : Step A) (move : Move) → MovesTo old now turns so_far
+pub moves_further : {A : Type 0} (old now new : View) (owned_moves so_far full : List Move) (step : Step A) (move : Move) → MovesTo old now owned_moves so_far
     → ((es : List Event) → StandsAt es now → StepsAs es now new (Some step)) → new.channel ≡ now.channel
-    → move ≡ stepped_move step new.newest → full ≡ so_far ++ move ∷ [] → MovesTo old new turns full
-moves_further old now new turns so_far full step move moves steps channel is more es stands =
+    → move ≡ stepped_move step new.newest → full ≡ so_far ++ move ∷ [] → MovesTo old new owned_moves full
+moves_further old now new owned_moves so_far full step move moves steps channel is more es stands =
     let has = moves es stands in
     let s = steps es has.stands in
     let newest : new.newest ≡ newest_snapshots now.channel.ids es = s.stands.newest ∙ ap (λ (c : Channel). newest_snapshots c.ids es) channel in
@@ -80,7 +80,7 @@ moves_further old now new turns so_far full step move moves steps channel is mor
     ap (λ (c : Channel). next_move c es (state now)) (sym has.channel) ∙ one.possible ∙ ap (λ (x : Move). Some x) (sym is) in
     record {
       made = has.made ++ move ∷ [];
-      appended = more ∙ ap (λ (l : List Move). l ++ move ∷ []) has.appended ∙ append_assoc turns has.made (move ∷ []);
+      appended = more ∙ ap (λ (l : List Move). l ++ move ∷ []) has.appended ∙ append_assoc owned_moves has.made (move ∷ []);
       leads = leads-push old.channel es (state old) has.made (state now) (state new) move has.leads possible (one.state ∙ ap (after (state now)) (sym is));
       stands = s.stands;
       channel = channel ∙ has.channel;
@@ -91,9 +91,9 @@ held (Ok u) p = p
 held (Err e) p = tt
 
 -- no step more
-pub moves_settled : {A E : Type 0} (old now new : View) (turns full : List Move) (step : Option (Step A)) (result : Result (Unit {0}) E) → step ≡ None → MovesTo old now turns full
-    → ((es : List Event) → StandsAt es now → StepsAs es now new step) → new.channel ≡ now.channel → (es : List Event) → StandsAt es old → MakesMoves (feeding es old turns) (feeding es new full) result
-moves_settled old now new turns full step result is moves steps channel es stands =
+pub moves_settled : {A E : Type 0} (old now new : View) (owned_moves full : List Move) (step : Option (Step A)) (result : Result (Unit {0}) E) → step ≡ None → MovesTo old now owned_moves full
+    → ((es : List Event) → StandsAt es now → StepsAs es now new step) → new.channel ≡ now.channel → (es : List Event) → StandsAt es old → MakesMoves (feeding es old owned_moves) (feeding es new full) result
+moves_settled old now new owned_moves full step result is moves steps channel es stands =
     let has = moves es stands in
     let s = steps es has.stands in
     let still : next_move now.channel es (state now) ≡ None = no_move (next_move now.channel es (state now)) step is s.answer in
@@ -114,8 +114,8 @@ moves_settled old now new turns full step result is moves steps channel es stand
     }
 
 -- memory ran out: the moves so far are a beginning of those that are possible
-pub moves_begun : {E : Type 0} (old now new : View) (turns full : List Move) (x : E) → MovesTo old now turns full → (es : List Event) → StandsAt es old → MakesMoves (feeding es old turns) (feeding es new full) (Err x)
-moves_begun old now new turns full x moves es stands =
+pub moves_begun : {E : Type 0} (old now new : View) (owned_moves full : List Move) (x : E) → MovesTo old now owned_moves full → (es : List Event) → StandsAt es old → MakesMoves (feeding es old owned_moves) (feeding es new full) (Err x)
+moves_begun old now new owned_moves full x moves es stands =
     let has = moves es stands in
     record {
       made = has.made;
@@ -131,10 +131,10 @@ pub if_ok : {E P Q : Type 0} (r : Result (Unit {0}) E) → (P → Q) → OnOk r 
 if_ok (Ok u) f p = f p
 if_ok (Err e) f p = tt
 
-pub fed : {E : Type 0} (listed : List Instrument) (es : List Event) (e : Event) (old mid new : View) (turns full : List Move) (result : Result (Unit {0}) E)
+pub fed : {E : Type 0} (listed : List Instrument) (es : List Event) (e : Event) (old mid new : View) (owned_moves full : List Move) (result : Result (Unit {0}) E)
     → StandsAt (es ++ e ∷ []) mid → state mid ≡ state old → mid.channel ≡ old.channel → IsSettled listed es old
-    → MakesMoves (feeding (es ++ e ∷ []) mid turns) (feeding (es ++ e ∷ []) new full) result → IsFedAll listed (feeding es old turns) (feeding (es ++ e ∷ []) new full) result
-fed listed es e old mid new turns full result stands keeps channel settled moves =
+    → MakesMoves (feeding (es ++ e ∷ []) mid owned_moves) (feeding (es ++ e ∷ []) new full) result → IsFedAll listed (feeding es old owned_moves) (feeding (es ++ e ∷ []) new full) result
+fed listed es e old mid new owned_moves full result stands keeps channel settled moves =
     let all = moves.made ++ moves.rest in
     let settles : Settles old.channel (es ++ e ∷ []) (state_at old.channel es) all =
     subst (λ (s : State). Settles old.channel (es ++ e ∷ []) s all) (keeps ∙ settled.state)
@@ -161,11 +161,11 @@ fed listed es e old mid new turns full result stands keeps channel settled moves
     }
 
 -- where the event was not taken in
-pub not_fed : {E : Type 0} (listed : List Instrument) (es : List Event) (e : Event) (old new : View) (turns : List Move) (x : E) → IsFedAll listed (feeding es old turns) (feeding (es ++ e ∷ []) new turns) (Err x)
-not_fed listed es e old new turns x = record {
+pub not_fed : {E : Type 0} (listed : List Instrument) (es : List Event) (e : Event) (old new : View) (owned_moves : List Move) (x : E) → IsFedAll listed (feeding es old owned_moves) (feeding (es ++ e ∷ []) new owned_moves) (Err x)
+not_fed listed es e old new owned_moves x = record {
   made = [];
   rest = go_on old.channel es (state_at old.channel es) (e ∷ []);
-  appended = sym (append-nil turns);
+  appended = sym (append-nil owned_moves);
   front = law_of_fronts old.channel es (e ∷ []);
   whole = tt;
 }

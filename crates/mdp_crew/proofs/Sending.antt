@@ -69,29 +69,29 @@ module _ {A : Type 0} where
       subst (λ (start : List (Feed × Batch A) × List (LaneSenderView (Order A))). HasSentSoFar channel first (sending (events_taken start.0) start.1 v))
       (λ i. (sym none i, sym same i)) (so_far_none channel first v begun)
 
-  -- the turns of further events were sent
-  pub some_sends : {E F : Type 0} (events : List Event) (now after : List (LaneSenderView (Order A))) (old new : View) (none turns : List Move) (result : Result (Unit {0}) F) → none ≡ []
-      → ((listed : List Instrument) (before : List Event) → IsSettled listed before old → IsFedAll {E = E} listed (feeding before old none) (feeding (before ++ events) new turns) (Ok tt))
-      → OnOk result (after ≡ map (and_sent (Take turns ∷ [])) now) → OnOk result ((before : List Event) → SendsMore (sending before now old) (sending (before ++ events) after new))
-  some_sends {E} events now after old new none turns (Ok done) is fed one = λ before channel first so_far. record {
-    batches = so_far.batches ++ turns ∷ [];
-    lanes = lanes_next so_far.batches turns first now after so_far.lanes one;
+  -- the moves of further events were sent
+  pub some_sends : {E F : Type 0} (events : List Event) (now after : List (LaneSenderView (Order A))) (old new : View) (none owned_moves : List Move) (result : Result (Unit {0}) F) → none ≡ []
+      → ((listed : List Instrument) (before : List Event) → IsSettled listed before old → IsFedAll {E = E} listed (feeding before old none) (feeding (before ++ events) new owned_moves) (Ok tt))
+      → OnOk result (after ≡ map (and_sent (Take owned_moves ∷ [])) now) → OnOk result ((before : List Event) → SendsMore (sending before now old) (sending (before ++ events) after new))
+  some_sends {E} events now after old new none owned_moves (Ok done) is fed one = λ before channel first so_far. record {
+    batches = so_far.batches ++ owned_moves ∷ [];
+    lanes = lanes_next so_far.batches owned_moves first now after so_far.lanes one;
     all =
-        sent_more channel before events so_far.batches old new turns so_far.all
-        (subst (λ (start : List Move). IsFedAll {E = E} channel.listed (feeding before old start) (feeding (before ++ events) new turns) (Ok tt)) is (fed channel.listed before so_far.all.settled));
+        sent_more channel before events so_far.batches old new owned_moves so_far.all
+        (subst (λ (start : List Move). IsFedAll {E = E} channel.listed (feeding before old start) (feeding (before ++ events) new owned_moves) (Ok tt)) is (fed channel.listed before so_far.all.settled));
   }
-  some_sends events now after old new none turns (Err fault) is fed one = tt
+  some_sends events now after old new none owned_moves (Err fault) is fed one = tt
 
   -- there were none
-  pub none_sends : {E : Type 0} (events : List Event) (now : List (LaneSenderView (Order A))) (old new : View) (none turns : List Move) → none ≡ [] → turns ≡ []
-      → ((listed : List Instrument) (before : List Event) → IsSettled listed before old → IsFedAll {E = E} listed (feeding before old none) (feeding (before ++ events) new turns) (Ok tt))
+  pub none_sends : {E : Type 0} (events : List Event) (now : List (LaneSenderView (Order A))) (old new : View) (none owned_moves : List Move) → none ≡ [] → owned_moves ≡ []
+      → ((listed : List Instrument) (before : List Event) → IsSettled listed before old → IsFedAll {E = E} listed (feeding before old none) (feeding (before ++ events) new owned_moves) (Ok tt))
       → (before : List Event) → SendsMore (sending before now old) (sending (before ++ events) now new)
-  none_sends {E} events now old new none turns is empty fed before = λ channel first so_far. record {
+  none_sends {E} events now old new none owned_moves is empty fed before = λ channel first so_far. record {
     batches = so_far.batches;
     lanes = so_far.lanes;
     all =
-        sent_as_before channel before events so_far.batches old new turns so_far.all
-        (subst (λ (start : List Move). IsFedAll {E = E} channel.listed (feeding before old start) (feeding (before ++ events) new turns) (Ok tt)) is (fed channel.listed before so_far.all.settled)) empty;
+        sent_as_before channel before events so_far.batches old new owned_moves so_far.all
+        (subst (λ (start : List Move). IsFedAll {E = E} channel.listed (feeding before old start) (feeding (before ++ events) new owned_moves) (Ok tt)) is (fed channel.listed before so_far.all.settled)) empty;
   }
 
   -- there was no memory for what further events add, and nothing of it was sent

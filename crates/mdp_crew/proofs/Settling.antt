@@ -22,7 +22,7 @@ use Rattle.mdp_crew.specs.Collecting.{EndsCollecting, HasAll, HasSome, Showing, 
 use Rattle.mdp_crew.specs.Publishing.{published_on}
 use Rattle.mdp_crew.specs.Crew.{AreFresh, AreNumbered, IsFront, IsHired, IsSettled}
 use Rattle.mdp_crew.specs.Orders.{and_sent, orders_of}
-use Rattle.mdp_crew.specs.Rounds.{Wide, all_took, laid, put}
+use Rattle.mdp_crew.specs.TakenRounds.{Wide, all_took, laid, put}
 use Rattle.mdp_crew.specs.Shares.{WorkerShare, share_in, share_of}
 use Rattle.mdp_crew.specs.Work.{HasAnswered, answers_by}
 use Rattle.mdp_crew.proofs.Taking.{length-laid, length-nothing}

@@ -5,7 +5,7 @@ use Rattle.std.specs.List.{AllByRecursion, list_any}
 use Rattle.std.proofs.lemmas.List.{append-nil, take-append-drop}
 use Rattle.mdp_lanes.specs.Queues.{LaneReceiverView}
 use Rattle.mdp_lanes.specs.declared.step.Step.{Step}
-use Rattle.mdp_crew.specs.Rounds.{IsToLast, took, all_took, put, laid, one_each, Wide, all_tell, all_finish, is_told, last_of, lasts}
+use Rattle.mdp_crew.specs.TakenRounds.{IsToLast, took, all_took, put, laid, one_each, Wide, all_tell, all_finish, is_told, last_of, lasts}
 use Rattle.mdp_crew.specs.Collecting.{Showing, kept_after_batch, text_of_batch, text_of_batches, steps_of_batch, steps_of_batches, CutShort, IsCut, ShowsRound, TakesOne, TakesRounds, HasAll, HasSome, EndsCollecting, IsCollecting}
 use Rattle.mdp_crew.specs.Collecting.CutShort.{in_text, in_steps}
 use Rattle.mdp_crew.specs.Collecting.IsCut.{among_steps, in_last}

@@ -41,7 +41,7 @@ pub record HasSent {A : Type 0} (channel : ListedChannel) (receiver : IntakeRece
 
 -- ---- batch by batch
 
--- A moment of the arbiter's thread: the events that were taken in, what the lanes to the workers
+-- Where the arbiter's thread stands: the events that were taken in, what the lanes to the workers
 -- were sent, and the arbiter.
 pub record Sending (A : Type 0) : Type 0 where
   pub events : List Event

@@ -13,7 +13,7 @@ use Rattle.mdp_crew.specs.declared.collector.Collecting.{Collecting}
 use Rattle.mdp_crew.specs.declared.crew.Post.{Post}
 use Rattle.mdp_crew.specs.declared.fault.RunFault.{RunFault}
 use Rattle.mdp_crew.specs.Publishing.{published_on}
-use Rattle.mdp_crew.specs.Rounds.{IsToLast, Wide, all_took, laid}
+use Rattle.mdp_crew.specs.TakenRounds.{IsToLast, Wide, all_took, laid}
 
 -- what a collector makes of the reports of all workers on one batch, and what it has kept then
 abbrev pub text_of_batch : View → List (List Report) → List ℕ
@@ -35,7 +35,7 @@ steps_of_batch reports = steps_in (rounds_in reports)
 abbrev pub steps_of_batches : List (List (List Report)) → List Step
 steps_of_batches batches = steps_in (all_rounds_in batches)
 
--- A moment of the collector, as contracts see it: what was taken of each worker, what it keeps for the next batch, and
+-- Where the collector stands, as contracts see it: what was taken of each worker, what it keeps for the next batch, and
 -- what went out, as text and on the board.
 pub record Showing (A : Type 0) : Type 0 where
   pub posts : List (Post A)
@@ -43,7 +43,7 @@ pub record Showing (A : Type 0) : Type 0 where
   pub taken : List ℕ
   pub board : Option Published
 
--- the moment where these bytes went out, and this stands on the board
+-- where these bytes went out, and this stands on the board
 abbrev pub showing : {A : Type 0} → Collecting A → List ℕ → Option Published → Showing A
 showing collecting taken board =
     record { posts = collecting.posts.items; collector = collecting.collector; taken = taken; board = board }

@@ -7,15 +7,15 @@ use Rattle.mdp_arbiter.specs.Arbiter.{View, state}
 use Rattle.mdp_arbiter.specs.Standing.{StandsAt}
 use Rattle.mdp_engine.specs.Engine.{IsSettled}
 
--- A moment of an arbiter that is fed: the events that came, the arbiter, and the moves that were
+-- Where an arbiter stands that is fed: the events that came, the arbiter, and the moves that were
 -- handed on.
 pub record Feeding : Type 0 where
   pub events : List Event
   pub arbiter : View
-  pub turns : List Move
+  pub moves : List Move
 
 abbrev pub feeding : List Event → View → List Move → Feeding
-feeding events arbiter turns = record { events = events; arbiter = arbiter; turns = turns }
+feeding events arbiter moves = record { events = events; arbiter = arbiter; moves = moves }
 
 -- More events were taken in. The moves that they add are appended; where memory ran out, a
 -- beginning of them, and the rest are those that are missing.
@@ -23,7 +23,7 @@ pub record IsFedAll {E : Type 0} (listed : List Instrument) (old new : Feeding)
     (result : Result (Unit {0}) E) : Type 0 where
   pub made : List Move
   pub rest : List Move
-  pub appended : new.turns ≡ old.turns ++ made
+  pub appended : new.moves ≡ old.moves ++ made
   pub front : trace old.arbiter.channel new.events
       ≡ trace old.arbiter.channel old.events ++ (made ++ rest)
   pub whole : OnOk result ((rest ≡ []) × IsSettled listed new.events new.arbiter
@@ -42,6 +42,6 @@ pub record HasComeTo (events : List Event) (made : List Move) (old new : View) :
 pub record MakesMoves {E : Type 0} (old new : Feeding) (result : Result (Unit {0}) E) : Type 0 where
   pub made : List Move
   pub rest : List Move
-  pub appended : new.turns ≡ old.turns ++ made
+  pub appended : new.moves ≡ old.moves ++ made
   pub settles : Settles old.arbiter.channel old.events (state old.arbiter) (made ++ rest)
   pub whole : OnOk result ((rest ≡ []) × HasComeTo old.events made old.arbiter new.arbiter)

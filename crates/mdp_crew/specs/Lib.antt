@@ -7,7 +7,7 @@ pub mod Orders
 pub mod Batches
 pub mod Work
 pub mod Answering
-pub mod Rounds
+pub mod TakenRounds
 pub mod Publishing
 pub mod Outlets
 pub mod Collecting

@@ -12,7 +12,7 @@ ghost use Rattle.mdp_crew.specs.Batches.{HasTakenMore, events_taken};
 use crate::batch::Batch;
 use crate::feeding::feed_all;
 use crate::last_orders::LastOrders;
-use crate::order::{Order, send_done, send_steps};
+use crate::order::{Order, send_done, send_moves};
 use mdp_arbiter::{Arbiter, Standing};
 use mdp_engine::Event;
 use mdp_lanes::{IntakeReceiver, LaneSender};
@@ -49,12 +49,12 @@ fn send_on<R: Wait, A: Allocator + Copy>(
         → StopsWithin (sending before senders.old arbiter.old)
         (sending (before ++ map event_of events.items) senders.new arbiter.new)) }
 {
-    let mut turns = Vec::new(alloc);
-    feed_all(alloc, arbiter, events, &mut turns)?;
-    if turns.is_empty() {
+    let mut owned_moves = Vec::new(alloc);
+    feed_all(alloc, arbiter, events, &mut owned_moves)?;
+    if owned_moves.is_empty() {
         return Ok(());
     }
-    send_steps(rt, alloc, senders, turns, last)
+    send_moves(rt, alloc, senders, owned_moves, last)
 }
 
 // Takes a batch, and sends what its events make possible.

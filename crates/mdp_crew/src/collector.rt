@@ -4,7 +4,7 @@
 ghost use Rattle.std.specs.Prelude.{◌≡◌, ◌<◌, ◌≤◌, ◌-◌, ◌^◌, ◌++◌, ℕ, false, List, OnOk, IfErr, IfNone, Result, Some, length, map, take, vec_len, vec_capacity};
 ghost use Rattle.std.specs.List.{list_any};
 ghost use Rattle.mdp_crew.specs.Faults.{FailsBy, written_before};
-ghost use Rattle.mdp_crew.specs.Rounds.{all_took, is_told, lasts, one_each};
+ghost use Rattle.mdp_crew.specs.TakenRounds.{all_took, is_told, lasts, one_each};
 ghost use Rattle.mdp_reports.specs.FromAnswers.{told_in_answer};
 
 use crate::crew::Post;

@@ -1,6 +1,6 @@
 //! The last orders of the arbiter, of which it holds a share.
 
-use crate::steps::Steps;
+use crate::shared_moves::SharedMoves;
 use arrayvec::ArrayVec;
 use std::alloc::Allocator;
 
@@ -11,7 +11,7 @@ const MOST_HELD: usize = 80;
 /// the workers are through with it, that is the arbiter, which has less to do than they.
 #[derive(Drop)]
 pub struct LastOrders<A: Allocator> {
-    shares: ArrayVec<Option<Steps<A>>, MOST_HELD>,
+    shares: ArrayVec<Option<SharedMoves<A>>, MOST_HELD>,
     // where the next one goes, in the place of the oldest once all places are taken
     next: usize,
 }
@@ -26,7 +26,7 @@ impl<A: Allocator> LastOrders<A> {
     }
 
     /// Holds one more, and lets go of the oldest where there is no room.
-    pub fn hold(&mut self, order: Steps<A>) {
+    pub fn hold(&mut self, order: SharedMoves<A>) {
         let place = self.next % MOST_HELD;
         match self.shares.get_mut(place) {
             Some(held) => *held = Some(order),

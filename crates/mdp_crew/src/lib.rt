@@ -18,9 +18,9 @@ mod publishing;
 mod rounds;
 mod running;
 mod share;
+mod shared_moves;
 mod site;
 mod starts;
-mod steps;
 #[cfg(test)]
 mod tests;
 mod worker;

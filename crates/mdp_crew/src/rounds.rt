@@ -2,7 +2,7 @@
 
 ghost use Rattle.std.specs.Prelude.{◌≡◌, ◌≤◌, ◌+◌, [], ◌++◌, false, List, length, vec_len, vec_capacity};
 ghost use Rattle.std.specs.List.{list_any};
-ghost use Rattle.mdp_crew.specs.Rounds.{all_finish, all_tell, all_took, is_finished, is_told, last_of, lasts, one_each};
+ghost use Rattle.mdp_crew.specs.TakenRounds.{all_finish, all_tell, all_took, is_finished, is_told, last_of, lasts, one_each};
 
 use crate::crew::Post;
 use mdp_lanes::LaneReceiver;
@@ -27,35 +27,35 @@ pub fn take_round<R: Wait, A: Allocator + Copy>(
     }
 }
 
-// Tells whether an answer tells reports.
+// Returns whether an answer tells reports.
 fn tells<A: Allocator>(answer: &Answer<A>) -> bool
     ensures { result ≡ is_told answer.now }
 {
     matches!(answer, Answer::Tells(_))
 }
 
-// Tells whether an answer says that the worker has finished.
+// Returns whether an answer says that the worker has finished.
 fn finishes<A: Allocator>(answer: &Answer<A>) -> bool
     ensures { result ≡ is_finished answer.now }
 {
     matches!(answer, Answer::Finished)
 }
 
-/// Tells whether each answer of a round tells reports.
+/// Returns whether each answer of a round tells reports.
 pub fn all_are_told<A: Allocator>(round: &[Answer<A>]) -> bool
     ensures { result ≡ all_tell round.now }
 {
     round.iter().all(tells)
 }
 
-/// Tells whether each worker of a round has finished.
+/// Returns whether each worker of a round has finished.
 pub fn all_are_finished<A: Allocator>(round: &[Answer<A>]) -> bool
     ensures { result ≡ all_finish round.now }
 {
     round.iter().all(finishes)
 }
 
-// Tells whether an answer of a round tells reports.
+// Returns whether an answer of a round tells reports.
 fn one_tells<A: Allocator>(round: &[Answer<A>]) -> bool
     ensures { result ≡ list_any is_told round.now }
 {

@@ -143,7 +143,7 @@ where
     )
 }
 
-// Tells what the run comes to: what the collector met goes before what the arbiter met.
+// Returns what the run comes to: what the collector met goes before what the arbiter met.
 fn outcome(
     collected: Result<(), RunFault>,
     standing: Result<Standing, Memory>,

@@ -2,8 +2,8 @@
 
 /// Which threads of a run may be started.
 pub trait Starts {
-    /// Tells whether the thread of this number may be started: the readers of A, B and S are 0, 1 and 2, the arbiter is
-    /// 3, and the workers come behind it.
+    /// Returns whether the thread of this number may be started: the readers of A, B and S are 0, 1 and 2, the arbiter
+    /// is 3, and the workers come behind it.
     fn may_start(&self, thread: usize) -> bool;
 }
 

@@ -4,8 +4,8 @@
 mod channel;
 mod in_threads;
 mod in_turn;
+mod moves;
 mod on_board;
-mod turns;
 mod writer;
 
 use crate::fault::RunFault;

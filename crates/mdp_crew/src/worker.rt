@@ -1,9 +1,9 @@
-//! A worker: it keeps the books of its own securities, and answers each batch of steps with what is
+//! A worker: it keeps the books of its own securities, and answers each batch of moves with what is
 //! printed of them.
 
 ghost use Rattle.std.specs.Prelude.{◌≡◌, ◌≤◌, [], IfOk, OnOk, map};
 ghost use Rattle.mdp_reports.specs.Reporting.{desks_after_moves, reports_of_moves};
-ghost use Rattle.mdp_arbiter.specs.Turns.{move_of};
+ghost use Rattle.mdp_arbiter.specs.OwnedMoves.{move_of};
 ghost use Rattle.mdp_templates.specs.Instrument.{AreFit};
 ghost use Rattle.mdp_crew.specs.Answering.{AnswersOne, HasDrained};
 ghost use Rattle.mdp_crew.specs.Shares.{share_in};
@@ -12,7 +12,7 @@ ghost use Rattle.mdp_crew.specs.Work.{HasAnswered};
 use crate::gate::Gate;
 use crate::order::Order;
 use crate::share::Share;
-use mdp_arbiter::Turn;
+use mdp_arbiter::OwnedMove;
 use mdp_lanes::{LaneReceiver, LaneSender};
 use mdp_reports::{Answer, RecentRoom, Reports, Worker};
 use mdp_templates::Memory;
@@ -33,8 +33,8 @@ pub struct Working<A: Allocator + Copy> {
     pub ends: WorkerEnds<A>,
     // of the share
     number: u16,
-    // how many steps it made
-    step: u64,
+    // how many moves it made
+    made: u64,
     // how much was reported lately
     room: RecentRoom,
 }
@@ -52,31 +52,31 @@ fn drain_orders<R: Wait, A: Allocator + Copy>(rt: &R, orders: &mut LaneReceiver<
 }
 
 impl<A: Allocator + Copy> Working<A> {
-    // Makes these steps, and reports them. The gate is told of each step before, and they are
+    // Makes these moves, and reports them. The gate is told of each before, and they are
     // counted on.
     fn report<G: Gate>(
         &mut self,
         gate: &G,
         alloc: A,
-        turns: &[Turn<A>],
+        owned_moves: &[OwnedMove<A>],
     ) -> Result<Reports<A>, Memory>
         ensures worker { OnOk result (self.new.worker
             ≡ record self.old.worker {
               desks = desks_after_moves self.old.worker.slots
-                  (map move_of turns.now) self.old.worker.desks;
+                  (map move_of owned_moves.now) self.old.worker.desks;
             }) }
         ensures reports { IfOk result (λ reports. reports
             ≡ reports_of_moves self.old.worker.slots
-            (map move_of turns.now) self.old.worker.desks) }
+            (map move_of owned_moves.now) self.old.worker.desks) }
         ensures ends { self.new.ends ≡ self.old.ends }
     {
-        let mut reports = Reports::with_room(alloc, self.room.room_for(turns.len()))?;
-        for turn in turns {
-            self.step = self.step.saturating_add(1);
-            gate.arrive(usize::from(self.number), self.step);
-            self.worker.report_turn(turn, &mut reports)?;
+        let mut reports = Reports::with_room(alloc, self.room.room_for(owned_moves.len()))?;
+        for owned_move in owned_moves {
+            self.made = self.made.saturating_add(1);
+            gate.arrive(usize::from(self.number), self.made);
+            self.worker.report_move(owned_move, &mut reports)?;
         }
-        self.room.count(turns.len(), reports.room());
+        self.room.count(owned_moves.len(), reports.room());
         Ok(reports)
     }
 
@@ -85,7 +85,7 @@ impl<A: Allocator + Copy> Working<A> {
         ensures { AnswersOne self.old self.new result }
     {
         match self.ends.orders.take(rt) {
-            Order::Take(steps) => match self.report(gate, alloc, steps.turns()) {
+            Order::Take(moves) => match self.report(gate, alloc, moves.as_slice()) {
                 Ok(reports) => {
                     self.ends.answers.put(rt, Answer::Tells(reports));
                     true
@@ -133,7 +133,7 @@ pub fn work<R: Wait, G: Gate, A: Allocator + Copy>(
         worker,
         ends,
         number,
-        step: 0,
+        made: 0,
         room: RecentRoom::none(),
     };
     for _ in rt.forever() {

@@ -15,7 +15,7 @@ use Rattle.mdp_books.specs.Book.{after_entry}
 use Rattle.mdp_books.specs.Feed.{Sent, names, place_at, after_entries_from}
 use Rattle.mdp_desks.specs.declared.desk.Desk.{Desk}
 use Rattle.mdp_desks.specs.Lines.{Seen}
-use Rattle.mdp_desks.specs.Moments.{ended}
+use Rattle.mdp_desks.specs.Moments.{at_event_end}
 use Rattle.mdp_desks.specs.Desks.{desk_at_start, desk_entered, desk_heard, desks_through, desk_settled, desk_standing, desk_seen, desks_after, desks_moment, rebased_desks}
 use Rattle.mdp_desks.specs.Beside.{listed_in, marks_of, AreBeside}
 
@@ -228,10 +228,10 @@ ended_desks packet message entries ds end is =
     ap (map (desk_settled packet)) (all_through packet message 1 entries ds) ∙ all_settled packet message entries ds ∙ ap (λ (b : Bool). desks_after (sent_with packet message entries b) ds) (sym is)
 
 pub ended_moment : (packet message : ℕ) (entries : List Entry) (ds : List Desk) (end : Bool) → end ≡ true
-    → ended (record { packet = packet; message = message }) (map (desk_standing packet) (desks_through packet message 1 entries ds)) ∷ [] ≡ desks_moment (sent_with packet message entries end) ds
+    → at_event_end (record { packet = packet; message = message }) (map (desk_standing packet) (desks_through packet message 1 entries ds)) ∷ [] ≡ desks_moment (sent_with packet message entries end) ds
 ended_moment packet message entries ds end is =
-    ap (λ (xs : List Desk). ended (record { packet = packet; message = message }) (map (desk_standing packet) xs) ∷ []) (all_through packet message 1 entries ds)
-    ∙ ap (λ (seen : List (Option Seen)). ended (record { packet = packet; message = message }) seen ∷ []) (all_standing packet message entries ds)
+    ap (λ (xs : List Desk). at_event_end (record { packet = packet; message = message }) (map (desk_standing packet) xs) ∷ []) (all_through packet message 1 entries ds)
+    ∙ ap (λ (seen : List (Option Seen)). at_event_end (record { packet = packet; message = message }) seen ∷ []) (all_standing packet message entries ds)
     ∙ ap (λ (b : Bool). desks_moment (sent_with packet message entries b) ds) (sym is)
 
 -- ---- where it ends none

@@ -2,7 +2,7 @@
 use Rattle.std.specs.Prelude.{List, [], ◌∷◌, Bool, false, ◌||◌, map, fold, Option, Some, None}
 use Rattle.mdp_templates.specs.declared.instrument.Instrument.{Instrument}
 use Rattle.mdp_desks.specs.Lines.{Seen}
-use Rattle.mdp_desks.specs.Moments.{Moment, ended, leapt}
+use Rattle.mdp_desks.specs.Moments.{Moment, at_event_end, at_jump}
 
 -- whether the book of what an event end shows is printed
 abbrev pub is_seen_printed : Option Seen → Bool
@@ -17,8 +17,8 @@ with_marks (mark ∷ marks) (other ∷ others) = (mark || other) ∷ with_marks 
 
 -- a mark for each listed security, with those whose book a moment prints; a jump prints none
 abbrev pub changed_by : List Bool → Moment → List Bool
-changed_by marks (ended end seen) = with_marks marks (map is_seen_printed seen)
-changed_by marks (leapt old new) = marks
+changed_by marks (at_event_end end seen) = with_marks marks (map is_seen_printed seen)
+changed_by marks (at_jump old new) = marks
 
 -- with those of one moment after another
 abbrev pub changed_through : List Bool → List Moment → List Bool

@@ -3,7 +3,7 @@ pub mod Due
 pub mod Shown
 pub mod Desks
 pub mod Beside
-pub mod Standing
+pub mod Shows
 pub mod Moments
 pub mod Changed
 pub mod Shares

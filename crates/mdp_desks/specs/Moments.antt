@@ -9,16 +9,16 @@ use Rattle.mdp_print.specs.Texts.{jump_line}
 use Rattle.mdp_arbiter.specs.Machine.{Move}
 use Rattle.mdp_arbiter.specs.Machine.Move.{passed, jumped}
 use Rattle.mdp_desks.specs.Lines.{Seen, lines_as}
-use Rattle.mdp_desks.specs.Shown.{Start, Standing, standing_after, standing_through, start_seen}
+use Rattle.mdp_desks.specs.Shown.{Footing, SinceJump, since_after, since_through, seen_since}
 
 -- an event ends; or recovery jumps from one number to a later one
 pub data Moment : Type 0 where
-  ended : EventEnd → List (Option Seen) → Moment
-  leapt : ℕ → ℕ → Moment
+  at_event_end : EventEnd → List (Option Seen) → Moment
+  at_jump : ℕ → ℕ → Moment
 
 -- the one of a message that ends an event, which shows this of the listed securities; none where it ends none
 abbrev pub moment_at : Sent → List (Option Seen) → List Moment
-moment_at m seen = if m.end then ended (end_at m) seen ∷ [] else []
+moment_at m seen = if m.end then at_event_end (end_at m) seen ∷ [] else []
 
 -- a walk over messages: what each shows where things stand so, and where they stand after it
 pub record Walk (S : Type 0) : Type 0 where
@@ -35,25 +35,25 @@ moments_through walk s (m ∷ ms) =
 abbrev pub and_then : Sent → List Sent → List Sent
 and_then m before = before ++ m ∷ []
 
--- from the last jump's starts on, where the messages passed since say how things stand
-abbrev pub walk_from : List Start → Walk (List Sent)
-walk_from starts = record { shows = λ m before. map (start_seen before m) starts; goes = and_then }
+-- from the last jump's footings on, where the messages passed since say how things stand
+abbrev pub walk_from : List Footing → Walk (List Sent)
+walk_from footings = record { shows = λ m before. map (seen_since before m) footings; goes = and_then }
 
-abbrev pub moments_from : List Start → List Sent → List Sent → List Moment
-moments_from starts since ms = moments_through (walk_from starts) since ms
+abbrev pub moments_from : List Footing → List Sent → List Sent → List Moment
+moments_from footings since ms = moments_through (walk_from footings) since ms
 
 -- those of a move, and of moves one after another, where things stand so
-abbrev pub moments_of : Standing → Move → List Moment
-moments_of s (passed packet) = moments_from s.starts s.since (sent_in packet)
-moments_of s (jumped old new snapshots) = leapt old new ∷ []
+abbrev pub moments_of : SinceJump → Move → List Moment
+moments_of s (passed packet) = moments_from s.footings s.since (sent_in packet)
+moments_of s (jumped old new snapshots) = at_jump old new ∷ []
 
-abbrev pub moments_on : List Instrument → Standing → List Move → List Moment
+abbrev pub moments_on : List Instrument → SinceJump → List Move → List Moment
 moments_on listed s [] = []
-moments_on listed s (m ∷ moves) = moments_of s m ++ moments_on listed (standing_through listed s m) moves
+moments_on listed s (m ∷ moves) = moments_of s m ++ moments_on listed (since_through listed s m) moves
 
 -- those of moves that come after these ones
 abbrev pub moments_after : List Instrument → List Move → List Move → List Moment
-moments_after listed before moves = moments_on listed (standing_after listed before) moves
+moments_after listed before moves = moments_on listed (since_after listed before) moves
 
 abbrev pub moments : List Instrument → List Move → List Moment
 moments listed moves = moments_after listed [] moves
@@ -68,8 +68,8 @@ moments_by listed before (batch ∷ batches) =
 
 -- all lines of a moment
 abbrev pub moment_text : Moment → List ℕ
-moment_text (ended end seen) = lines_as end seen
-moment_text (leapt old new) = jump_line old new
+moment_text (at_event_end end seen) = lines_as end seen
+moment_text (at_jump old new) = jump_line old new
 
 -- of one moment after another
 abbrev pub text_of_moments : List Moment → List ℕ

@@ -8,7 +8,7 @@ use Rattle.mdp_quotes.specs.declared.top.TopOfBook.{TopOfBook}
 use Rattle.mdp_quotes.specs.Best.{best_of}
 use Rattle.mdp_quotes.specs.Top.{top_of_book}
 use Rattle.mdp_desks.specs.Lines.{Seen, book_lines}
-use Rattle.mdp_desks.specs.Moments.{Moment, ended, leapt}
+use Rattle.mdp_desks.specs.Moments.{Moment, at_event_end, at_jump}
 
 pub record Told : Type 0 where
   pub slot : ℕ
@@ -41,16 +41,16 @@ told_from end slot [] = []
 told_from end slot (s ∷ seen) = told_there end slot s ++ told_from end (slot + 1) seen
 
 pub data Report : Type 0 where
-  tells : EventEnd → List Told → Report
-  leaps : ℕ → ℕ → Report
+  of_event_end : EventEnd → List Told → Report
+  of_jump : ℕ → ℕ → Report
 
 -- what the worker of these slots reports of a moment of its own securities
 abbrev pub report_by : List ℕ → Moment → Report
-report_by slots (ended end seen) = tells end (told_by end slots seen)
-report_by slots (leapt old new) = leaps old new
+report_by slots (at_event_end end seen) = of_event_end end (told_by end slots seen)
+report_by slots (at_jump old new) = of_jump old new
 
 -- what a worker reports of a moment of all securities
 abbrev pub report_of : (ℕ → Bool) → Moment → Report
-report_of mine (ended end seen) =
-    tells end (filter (λ (t : Told). mine t.slot) (told_from end 0 seen))
-report_of mine (leapt old new) = leaps old new
+report_of mine (at_event_end end seen) =
+    of_event_end end (filter (λ (t : Told). mine t.slot) (told_from end 0 seen))
+report_of mine (at_jump old new) = of_jump old new

@@ -43,7 +43,7 @@ impl<A: Allocator> Model for Desks<A> {
         × AreDueBefore d.until d.due d.desks.items };
 }
 
-// Tells the place of the security that an entry names, if it is listed. The place at hand is looked at first, since
+// Returns the place of the security that an entry names, if it is listed. The place at hand is looked at first, since
 // entries in a row often name one security.
 fn slot_named<A: Allocator + Copy>(
     slots: &Slots<A>,
@@ -386,16 +386,17 @@ impl<A: Allocator + Copy> Desks<A> {
         slot
     }
 
-    /// Takes the entries of message `message` of packet `packet`, at most 255, each at the desk of its security.
-    pub fn hear(&mut self, packet: u32, message: u64, entries: &[Entry])
+    /// Takes the entries, at most 255, of the message that stands where an event may end, each at the desk of its
+    /// security.
+    pub fn hear(&mut self, end: EventEnd, entries: &[Entry])
         requires { length entries.now ≤ 255 }
-        ensures { self.new ≡ desks_through packet message 1 entries.now self.old }
+        ensures { self.new ≡ desks_through end.packet end.message 1 entries.now self.old }
     {
         let mut slot = 0;
         for n in 0..entries.len() {
             let place = Place {
-                packet,
-                message,
+                packet: end.packet,
+                message: end.message,
                 entry: n as u8 + 1,
             };
             slot = self.enter(slot, place, &entries[n]);

@@ -47,7 +47,7 @@ fn first_marked(marks: &[u8], low: usize, high: usize) -> Option<usize>
     }
 }
 
-// Tells a place below which no mark is set, where none is below `low` and all that are set stand below `high`.
+// Returns a place below which no mark is set, where none is below `low` and all that are set stand below `high`.
 fn low_from(marks: &[u8], low: usize, high: usize) -> usize
     requires { high ≤ length marks.now }
     ensures short { result ≤ high }
@@ -85,14 +85,14 @@ impl<A: Allocator> Marked<A> {
         })
     }
 
-    /// Tells how many places there are.
+    /// Returns how many places there are.
     pub fn len(&self) -> usize
         ensures { result ≡ length self.now }
     {
         self.marks.len()
     }
 
-    /// Tells whether the mark at a place is set.
+    /// Returns whether the mark at a place is set.
     pub fn is_set(&self, slot: usize) -> bool
         requires { slot < length self.now }
         ensures { result ≡ get_or self.now slot false }

@@ -10,10 +10,10 @@ use Rattle.mdp_books.specs.Feed.{Sent, sent_as, sent_from, sent_in, sent_by, boo
 use Rattle.mdp_books.proofs.Feeds.{behind-append, behind-push, book_at-append}
 use Rattle.mdp_engine.specs.Feed.{NumberedFrom, IsFeed}
 use Rattle.mdp_desks.specs.Lines.{Seen}
-use Rattle.mdp_engine.specs.Owed.{Footing, seen_at}
-use Rattle.mdp_desks.specs.Shown.{book_since, start_seen}
+use Rattle.mdp_engine.specs.Owed.{NumberedFooting, seen_at}
+use Rattle.mdp_desks.specs.Shown.{book_since, seen_since}
 use Rattle.mdp_desks.specs.Due.{is_printed}
-use Rattle.mdp_engine.specs.Agreed.{start_of}
+use Rattle.mdp_engine.specs.Agreed.{footing_of}
 
 -- ---- fronts of the feed
 
@@ -84,7 +84,7 @@ behind-front feed base n is le =
 -- ---- what one packet shows
 
 -- a security that hears a packet has heard all that stands behind its base
-abbrev pub Heard : List PacketContent → ℕ → List Sent → Footing → Type 0
+abbrev pub Heard : List PacketContent → ℕ → List Sent → NumberedFooting → Type 0
 Heard feed k before i = nat_lt i.base k ≡ true → before ≡ sent_by (take i.base feed) ++ behind i.base before
 
 abbrev seen_as : Instrument → Bool → Book → Option Seen
@@ -93,29 +93,29 @@ seen_as instrument printed book = Some (record { instrument = instrument; printe
 behind-heard : (base : ℕ) (before : List Sent) (m : Sent) → nat_lt base m.packet ≡ true → behind base (before ++ m ∷ []) ≡ behind base before ++ m ∷ []
 behind-heard base before m over = behind-push base before m ∙ ap (λ (b : Bool). cond b (behind base before ++ m ∷ []) (behind base before)) over
 
-seen_case : (feed : List PacketContent) (before : List Sent) (m : Sent) (i : Footing) (e b : Bool) → nat_lt i.base m.packet ≡ b → Heard feed m.packet before i
+seen_case : (feed : List PacketContent) (before : List Sent) (m : Sent) (i : NumberedFooting) (e b : Bool) → nat_lt i.base m.packet ≡ b → Heard feed m.packet before i
     → cond (e && b) (seen_as i.instrument (is_printed i.instrument.id i.jumped (behind i.base before) m) (book_at i.instrument (before ++ m ∷ []))) None
-    ≡ cond (e && b) (seen_as i.instrument (is_printed i.instrument.id i.jumped (behind i.base before) m) (book_since (start_of feed i) (before ++ m ∷ []))) None
+    ≡ cond (e && b) (seen_as i.instrument (is_printed i.instrument.id i.jumped (behind i.base before) m) (book_since (footing_of feed i) (before ++ m ∷ []))) None
 seen_case feed before m i false b over is = refl
 seen_case feed before m i true false under is = refl
 seen_case feed before m i true true over is =
     let listed = i.instrument in
     let head = sent_by (take i.base feed) in
     let h = behind i.base before in
-    let book : book_at listed (before ++ m ∷ []) ≡ book_since (start_of feed i) (before ++ m ∷ []) =
+    let book : book_at listed (before ++ m ∷ []) ≡ book_since (footing_of feed i) (before ++ m ∷ []) =
     ap (λ (t : List Sent). book_at listed (t ++ m ∷ [])) (is over)
     ∙ ap (book_at listed) (append_assoc head h (m ∷ []))
     ∙ book_at-append listed head (h ++ m ∷ [])
     ∙ ap (book_from listed (book_at listed head)) (sym (behind-heard i.base before m over)) in
     ap (λ (k : Book). seen_as listed (is_printed listed.id i.jumped h m) k) book
 
-pub all_seen : (feed : List PacketContent) (before : List Sent) (m : Sent) (fs : List Footing) → AllByRecursion (Heard feed m.packet before) fs → map (seen_at before m) fs ≡ map (start_seen before m) (map (start_of feed) fs)
+pub all_seen : (feed : List PacketContent) (before : List Sent) (m : Sent) (fs : List NumberedFooting) → AllByRecursion (Heard feed m.packet before) fs → map (seen_at before m) fs ≡ map (seen_since before m) (map (footing_of feed) fs)
 all_seen feed before m [] is = refl
 all_seen feed before m (i ∷ fs) is =
     ap (λ (s : Option Seen). s ∷ map (seen_at before m) fs) (seen_case feed before m i m.end (nat_lt i.base m.packet) refl is.0)
-    ∙ ap (λ (t : List (Option Seen)). start_seen before m (start_of feed i) ∷ t) (all_seen feed before m fs is.1)
+    ∙ ap (λ (t : List (Option Seen)). seen_since before m (footing_of feed i) ∷ t) (all_seen feed before m fs is.1)
 
-pub heard_more : (feed : List PacketContent) (before : List Sent) (m : Sent) (fs : List Footing) → AllByRecursion (Heard feed m.packet before) fs → AllByRecursion (Heard feed m.packet (before ++ m ∷ [])) fs
+pub heard_more : (feed : List PacketContent) (before : List Sent) (m : Sent) (fs : List NumberedFooting) → AllByRecursion (Heard feed m.packet before) fs → AllByRecursion (Heard feed m.packet (before ++ m ∷ [])) fs
 heard_more feed before m [] is = tt
 heard_more feed before m (i ∷ fs) is =
     let more : Heard feed m.packet (before ++ m ∷ []) i = λ over.

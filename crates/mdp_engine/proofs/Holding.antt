@@ -13,11 +13,11 @@ use Rattle.mdp_arbiter.specs.Machine.{Move, State, after, after_all, first_state
 use Rattle.mdp_arbiter.specs.Machine.Move.{passed, jumped}
 use Rattle.mdp_desks.specs.declared.desk.Desk.{Desk}
 use Rattle.mdp_desks.specs.Due.{is_due}
-use Rattle.mdp_desks.specs.Shown.{Standing, Start, standing_after, standing_through}
-use Rattle.mdp_desks.specs.Standing.{DeskShows}
+use Rattle.mdp_desks.specs.Shown.{SinceJump, Footing, since_after, since_through}
+use Rattle.mdp_desks.specs.Shows.{DeskShows}
 use Rattle.mdp_engine.specs.Feed.{IsFeed}
-use Rattle.mdp_engine.specs.Owed.{Footing, footings_at_jump, footings_before_jump}
-use Rattle.mdp_engine.specs.Agreed.{start_of, AreOf}
+use Rattle.mdp_engine.specs.Owed.{NumberedFooting, numbered_at_jump, numbered_before_jump}
+use Rattle.mdp_engine.specs.Agreed.{footing_of, AreOf}
 use Rattle.mdp_engine.specs.Engine.{HoldsBook, LawOfOwedBooks}
 use Rattle.mdp_engine.proofs.Agreeing.{Agrees, SameHeard, agrees_at_first, jump_agrees, pass_agrees}
 use Rattle.mdp_engine.proofs.Fronts.{behind-front, sent_by-split}
@@ -27,25 +27,25 @@ use Rattle.mdp_engine.proofs.Owing.{listed_channel}
 -- ---- where the moves end
 
 -- the listed securities stand as the feed has them, with some bases
-record EndsAs (feed : List PacketContent) (next : ℕ) (sh : Standing) : Type 0 where
-  pub footings : List Footing
+record EndsAs (feed : List PacketContent) (next : ℕ) (sh : SinceJump) : Type 0 where
+  pub footings : List NumberedFooting
   pub agrees : Agrees feed next footings sh
 
-agrees_on : (listed : List Instrument) (feed : List PacketContent) (s : State) (fs : List Footing) (sh : Standing) (moves : List Move) → IsFeed feed → Agrees feed s.next fs sh → AreOf listed feed s.next moves
-    → EndsAs feed (after_all s moves).next (fold (standing_through listed) sh moves)
+agrees_on : (listed : List Instrument) (feed : List PacketContent) (s : State) (fs : List NumberedFooting) (sh : SinceJump) (moves : List Move) → IsFeed feed → Agrees feed s.next fs sh → AreOf listed feed s.next moves
+    → EndsAs feed (after_all s moves).next (fold (since_through listed) sh moves)
 agrees_on listed feed s fs sh [] fed agrees are = record { footings = fs; agrees = agrees }
 agrees_on listed feed s fs sh (passed p ∷ moves) fed agrees (number, at, later) =
     let here : Agrees feed p.number fs sh = subst (λ (k : ℕ). Agrees feed k fs sh) (sym number) agrees in
-    let next : Agrees feed (s.next + 1) fs (standing_through listed sh (passed p)) = subst (λ (k : ℕ). Agrees feed (k + 1) fs (standing_through listed sh (passed p))) number (pass_agrees listed feed fs sh p at here) in
-    agrees_on listed feed (after s (passed p)) fs (standing_through listed sh (passed p)) moves fed next later
+    let next : Agrees feed (s.next + 1) fs (since_through listed sh (passed p)) = subst (λ (k : ℕ). Agrees feed (k + 1) fs (since_through listed sh (passed p))) number (pass_agrees listed feed fs sh p at here) in
+    agrees_on listed feed (after s (passed p)) fs (since_through listed sh (passed p)) moves fed next later
 agrees_on listed feed s fs sh (jumped from to snapshots ∷ moves) fed agrees (is, later) =
-    agrees_on listed feed (after s (jumped from to snapshots)) (footings_at_jump listed (map (λ (x : SnapshotContent). x.last) snapshots)) (standing_through listed sh (jumped from to snapshots)) moves fed
+    agrees_on listed feed (after s (jumped from to snapshots)) (numbered_at_jump listed (map (λ (x : SnapshotContent). x.last) snapshots)) (since_through listed sh (jumped from to snapshots)) moves fed
     (jump_agrees listed feed to snapshots fed is) later
 
 -- ---- one security
 
 -- its book of the feed, by what stands behind its base
-book_behind : (feed : List PacketContent) (n : ℕ) (i : Footing) → IsFeed feed
+book_behind : (feed : List PacketContent) (n : ℕ) (i : NumberedFooting) → IsFeed feed
     → book_at i.instrument (sent_by (take (max n i.base) feed)) ≡ book_from i.instrument (book_at i.instrument (sent_by (take i.base feed))) (behind i.base (sent_by (take n feed)))
 book_behind feed n i fed = elim (leb_tells i.base n) [
   | inl under ↦
@@ -61,7 +61,7 @@ book_behind feed n i fed = elim (leb_tells i.base n) [
       ap (λ (k : ℕ). book_at listed (sent_by (take k feed))) most ∙ ap (book_from listed (book_at listed (sent_by (take i.base feed)))) (sym none)
 ]
 
-desk_holds : (feed : List PacketContent) (next : ℕ) (i : Footing) (since : List Sent) (desk : Desk) → IsFeed feed → SameHeard since (sent_by (take (next - 1) feed)) (start_of feed i) → DeskShows since (start_of feed i) desk → HoldsBook feed next (start_of feed i) desk
+desk_holds : (feed : List PacketContent) (next : ℕ) (i : NumberedFooting) (since : List Sent) (desk : Desk) → IsFeed feed → SameHeard since (sent_by (take (next - 1) feed)) (footing_of feed i) → DeskShows since (footing_of feed i) desk → HoldsBook feed next (footing_of feed i) desk
 desk_holds feed next i since desk fed same shows = record {
   instrument = shows.instrument;
   base = shows.base;
@@ -71,8 +71,8 @@ desk_holds feed next i since desk fed same shows = record {
 
 -- ---- all securities
 
-all_hold : (feed : List PacketContent) (next : ℕ) (since : List Sent) (fs : List Footing) (desks : List Desk) → IsFeed feed → AllByRecursion (SameHeard since (sent_by (take (next - 1) feed))) (map (start_of feed) fs)
-    → AllZip (DeskShows since) (map (start_of feed) fs) desks → AllZip (HoldsBook feed next) (map (start_of feed) fs) desks
+all_hold : (feed : List PacketContent) (next : ℕ) (since : List Sent) (fs : List NumberedFooting) (desks : List Desk) → IsFeed feed → AllByRecursion (SameHeard since (sent_by (take (next - 1) feed))) (map (footing_of feed) fs)
+    → AllZip (DeskShows since) (map (footing_of feed) fs) desks → AllZip (HoldsBook feed next) (map (footing_of feed) fs) desks
 all_hold feed next since [] [] fed same is = tt
 all_hold feed next since [] (d ∷ desks) fed same is = elim is [ ]
 all_hold feed next since (i ∷ fs) [] fed same is = elim is [ ]
@@ -83,12 +83,12 @@ pub law_of_owed_books : LawOfOwedBooks
 law_of_owed_books listed feed es gone v honest stands =
     let channel = v.arbiter.channel in
     let moves = trace channel es in
-    let sh = standing_after listed moves in
+    let sh = since_after listed moves in
     let are : AreOf listed feed 1 moves =
     subst (λ (c : Channel). AreOf listed feed 1 (trace c es)) (sym (listed_channel listed channel stands.settled.ids)) (honest_moves_agree (record { listed = listed; room = channel.room; start = channel.start }) feed es honest) in
-    let end : EndsAs feed (state_at channel es).next sh = agrees_on listed feed (first_state channel) (footings_before_jump listed) (standing_after listed []) moves honest.complete (agrees_at_first feed listed) are in
+    let end : EndsAs feed (state_at channel es).next sh = agrees_on listed feed (first_state channel) (numbered_before_jump listed) (since_after listed []) moves honest.complete (agrees_at_first feed listed) are in
     let fs = end.footings in
     let agrees : Agrees feed v.arbiter.next fs sh = subst (λ (s : State). Agrees feed s.next fs sh) (sym stands.settled.state) end.agrees in
-    let same = subst (λ (starts : List Start). AllByRecursion (SameHeard sh.since (sent_by (take (v.arbiter.next - 1) feed))) starts) agrees.starts agrees.same in
-    let each = subst (λ (starts : List Start). AllZip (DeskShows sh.since) starts v.desks) agrees.starts stands.shows.each in
-    subst (λ (starts : List Start). AllZip (HoldsBook feed v.arbiter.next) starts v.desks) (sym agrees.starts) (all_hold feed v.arbiter.next sh.since fs v.desks honest.complete same each)
+    let same = subst (λ (footings : List Footing). AllByRecursion (SameHeard sh.since (sent_by (take (v.arbiter.next - 1) feed))) footings) agrees.footings agrees.same in
+    let each = subst (λ (footings : List Footing). AllZip (DeskShows sh.since) footings v.desks) agrees.footings stands.shows.each in
+    subst (λ (footings : List Footing). AllZip (HoldsBook feed v.arbiter.next) footings v.desks) (sym agrees.footings) (all_hold feed v.arbiter.next sh.since fs v.desks honest.complete same each)

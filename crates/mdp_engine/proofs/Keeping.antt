@@ -5,7 +5,7 @@ use Rattle.std.proofs.lemmas.List.Concat.{flat_map-append}
 use Rattle.std.proofs.lemmas.List.Sums.{fold-append}
 use Rattle.mdp_templates.specs.declared.instrument.Instrument.{Instrument}
 use Rattle.mdp_desks.specs.Changed.{changed_by, changed_in, changed_through, with_marks}
-use Rattle.mdp_desks.specs.Moments.{Moment, ended, leapt, moment_text}
+use Rattle.mdp_desks.specs.Moments.{Moment, at_event_end, at_jump, moment_text}
 use Rattle.mdp_engine.specs.Kept.{kept_lines}
 use Rattle.mdp_engine.specs.Engine.{Holds, View}
 
@@ -73,8 +73,8 @@ with_long (m ∷ marks) (o ∷ others) = omega (arith, with_long marks others)
 
 through_long : (marks : List Bool) (moments : List Moment) → length (changed_through marks moments) ≡ length marks
 through_long marks [] = refl
-through_long marks (ended end seen ∷ moments) = through_long (changed_by marks (ended end seen)) moments ∙ with_long marks _
-through_long marks (leapt old new ∷ moments) = through_long marks moments
+through_long marks (at_event_end end seen ∷ moments) = through_long (changed_by marks (at_event_end end seen)) moments ∙ with_long marks _
+through_long marks (at_jump old new ∷ moments) = through_long marks moments
 
 none_long : {X : Type 0} (xs : List X) → length (map (λ _. false) xs) ≡ length xs
 none_long [] = refl

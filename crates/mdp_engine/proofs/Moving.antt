@@ -21,8 +21,8 @@ use Rattle.mdp_arbiter.proofs.Runs.{law_of_events}
 use Rattle.mdp_desks.specs.declared.desk.Desk.{Desk}
 use Rattle.mdp_desks.specs.Desks.{desk_at_start, passed_desks, passed_moments, rebased_desks}
 use Rattle.mdp_desks.specs.Changed.{changed_in}
-use Rattle.mdp_desks.specs.Moments.{Moment, leapt, moments}
-use Rattle.mdp_desks.specs.Standing.{Shows}
+use Rattle.mdp_desks.specs.Moments.{Moment, at_jump, moments}
+use Rattle.mdp_desks.specs.Shows.{Shows}
 use Rattle.mdp_engine.specs.Steps.{stepped_desks, stepped_moments}
 use Rattle.mdp_engine.specs.Kept.{kept_lines}
 use Rattle.mdp_engine.specs.Engine.{View, Stands, IsUnderWay, Advances, AreChanged}
@@ -78,8 +78,8 @@ shown_step listed es moves shown now mid desks (Jump from to) (Some (jumped old 
     let taken : mid.newest ≡ map (λ (s : SnapshotContent). Some s) snapshots = newest ∙ recovery.newest in
     let many : length snapshots ≡ length listed = as_many listed now.arbiter.channel.ids es snapshots ids recovery.newest in
     let same : desks ≡ rebased_desks (map (λ (s : SnapshotContent). Some s) snapshots) now.desks = are ∙ ap (λ (b : List (Option SnapshotContent)). rebased_desks b now.desks) taken in
-    let more : shown ++ leapt from to ∷ [] ≡ shown ++ leapt old new ∷ [] = ap (λ (n : ℕ). shown ++ leapt n to ∷ []) answers.0 ∙ ap (λ (n : ℕ). shown ++ leapt old n ∷ []) answers.1 in
-    record { move = jumped old new snapshots; possible = possible; state = next; shows = shows_jumped listed moves old new snapshots now.desks desks shown (shown ++ leapt from to ∷ []) many same more shows }
+    let more : shown ++ at_jump from to ∷ [] ≡ shown ++ at_jump old new ∷ [] = ap (λ (n : ℕ). shown ++ at_jump n to ∷ []) answers.0 ∙ ap (λ (n : ℕ). shown ++ at_jump old n ∷ []) answers.1 in
+    record { move = jumped old new snapshots; possible = possible; state = next; shows = shows_jumped listed moves old new snapshots now.desks desks shown (shown ++ at_jump from to ∷ []) many same more shows }
 shown_step listed es moves shown now mid desks (Pass q) (Some (jumped old new snapshots)) possible answers next newest ids shows are = elim answers [ ]
 shown_step listed es moves shown now mid desks (Jump from to) (Some (passed p)) possible answers next newest ids shows are = elim answers [ ]
 

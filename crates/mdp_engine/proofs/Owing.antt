@@ -7,7 +7,7 @@ use Rattle.mdp_templates.specs.Instrument.{ids_of}
 use Rattle.mdp_arbiter.specs.Channel.{Channel, channel_of}
 use Rattle.mdp_arbiter.specs.Machine.{moves_of, trace}
 use Rattle.mdp_desks.specs.Moments.{Moment, moments, shown_lines, text_of_moments}
-use Rattle.mdp_engine.specs.Owed.{owed_moments, steps_of}
+use Rattle.mdp_engine.specs.Owed.{owed_moments, numbered_moves}
 use Rattle.mdp_engine.specs.Kept.{kept_lines}
 use Rattle.mdp_engine.specs.Engine.{LawOfOwedText, Stands, View}
 use Rattle.mdp_engine.specs.MomentLaws.{LawOfHonestMoments}
@@ -35,7 +35,7 @@ pub law_of_owed_text : LawOfOwedText
 law_of_owed_text listed feed es gone v honest stands =
     let is = listed_channel listed v.arbiter.channel stands.settled.ids in
     lines_so_far listed es gone v stands
-    ∙ subst (λ (c : Channel). kept_lines v.keeps_lines (moments listed (trace c es)) ≡ kept_lines v.keeps_lines (owed_moments listed feed (steps_of (trace c es)))) (sym is)
+    ∙ subst (λ (c : Channel). kept_lines v.keeps_lines (moments listed (trace c es)) ≡ kept_lines v.keeps_lines (owed_moments listed feed (numbered_moves (trace c es)))) (sym is)
     (ap (kept_lines v.keeps_lines) (law_of_honest_moments (record { listed = listed; room = v.arbiter.channel.room; start = v.arbiter.channel.start }) feed es honest))
 
 -- ---- a list of events

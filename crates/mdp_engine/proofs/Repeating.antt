@@ -24,7 +24,7 @@ use Rattle.mdp_arbiter.proofs.Appended.{closed-came, first-apart, highest-more, 
 use Rattle.mdp_arbiter.proofs.Runs.{law_of_events, settle_settles}
 use Rattle.mdp_arbiter.proofs.Standings.{receives_stands}
 use Rattle.mdp_desks.specs.Moments.{Moment}
-use Rattle.mdp_desks.specs.Standing.{Shows}
+use Rattle.mdp_desks.specs.Shows.{Shows}
 use Rattle.mdp_engine.specs.Engine.{View, IsSettled, Stands}
 
 -- ---- once settled, no move is possible

@@ -6,9 +6,9 @@ use Rattle.mdp_templates.specs.Snapshot.{SnapshotContent}
 use Rattle.mdp_templates.specs.declared.instrument.Instrument.{Instrument}
 use Rattle.mdp_books.specs.Feed.{sent_by, book_at}
 use Rattle.mdp_engine.specs.Feed.{IsIn, IsJumpedTo}
-use Rattle.mdp_engine.specs.Owed.{Footing}
+use Rattle.mdp_engine.specs.Owed.{NumberedFooting}
 use Rattle.mdp_arbiter.specs.Machine.{Move}
-use Rattle.mdp_desks.specs.Shown.{Start}
+use Rattle.mdp_desks.specs.Shown.{Footing}
 use Rattle.mdp_arbiter.specs.Machine.Move.{passed, jumped}
 
 -- From packet `next` on, each packet that passes is the feed's next, and a jump's snapshots are books of the feed that
@@ -22,8 +22,8 @@ AreOf listed feed next (jumped old new snapshots ∷ moves) =
     × AreOf listed feed new moves
 
 -- a listed security as the complete feed has it: its book after the packet that is its base
-abbrev pub start_of : List PacketContent → Footing → Start
-start_of feed i =
+abbrev pub footing_of : List PacketContent → NumberedFooting → Footing
+footing_of feed i =
     record {
       instrument = i.instrument;
       base = i.base;

@@ -14,12 +14,12 @@ use Rattle.mdp_arbiter.specs.Codes.{view_code as arbiter_code}
 use Rattle.mdp_arbiter.specs.Standing.{StandsAt}
 use Rattle.mdp_desks.specs.declared.desk.Desk.{Desk}
 use Rattle.mdp_desks.specs.contracts.desk.Desk as desk
-use Rattle.mdp_engine.specs.Owed.{owed_moments, steps_of}
+use Rattle.mdp_engine.specs.Owed.{owed_moments, numbered_moves}
 use Rattle.mdp_desks.specs.Due.{is_due}
 use Rattle.mdp_desks.specs.Changed.{changed_in}
 use Rattle.mdp_desks.specs.Moments.{Moment, moments}
-use Rattle.mdp_desks.specs.Shown.{Start, standing_after}
-use Rattle.mdp_desks.specs.Standing.{Shows}
+use Rattle.mdp_desks.specs.Shown.{Footing, since_after}
+use Rattle.mdp_desks.specs.Shows.{Shows}
 use Rattle.mdp_engine.specs.Honest.{IsHonest}
 use Rattle.mdp_engine.specs.Kept.{kept_lines}
 
@@ -90,11 +90,11 @@ LawOfOwedText =
     (listed : List Instrument) (feed : List PacketContent) (es : List Event) (gone : List Moment) (v : View)
     → IsHonest listed feed es → Stands listed es gone v
     → kept_lines v.keeps_lines gone ++ v.held
-    ≡ kept_lines v.keeps_lines (owed_moments listed feed (steps_of (trace v.arbiter.channel es)))
+    ≡ kept_lines v.keeps_lines (owed_moments listed feed (numbered_moves (trace v.arbiter.channel es)))
 
 -- A desk has its security's book of the complete feed right before packet `next`, or right after its base where that is
 -- later, and is marked if the security is due.
-pub record HoldsBook (feed : List PacketContent) (next : ℕ) (i : Start) (desk : Desk) : Type 0 where
+pub record HoldsBook (feed : List PacketContent) (next : ℕ) (i : Footing) (desk : Desk) : Type 0 where
   pub instrument : desk.instrument ≡ i.instrument
   pub base : desk.base ≡ i.base
   pub book : desk.book ≡ book_at i.instrument (sent_by (take (max (next - 1) i.base) feed))
@@ -106,7 +106,7 @@ LawOfOwedBooks =
     (listed : List Instrument) (feed : List PacketContent) (es : List Event) (gone : List Moment) (v : View)
     → IsHonest listed feed es
     → Stands listed es gone v → AllZip (HoldsBook feed v.arbiter.next)
-    (standing_after listed (trace v.arbiter.channel es)).starts v.desks
+    (since_after listed (trace v.arbiter.channel es)).footings v.desks
 
 -- ---- moves one after another
 

@@ -10,16 +10,17 @@ use Rattle.mdp_desks.specs.Moments.{moments}
 use Rattle.mdp_engine.specs.Agreed.{AreOf}
 use Rattle.mdp_engine.specs.Feed.{IsFeed}
 use Rattle.mdp_engine.specs.Honest.{IsHonest}
-use Rattle.mdp_engine.specs.Owed.{steps_of, owed_moments}
+use Rattle.mdp_engine.specs.Owed.{numbered_moves, owed_moments}
 
 -- moves that are a complete feed's have the moments that the feed owes
 abbrev pub LawOfOwedMoments : Type 0
 LawOfOwedMoments =
     (listed : List Instrument) (feed : List PacketContent) (moves : List Move) → IsFeed feed → AreOf listed feed 1 moves
-    → moments listed moves ≡ owed_moments listed feed (steps_of moves)
+    → moments listed moves ≡ owed_moments listed feed (numbered_moves moves)
 
 -- and so have the moves of events that agree with a complete feed
 abbrev pub LawOfHonestMoments : Type 0
 LawOfHonestMoments =
     (channel : ListedChannel) (feed : List PacketContent) (es : List Event) → IsHonest channel.listed feed es
-    → moments channel.listed (moves_of channel es) ≡ owed_moments channel.listed feed (steps_of (moves_of channel es))
+    → moments channel.listed (moves_of channel es)
+    ≡ owed_moments channel.listed feed (numbered_moves (moves_of channel es))

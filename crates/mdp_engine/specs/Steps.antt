@@ -13,7 +13,7 @@ use Rattle.mdp_desks.specs.declared.desk.Desk.{Desk}
 use Rattle.mdp_engine.specs.declared.event.Event.{Event}
 use Rattle.mdp_engine.specs.declared.event.Event.TheVariants.{Packet, Snapshot, Close}
 use Rattle.mdp_desks.specs.Desks.{passed_desks, passed_moments, rebased_desks}
-use Rattle.mdp_desks.specs.Moments.{Moment, leapt}
+use Rattle.mdp_desks.specs.Moments.{Moment, at_jump}
 
 -- the event of the recovery machine that came
 abbrev pub event_of : {A : Type 0} → Event A → Accepted
@@ -35,4 +35,4 @@ stepped_desks (Jump old new) bases desks = rebased_desks bases desks
 -- the moments that a step adds
 abbrev pub stepped_moments : {A : Type 0} → Step A → List Desk → List Moment
 stepped_moments (Pass packet) desks = passed_moments (sent_in packet) desks
-stepped_moments (Jump old new) desks = leapt old new ∷ []
+stepped_moments (Jump old new) desks = at_jump old new ∷ []

@@ -7,7 +7,7 @@ ghost use Rattle.mdp_books.specs.Feed.{sent_as, sent_in};
 ghost use Rattle.mdp_print.specs.Pieces.{BreaksOff};
 ghost use Rattle.mdp_desks.specs.Desks.{desk_at_start, desk_settled, desk_standing, desks_after, desks_moment, desks_through, passed_desks, passed_moments, rebased_desks};
 ghost use Rattle.mdp_desks.specs.Lines.{audit_text, lines_as};
-ghost use Rattle.mdp_desks.specs.Moments.{ended, leapt};
+ghost use Rattle.mdp_desks.specs.Moments.{at_event_end, at_jump};
 ghost use Rattle.mdp_desks.specs.Changed.{changed_by, changed_through};
 ghost use Rattle.mdp_engine.specs.Kept.{kept_lines};
 
@@ -71,11 +71,11 @@ impl<A: Allocator + Copy> AuditedDesks<A> {
     }
 
     // Takes the entries of a message.
-    fn hear(&mut self, packet: u32, message: u64, entries: &[Entry])
+    fn hear(&mut self, end: EventEnd, entries: &[Entry])
         requires { length entries.now ≤ 255 }
-        ensures { self.new ≡ desks_through packet message 1 entries.now self.old }
+        ensures { self.new ≡ desks_through end.packet end.message 1 entries.now self.old }
     {
-        self.desks.hear(packet, message, entries);
+        self.desks.hear(end, entries);
     }
 
     // Appends the lines of the calendar spreads that an event end audits.
@@ -117,12 +117,12 @@ impl<A: Allocator + Copy> AuditedDesks<A> {
         ensures same { self.new ≡ self.old }
         ensures text { OnOk result (out.new.text.items ≡ out.old.text.items
             ++ kept_lines out.old.keeps_lines
-            (ended end (map (desk_standing end.packet) self.old) ∷ [])) }
+            (at_event_end end (map (desk_standing end.packet) self.old) ∷ [])) }
         ensures changed { out.new.changed ≡ changed_by out.old.changed
-            (ended end (map (desk_standing end.packet) self.old)) }
+            (at_event_end end (map (desk_standing end.packet) self.old)) }
         ensures keeps { out.new.keeps_lines ≡ out.old.keeps_lines }
         ensures err { OnErr result (BreaksOff (kept_lines out.old.keeps_lines
-            (ended end (map (desk_standing end.packet) self.old) ∷ []))
+            (at_event_end end (map (desk_standing end.packet) self.old) ∷ []))
             out.old.text.items out.new.text.items) }
     {
         self.desks.mark_printed(&mut out.changed, end.packet);
@@ -146,31 +146,25 @@ impl<A: Allocator + Copy> AuditedDesks<A> {
         self.desks.settle(packet);
     }
 
-    // Takes a message, and shows the event that it ends, if it does.
-    fn take(
-        &mut self,
-        out: &mut Held<A>,
-        packet: u32,
-        message: u64,
-        taken: &Message<'_>,
-    ) -> Result<(), Memory>
+    // Takes the message that stands where an event may end, and shows the event end, if it is one.
+    fn take(&mut self, out: &mut Held<A>, end: EventEnd, taken: &Message<'_>) -> Result<(), Memory>
         ensures desks { OnOk result (self.new
-            ≡ desks_after (sent_as packet message taken.now) self.old) }
+            ≡ desks_after (sent_as end.packet end.message taken.now) self.old) }
         ensures text { OnOk result (out.new.text.items ≡ out.old.text.items
             ++ kept_lines out.old.keeps_lines
-            (desks_moment (sent_as packet message taken.now) self.old)) }
+            (desks_moment (sent_as end.packet end.message taken.now) self.old)) }
         ensures changed { OnOk result (out.new.changed ≡ changed_through out.old.changed
-            (desks_moment (sent_as packet message taken.now) self.old)) }
+            (desks_moment (sent_as end.packet end.message taken.now) self.old)) }
         ensures keeps { out.new.keeps_lines ≡ out.old.keeps_lines }
         ensures err { OnErr result (BreaksOff (kept_lines out.old.keeps_lines
-            (desks_moment (sent_as packet message taken.now) self.old))
+            (desks_moment (sent_as end.packet end.message taken.now) self.old))
             out.old.text.items out.new.text.items) }
     {
-        self.hear(packet, message, taken.entries());
+        self.hear(end, taken.entries());
         if taken.is_end() {
-            self.ripen(packet);
-            self.show(out, EventEnd { packet, message })?;
-            self.settle(packet);
+            self.ripen(end.packet);
+            self.show(out, end)?;
+            self.settle(end.packet);
         }
         Ok(())
     }
@@ -190,7 +184,11 @@ impl<A: Allocator + Copy> AuditedDesks<A> {
     {
         let number = packet.number();
         for n in 0..packet.len() {
-            self.take(out, number, n as u64 + 1, &packet.message(n))?;
+            let end = EventEnd {
+                packet: number,
+                message: n as u64 + 1,
+            };
+            self.take(out, end, &packet.message(n))?;
         }
         Ok(())
     }
@@ -214,7 +212,7 @@ impl<A: Allocator + Copy> AuditedDesks<A> {
     ) -> Result<(), Memory>
         ensures desks { OnOk result (self.new ≡ rebased_desks bases.now self.old) }
         ensures text { OnOk result (out.new.text.items ≡ out.old.text.items
-            ++ kept_lines out.old.keeps_lines (leapt old new ∷ [])) }
+            ++ kept_lines out.old.keeps_lines (at_jump old new ∷ [])) }
         ensures changed { out.new.changed ≡ out.old.changed }
         ensures keeps { out.new.keeps_lines ≡ out.old.keeps_lines }
         ensures err { OnErr result (out.new.text.items ≡ out.old.text.items) }

@@ -61,7 +61,7 @@ fn put_verdicts_under<A: Allocator>(
     put_audit_under(out, event, name, bid, offer)
 }
 
-/// Tells whether one of the marks of a spread and its legs is set.
+/// Returns whether one of the marks of a spread and its legs is set.
 pub fn is_one_marked<A: Allocator>(marked: &Marked<A>, spread: &Spread) -> bool
     requires { IsUnder (length marked.now) spread.now }
     ensures { result ≡ (get_or marked.now spread.now.slot false
@@ -74,14 +74,14 @@ pub fn is_one_marked<A: Allocator>(marked: &Marked<A>, spread: &Spread) -> bool
     )
 }
 
-// Tells whether one of three marks is set.
+// Returns whether one of three marks is set.
 fn is_one_set(spread: bool, leg1: bool, leg2: bool) -> bool
     ensures { result ≡ (spread || leg1 || leg2) }
 {
     spread || leg1 || leg2
 }
 
-// Tells whether the packet stands behind the bases of all three.
+// Returns whether the packet stands behind the bases of all three.
 fn are_current(packet: u32, spread: &Desk, leg1: &Desk, leg2: &Desk) -> bool
     ensures { result ≡ (nat_lt spread.now.base packet && nat_lt leg1.now.base packet
         && nat_lt leg2.now.base packet) }

@@ -17,7 +17,7 @@ ghost use Rattle.mdp_engine.specs.Kept.{kept_lines};
 ghost use Rattle.mdp_desks.specs.Changed.{changed_through};
 ghost use Rattle.mdp_engine.specs.Engine.{Advances, AreChanged, BreaksOffOnWay, HasBrokenOff, Stands};
 ghost use Rattle.mdp_engine.specs.Honest.{IsHonest};
-ghost use Rattle.mdp_engine.specs.Owed.{lines, steps_of};
+ghost use Rattle.mdp_engine.specs.Owed.{lines, numbered_moves};
 ghost use Rattle.mdp_engine.specs.Steps.{event_of, passes_now, stepped_desks, stepped_moments};
 
 use crate::audited_desks::AuditedDesks;
@@ -90,7 +90,7 @@ impl<A: Allocator + Copy, W: Window<Packet<A>> + Drop> Engine<A, W> {
         })
     }
 
-    /// Tells the number of the packet that passes next, from 1 to 4294967296.
+    /// Returns the number of the packet that passes next, from 1 to 4294967296.
     pub fn next(&self) -> u64
         ensures next { result ≡ self.now.arbiter.next }
         ensures least { 1 ≤ result }
@@ -102,7 +102,7 @@ impl<A: Allocator + Copy, W: Window<Packet<A>> + Drop> Engine<A, W> {
         self.arbiter.next()
     }
 
-    /// Tells whether the receiver is lost: it has not joined the channel, or a packet came that is so far ahead that
+    /// Returns whether the receiver is lost: it has not joined the channel, or a packet came that is so far ahead that
     /// the next one is given up.
     pub fn lost(&self) -> bool
         ensures now { result ≡ is_lost_now self.now.arbiter }
@@ -113,8 +113,8 @@ impl<A: Allocator + Copy, W: Window<Packet<A>> + Drop> Engine<A, W> {
         self.arbiter.lost()
     }
 
-    /// Tells whether a packet of this number would change nothing, whatever it says: its number has passed or was given
-    /// up.
+    /// Returns whether a packet of this number would change nothing, whatever it says: its number has passed or was
+    /// given up.
     pub fn is_past(&self, number: u32) -> bool
         ensures now { result ≡ nat_lt number self.now.arbiter.next }
         ensures stands { result ≡ true → (listed : List Instrument) (es : List Accepted)
@@ -139,7 +139,7 @@ impl<A: Allocator + Copy, W: Window<Packet<A>> + Drop> Engine<A, W> {
         self.desks.as_slice()
     }
 
-    /// Tells whether memory ran out in an earlier call.
+    /// Returns whether memory ran out in an earlier call.
     pub fn has_failed(&self) -> bool
         ensures { result ≡ self.now.has_failed }
     {
@@ -208,7 +208,7 @@ impl<A: Allocator + Copy, W: Window<Packet<A>> + Drop> Engine<A, W> {
     }
 
     /// Takes in a packet that is lent, where it passes at once, and holds the lines that it owes, as [`on`](Engine::on)
-    /// does of its event. Tells whether it passed, as the arbiter's
+    /// does of its event. Returns whether it passed, as the arbiter's
     /// [`pass_at_once`](mdp_arbiter::Arbiter::pass_at_once) does; where not, all is as before.
     ///
     /// # Errors
@@ -367,7 +367,7 @@ impl<A: Allocator + Copy, W: Window<Packet<A>> + Drop> Engine<A, W> {
         self.arbiter.snapshot_from(snapshot);
     }
 
-    // Takes in a packet that passes at once and shows it, where the event is one, and tells whether it is.
+    // Takes in a packet that passes at once and shows it, where the event is one, and returns whether it is.
     fn pass_at_once(&mut self, event: &Event<A>) -> Result<bool, Memory>
         ensures tells { IfOk result (λ passed. passed
             ≡ passes_now (event_of event.now) self.old.arbiter) }
@@ -387,7 +387,7 @@ impl<A: Allocator + Copy, W: Window<Packet<A>> + Drop> Engine<A, W> {
         }
     }
 
-    // Takes in a packet that passes at once and shows it, and tells whether it does.
+    // Takes in a packet that passes at once and shows it, and returns whether it does.
     fn pass_packet(&mut self, packet: &Packet<A>) -> Result<bool, Memory>
         ensures tells { IfOk result (λ passed. passed
             ≡ passes_at_once packet.now.number self.old.arbiter) }
@@ -485,7 +485,7 @@ pub fn replay<A: Allocator + Copy, W: Window<Packet<A>> + Drop>(
         (map event_of events.now))) }
     ensures owed { IfOk result (λ text. (feed : List PacketContent)
         → IsHonest instruments.now feed (map event_of events.now)
-        → text.items ≡ lines instruments.now feed (steps_of
+        → text.items ≡ lines instruments.now feed (numbered_moves
         (moves_of (record { listed = instruments.now; room = (W.view window).room; start = start })
         (map event_of events.now)))) }
 {

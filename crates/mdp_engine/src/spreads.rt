@@ -14,7 +14,7 @@ pub struct Spread {
     pub leg2: usize,
 }
 
-// Tells the place of the security with this id, if it is listed.
+// Returns the place of the security with this id, if it is listed.
 fn place_of<A: Allocator + Copy>(slots: &Slots<A>, id: i32) -> Option<usize>
     ensures { result ≡ slot_in slots.now id }
 {

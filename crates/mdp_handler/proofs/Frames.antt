@@ -26,8 +26,8 @@ use Rattle.mdp_pipeline.specs.Streamed.{EndsAfter, PrintsLines}
 use Rattle.mdp_pipeline.specs.declared.ended.EndNote.{EndNote}
 use Rattle.mdp_pipeline.specs.declared.ended.EndedRun.{EndedRun}
 use Rattle.mdp_pipeline.specs.declared.note.Note.{Note}
-use Rattle.mdp_recording.specs.Frames.{lines_in}
-use Rattle.mdp_recording.specs.Recorded.{EndsAsRecording, Follows, HasHandedOn, HoldsFrames, HoldsNothing, TakesPiece, beside}
+use Rattle.mdp_recording.specs.Frames.{beside, lines_in}
+use Rattle.mdp_recording.specs.Recorded.{EndsAsRecording, Follows, HasHandedOn, HoldsFrames, HoldsNothing, TakesPiece}
 use Rattle.mdp_recording.specs.declared.run.RecordedRun.{RecordedRun}
 use Rattle.mdp_recording.proofs.Recording.{begins_file, ends_after, ends_show, ends_told, first_number, follows_on, frames_begin, frames_show, none_sent}
 use Rattle.mdp_handler.specs.Faults.{Tells, end_line, note_lines, pcap_line}
@@ -58,7 +58,7 @@ not_refused CutShort refused kept = let both : false ≡ true = refused in cc
 module _ {A : Type 0} where
   -- a file begins with the frames that were taken in, of whose text a beginning went out
   has_begun_frames : (channel : ListedChannel) (addresses : List FeedAddress) (text more start sent taken : List ℕ) (told : List Note) (now : RecordedRun A) (n : ℕ) (Told : List ℕ → Type 0)
-      → Follows channel addresses text sent told now → taken ≡ (start ++ sent) ++ take n now.datagrams.run.handler.held → Told (note_lines Frame (told ++ now.datagrams.notes.items))
+      → Follows (beside channel addresses sent told) text now → taken ≡ (start ++ sent) ++ take n now.datagrams.run.handler.held → Told (note_lines Frame (told ++ now.datagrams.notes.items))
       → HasBegunFrames channel addresses (text ++ more) (went start taken Told)
   has_begun_frames channel addresses text more start sent taken told now n Told follows went_is telling =
       let holds = follows.read.so_far.taken in
@@ -84,7 +84,7 @@ module _ {A F : Type 0} (failed : F → ℕ) (taken : F → List ℕ) where
   frames_handled piece old mid new before after heard told takes on out tells channel addresses text start first so_far = record {
     sent = so_far.sent ++ mid.datagrams.run.handler.held;
     notes = so_far.notes ++ mid.datagrams.notes.items;
-    follows = on.stands channel addresses (text ++ piece) so_far.sent so_far.notes (takes channel addresses text so_far.sent so_far.notes so_far.follows);
+    follows = on.stands (beside channel addresses so_far.sent so_far.notes) (text ++ piece) (takes (beside channel addresses so_far.sent so_far.notes) text so_far.follows);
     none = on.none;
     went_is = went_more start so_far.sent mid.datagrams.run.handler.held before after so_far.went_is out;
     told = tells_more Frame failed taken first heard told so_far.notes mid.datagrams.notes.items so_far.told tells;
@@ -97,7 +97,7 @@ module _ {A F : Type 0} (failed : F → ℕ) (taken : F → List ℕ) where
       → HasBegunFrames channel addresses ((text ++ piece) ++ more) (went start after (Tells failed taken first told))
   frames_cut piece old mid before after n heard told takes out tells channel addresses text more start first so_far =
       has_begun_frames channel addresses (text ++ piece) more start so_far.sent after so_far.notes mid n (Tells failed taken first told)
-      (takes channel addresses text so_far.sent so_far.notes so_far.follows) (out ∙ ap (λ (t : List ℕ). t ++ take n mid.datagrams.run.handler.held) so_far.went_is)
+      (takes (beside channel addresses so_far.sent so_far.notes) text so_far.follows) (out ∙ ap (λ (t : List ℕ). t ++ take n mid.datagrams.run.handler.held) so_far.went_is)
       (tells_more Frame failed taken first heard told so_far.notes mid.datagrams.notes.items so_far.told tells)
 
   -- nothing more was handled
@@ -122,7 +122,7 @@ module _ {A F : Type 0} (failed : F → ℕ) (taken : F → List ℕ) where
   frames_on channel addresses text more did run fault is so_far = record {
     sent = so_far.sent;
     notes = so_far.notes;
-    follows = follows_on channel addresses text more so_far.sent so_far.notes run fault is so_far.follows;
+    follows = follows_on (beside channel addresses so_far.sent so_far.notes) text more run fault is so_far.follows;
     none = so_far.none;
     went_is = so_far.went_is;
     told = so_far.told;
@@ -137,10 +137,10 @@ module _ {A F : Type 0} (failed : F → ℕ) (taken : F → List ℕ) where
       → note ≡ end_note ended.instruments ended.run.handler → Tells failed taken heard said (end_line note) → fault ≡ ending_of (content_of run.reader) → Tells failed taken said told (fault_line (content_of run.reader).number fault)
       → FramesSoFar channel addresses text (went start before (Tells failed taken first heard)) run → (ended : HasEndedFrames channel addresses text fault (went start after (Tells failed taken first told))) × (number_after 1 ended.frames ≡ (content_of run.reader).number)
   frames_ended channel addresses text start before after heard said told first run ended note standing fault ends writes note_is tells fault_is tells_fault so_far =
-      let all = ends channel addresses text so_far.sent so_far.notes so_far.follows in
+      let all = ends (beside channel addresses so_far.sent so_far.notes) text so_far.follows in
       let frames = all.pcap.frames in
       let notes = so_far.notes ++ run.datagrams.notes.items in
-      let after_all = ends_after channel addresses (numbered 1 frames) so_far.sent notes ended all.ends in
+      let after_all = ends_after (beside channel addresses so_far.sent notes) (numbered 1 frames) ended all.ends in
       let out = writes channel (lines_in addresses (numbered 1 frames)) start so_far.sent _ after_all so_far.went_is in
       let same : notes ≡ so_far.notes = ap (λ (held : List Note). so_far.notes ++ held) so_far.none.1 ∙ append-nil so_far.notes in
       let of_notes : Tells failed taken first heard (note_lines Frame notes) = subst (λ (ns : List Note). Tells failed taken first heard (note_lines Frame ns)) (sym same) so_far.told in (
@@ -151,7 +151,7 @@ module _ {A F : Type 0} (failed : F → ℕ) (taken : F → List ℕ) where
           went_is = out.1;
           notes = notes;
           standing = standing;
-          prints = record { of_lines = _; prints = out.2; tells = ends_told channel addresses (numbered 1 frames) so_far.sent notes ended all.ends };
+          prints = record { of_lines = _; prints = out.2; tells = ends_told (beside channel addresses so_far.sent notes) (numbered 1 frames) ended all.ends };
           note = note;
           note_is = ends_with channel (lines_in addresses (numbered 1 frames)) so_far.sent _ ended note after_all note_is;
           told = tells_both failed taken first said told (note_lines Frame notes ++ end_line note) (fault_line (number_after 1 frames) fault)
@@ -179,17 +179,17 @@ module _ {A F : Type 0} (failed : F → ℕ) (taken : F → List ℕ) where
       → BeginsInTextOrder channel came start after)
       → FramesSoFar channel addresses text (went start before (Tells failed taken first heard)) run → HasBegunFrames channel addresses text (went start after (Tells failed taken first heard))
   frames_ended_early channel addresses text start before after heard first run ended ends begins so_far =
-      let all = ends channel addresses text so_far.sent so_far.notes so_far.follows in
+      let all = ends (beside channel addresses so_far.sent so_far.notes) text so_far.follows in
       let frames = numbered 1 all.pcap.frames in
       let notes = so_far.notes ++ run.datagrams.notes.items in
       let same : notes ≡ so_far.notes = ap (λ (held : List Note). so_far.notes ++ held) so_far.none.1 ∙ append-nil so_far.notes in
       record {
         frames = frames;
         first = record { pcap = all.pcap; is = all.is; rest = []; of = sym (append-nil frames) };
-        begins = begins channel (lines_in addresses frames) start so_far.sent _ (ends_after channel addresses frames so_far.sent notes ended all.ends) so_far.went_is;
+        begins = begins channel (lines_in addresses frames) start so_far.sent _ (ends_after (beside channel addresses so_far.sent notes) frames ended all.ends) so_far.went_is;
         shown = so_far.sent ++ ended.run.handler.held;
         notes = notes;
-        shows = ends_show channel addresses frames so_far.sent notes ended all.ends;
+        shows = ends_show (beside channel addresses so_far.sent notes) frames ended all.ends;
         told = subst (λ (ns : List Note). Tells failed taken first heard (note_lines Frame ns)) (sym same) so_far.told;
       }
 
@@ -200,7 +200,7 @@ module _ {A F : Type 0} (failed : F → ℕ) (taken : F → List ℕ) where
   file_refused channel addresses text start before heard told first run ended fault ends is_refused tells so_far =
       let at = refused_at (content_of run.reader).number fault (ending_of (content_of run.reader)) is_refused in
       let one : (content_of run.reader).number ≡ 1 = at.1 in
-      let all = ends channel addresses text so_far.sent so_far.notes so_far.follows in
+      let all = ends (beside channel addresses so_far.sent so_far.notes) text so_far.follows in
       let none : all.pcap.frames ≡ [] = first_number all.pcap.frames (all.number_is ∙ one) in
       let holds = so_far.follows.read.so_far.taken in
       let nothing = none_sent channel addresses so_far.sent so_far.notes run.datagrams so_far.follows.listed
@@ -217,7 +217,7 @@ module _ {A F : Type 0} (failed : F → ℕ) (taken : F → List ℕ) where
       }
 
 -- a run that begins holds nothing
-pub begins_frames : {A : Type 0} (channel : ListedChannel) (addresses : List FeedAddress) (start : List ℕ) (Told : List ℕ → Type 0) (run : RecordedRun A) → Follows channel addresses [] [] [] run
+pub begins_frames : {A : Type 0} (channel : ListedChannel) (addresses : List FeedAddress) (start : List ℕ) (Told : List ℕ → Type 0) (run : RecordedRun A) → Follows (beside channel addresses [] []) [] run
     → HoldsNothing run → Told [] → FramesSoFar channel addresses [] (went start start Told) run
 begins_frames channel addresses start Told run follows none told =
     record { sent = []; notes = []; follows = follows; none = none; went_is = sym (append-nil start); told = told }

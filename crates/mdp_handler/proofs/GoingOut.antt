@@ -13,7 +13,7 @@ use Rattle.mdp_print.specs.Written.{HasCounted}
 use Rattle.mdp_templates.specs.declared.instrument.Instrument.{Instrument}
 use Rattle.mdp_pipeline.specs.Notes.{end_note}
 use Rattle.mdp_pipeline.specs.Output.{BeginsInTextOrder}
-use Rattle.mdp_pipeline.specs.Streamed.{EndsAfter, EndsAsCapture, Goes, HasHandedOn, LacksInstrument, LinesShow, PrintsLines, Setup, StandsBehind, StopsAt, StopsAtEnd, StopsInPiece, Streams, TakesEnd, TakesPiece, channel_with, numbered, text_held}
+use Rattle.mdp_pipeline.specs.Streamed.{EndsAfter, EndsAsCapture, Goes, gone_out, HasHandedOn, LacksInstrument, LinesShow, PrintsLines, Setup, StandsBehind, StopsAt, StopsAtEnd, StopsInPiece, Streams, TakesEnd, TakesPiece, channel_with, numbered, text_held}
 use Rattle.mdp_pipeline.specs.Streamed.LinesShow.{unlisted}
 use Rattle.mdp_pipeline.specs.TextOrder.{arrivals_in}
 use Rattle.mdp_arbiter.specs.Channel.{ListedChannel}
@@ -87,7 +87,7 @@ module _ {A : Type 0} where
   -- ---- a refusal
 
   pub is_refused : (setup : Setup) (whole start sent taken : List ℕ) (told : List Note) (refused : RefusedLine) (now : StreamedRun A) (Told : List ℕ → Type 0)
-      → StopsAt setup whole sent told refused now → text_held now.lines.run ≡ [] → now.lines.notes.items ≡ [] → taken ≡ start ++ sent → Told (note_lines Line told)
+      → StopsAt setup whole (gone_out sent told) refused now → text_held now.lines.run ≡ [] → now.lines.notes.items ≡ [] → taken ≡ start ++ sent → Told (note_lines Line told)
       → IsRefusedBehind setup whole (went start taken Told) refused
   is_refused setup whole start sent taken told refused now Told stops no_text no_notes taken_is telling =
       let stands = stops.stands in
@@ -117,8 +117,8 @@ module _ {A : Type 0} where
     stands = on.stands setup so_far.front sent told so_far.stands;
   }
 
-  pub stops_on : (setup : Setup) (whole sent : List ℕ) (told : List Note) (refused : RefusedLine) (old new : StreamedRun A) → HasHandedOn old.lines new.lines → StopsAt setup whole sent told refused old
-      → StopsAt setup whole (sent ++ text_held old.lines.run) (told ++ old.lines.notes.items) refused new
+  pub stops_on : (setup : Setup) (whole sent : List ℕ) (told : List Note) (refused : RefusedLine) (old new : StreamedRun A) → HasHandedOn old.lines new.lines → StopsAt setup whole (gone_out sent told) refused old
+      → StopsAt setup whole (gone_out (sent ++ text_held old.lines.run) (told ++ old.lines.notes.items)) refused new
   stops_on setup whole sent told refused old new on stops = record {
     before = stops.before;
     line = stops.line;
@@ -334,7 +334,7 @@ no_line : (front rest : List (List ℕ)) → [] ≡ front ++ rest → front ≡ 
 no_line [] rest is = refl
 no_line (line ∷ front) rest is = absurd (cc)
 
-goes_nowhere : {A : Type 0} (channel : ListedChannel) (has : Bool) (held : List Note) (run : Option (Run A)) → has ≡ false → Goes channel has [] [] held run → (text_held run ≡ []) × (held ≡ [])
+goes_nowhere : {A : Type 0} (channel : ListedChannel) (has : Bool) (held : List Note) (run : Option (Run A)) → has ≡ false → Goes channel has [] (gone_out [] held) run → (text_held run ≡ []) × (held ≡ [])
 goes_nowhere channel has held None unset idle = (refl, idle.notes_are)
 goes_nowhere channel has held (Some run) unset way = absurd (let both : true ≡ false = sym way.begun ∙ unset in cc)
 

@@ -50,7 +50,8 @@ place_at place number = place_word place ++ decimal number ++ codes ": "
 -- why what stands at a place is skipped
 unfoldable pub skipped_at : Place → SkippedLine → List ℕ
 skipped_at place skipped =
-    place_at place skipped.line ++ decimal (skip_number skipped.skip) ++ codes " " ++ skip_name skipped.skip ++ codes "\n"
+    place_at place skipped.line
+    ++ decimal (skip_number skipped.skip) ++ codes " " ++ skip_name skipped.skip ++ codes "\n"
 
 -- of a line of the capture
 abbrev pub skipped_line : SkippedLine → List ℕ
@@ -65,12 +66,14 @@ skipped_lines = flat_map skipped_line
 -- with the record of a line the receiver is lost: the packet that is given up, and the highest that came
 unfoldable pub lost_line : Place → ℕ → Loss → List ℕ
 lost_line place line loss =
-    place_at place line ++ codes "51 Lost" ++ codes " " ++ decimal loss.next ++ codes " " ++ decimal loss.highest ++ codes "\n"
+    place_at place line
+    ++ codes "51 Lost" ++ codes " " ++ decimal loss.next ++ codes " " ++ decimal loss.highest ++ codes "\n"
 
 -- with the record of a line recovery went on at another number: the packet that was to come next, and that which is now
 unfoldable pub found_line : Place → ℕ → Jump → List ℕ
 found_line place line jump =
-    place_at place line ++ codes "52 Found" ++ codes " " ++ decimal jump.old ++ codes " " ++ decimal jump.new ++ codes "\n"
+    place_at place line
+    ++ codes "52 Found" ++ codes " " ++ decimal jump.old ++ codes " " ++ decimal jump.new ++ codes "\n"
 
 -- the letter of a feed, or a dash where it isn't known
 abbrev pub feed_mark : Option Feed → ℕ

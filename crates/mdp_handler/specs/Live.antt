@@ -58,8 +58,8 @@ pub record HasShown (setup : Setup) (listed : List Instrument) (came : List Numb
   pub shows : LinesShow (channel_with listed setup) came shown notes
   pub told : did.Told (note_lines Line notes)
 
--- The text of a whole capture went out, in the order of its lines; and all that is told of these was told, and then what
--- keeps the run from going on, if anything does.
+-- The text of a whole capture went out, in the order of its lines; and all that is told of these was told, and then
+-- what keeps the run from going on, if anything does.
 pub record HasEnded (setup : Setup) (whole : List ℕ) (did : Went) : Type 0 where
   pub capture : CaptureContent
   pub is : capture_of whole ≡ Ok capture
@@ -84,7 +84,8 @@ pub record IsRefusedBehind (setup : Setup) (whole : List ℕ) (did : Went) (refu
   pub went_is : did.after ≡ did.before ++ shown
   pub has : HasShown setup (front_of whole).instruments came shown did
 
--- Of the text's first lines a beginning of the whole text that they make went out, and all that is told of them was told.
+-- Of the text's first lines a beginning of the whole text that they make went out, and all that is told of them was
+-- told.
 pub record HasBegunLines (setup : Setup) (whole : List ℕ) (did : Went) : Type 0 where
   pub came : List NumberedLine
   pub rest : List NumberedLine
@@ -95,7 +96,8 @@ pub record HasBegunLines (setup : Setup) (whole : List ℕ) (did : Went) : Type 
 
 -- what came of a text whose run ended early
 abbrev pub EndsFor : Setup → List ℕ → Went → LiveFault → Type 0
-EndsFor setup whole did (Refused line refusal) = IsRefusedBehind setup whole did (record { line = line; refusal = refusal })
+EndsFor setup whole did (Refused line refusal) =
+    IsRefusedBehind setup whole did (record { line = line; refusal = refusal })
 EndsFor setup whole did (Run fault) = HasBegunLines setup whole did
 EndsFor setup whole did Input = HasBegunLines setup whole did
 

@@ -93,7 +93,8 @@ HasRun (Channel name) sources settings did = HasRunChannel name sources settings
 -- Status 0: a run to its end; or the help or the version was shown, and nothing told.
 abbrev pub HasDone : List Text → Sources → Went → Type 0
 HasDone words sources did =
-    (AsksToRun words × ((settings : Settings) × AreSettings words settings × HasRun (way_asked settings) sources settings did))
+    (AsksToRun words
+    × ((settings : Settings) × AreSettings words settings × HasRun (way_asked settings) sources settings did))
     ⊎ (AsksToShow words × ((text : List ℕ) × (did.after ≡ did.before ++ text)) × did.Told [])
 
 -- ---- an early end

@@ -14,7 +14,7 @@ use Rattle.mdp_pipeline.specs.Output.{BeginsInTextOrder}
 use Rattle.mdp_pipeline.specs.Streamed.{EndsWith, channel_with, setup_of}
 use Rattle.mdp_pipeline.specs.declared.ended.EndNote.{EndNote}
 use Rattle.mdp_pipeline.specs.declared.note.Note.{Note}
-use Rattle.mdp_recording.specs.Frames.{FramesShow, PrintsFrames, lines_in}
+use Rattle.mdp_recording.specs.Frames.{FramesShow, PrintsFrames, beside, lines_in}
 use Rattle.mdp_recording.specs.Recorded.{BeginsFile, Follows, HoldsNothing}
 use Rattle.mdp_recording.specs.declared.run.RecordedRun.{RecordedRun}
 use Rattle.mdp_handler.specs.Faults.{end_line, note_lines, pcap_line}
@@ -39,12 +39,13 @@ pub record FramesSoFar {A : Type 0} (channel : ListedChannel) (addresses : List 
     (did : Went) (run : RecordedRun A) : Type 0 where
   pub sent : List ℕ
   pub notes : List Note
-  pub follows : Follows channel addresses text sent notes run
+  pub follows : Follows (beside channel addresses sent notes) text run
   pub none : HoldsNothing run
   pub went_is : did.after ≡ did.before ++ sent
   pub told : did.Told (note_lines Frame notes)
 
--- Of a file's first frames a beginning of the whole text that they make went out, and all that is told of them was told.
+-- Of a file's first frames a beginning of the whole text that they make went out, and all that is told of them was
+-- told.
 pub record HasBegunFrames (channel : ListedChannel) (addresses : List FeedAddress) (whole : List ℕ) (did : Went)
     : Type 0 where
   pub frames : List NumberedFrame
@@ -70,7 +71,7 @@ pub record HasEndedFrames (channel : ListedChannel) (addresses : List FeedAddres
   pub went_is : did.after ≡ did.before ++ text
   pub notes : List Note
   pub standing : Standing
-  pub prints : PrintsFrames channel addresses (numbered 1 frames) notes text standing
+  pub prints : PrintsFrames (beside channel addresses text notes) (numbered 1 frames) standing
   pub note : Option EndNote
   pub note_is : EndsWith channel (lines_in addresses (numbered 1 frames)) note
   pub told : did.Told ((note_lines Frame notes ++ end_line note) ++ fault_line (number_after 1 frames) fault)

@@ -1,7 +1,7 @@
 //! What stands for files and streams in tests.
 
 ghost use Rattle.std.specs.Prelude.{◌≡◌};
-ghost use Rattle.mdp_capture.specs.Reader.{failures_of};
+ghost use Rattle.mdp_capture.specs.CountedRead.{failures_of};
 
 use crate::files::{FileFault, ReadsFiles};
 use crate::program::Streams;

@@ -258,7 +258,7 @@ where
     }
 }
 
-// Tells the skipped lines, and runs over the records of all feeds.
+// Returns the skipped lines, and runs over the records of all feeds.
 fn run_capture<R, O, F, A>(
     rt: &R,
     alloc: A,

@@ -133,7 +133,7 @@ fn read_frames<I: CountedRead, O: CountedWrite, F: CountedWrite, A: Allocator + 
     }
 }
 
-// Tells whether a recording with this fault is refused, if no frame stands before it.
+// Returns whether a recording with this fault is refused, if no frame stands before it.
 fn refuses(fault: PcapFault) -> bool
     ensures { result ≡ refuses fault }
 {

@@ -147,7 +147,7 @@ fn each_size<R: Threads + Wait + Sync + Abort>(
     }
 }
 
-// Tells whether a beginning of these notes was told, and then this.
+// Returns whether a beginning of these notes was told, and then this.
 fn is_told_last(told: &[u8], notes: &[u8], last: &[u8]) -> bool {
     match told.strip_suffix(last) {
         Some(front) => notes.starts_with(front),
@@ -155,7 +155,7 @@ fn is_told_last(told: &[u8], notes: &[u8], last: &[u8]) -> bool {
     }
 }
 
-// Tells whether a text is a beginning of the recovery's, without the last line of a run.
+// Returns whether a text is a beginning of the recovery's, without the last line of a run.
 fn begins_recovery(text: &[u8]) -> bool {
     RECOVERY_TEXT.starts_with(text) && !text.contains(&b'Z')
 }

@@ -28,7 +28,7 @@ pub struct Settings<'a> {
 }
 
 impl<'a> Settings<'a> {
-    /// Tells how many threads keep books: 2 where the words don't say.
+    /// Returns how many threads keep books: 2 where the words don't say.
     pub fn worker_count(self) -> u8
         ensures { result ≡ unwrap_or self.entry.workers 2 }
     {
@@ -188,7 +188,7 @@ fn command<'a>(alloc: Global) -> Result<Command<'a>, AllocError>
         .arg(channel_arg(alloc))
 }
 
-// Tells where a run starts that joins a running channel, or doesn't.
+// Returns where a run starts that joins a running channel, or doesn't.
 fn start_of(joins: bool) -> Start
     ensures { result ≡ start_asked joins }
 {

@@ -7,7 +7,7 @@ pub trait Ends: Drop {
     /// Whether it is the last item of its sender.
     ghost is_end: { Self → Bool };
 
-    /// Tells whether it is the last item of its sender.
+    /// Returns whether it is the last item of its sender.
     fn is_end(&self) -> bool
         ensures { result ≡ is_end self.now };
 }

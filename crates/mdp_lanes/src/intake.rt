@@ -128,7 +128,7 @@ impl<I: Ends, A: Allocator + Copy> Model for IntakeReceiver<I, A> {
 }
 
 impl<I: Ends, A: Allocator + Copy> IntakeSender<I, A> {
-    /// Tells whether it has put its last item.
+    /// Returns whether it has put its last item.
     pub fn ended(&self) -> bool
         ensures { result ≡ list_any I.is_end self.now.sent }
     {
@@ -148,7 +148,7 @@ impl<I: Ends, A: Allocator + Copy> IntakeSender<I, A> {
 }
 
 impl<I: Ends, A: Allocator + Copy> IntakeReceiver<I, A> {
-    /// Tells how many last items it has taken, of 3 senders at most.
+    /// Returns how many last items it has taken, of 3 senders at most.
     pub fn ends(&self) -> u8
         ensures count { result ≡ ends_taken I.is_end self.now.taken }
         ensures most { result ≤ 3 }

@@ -28,7 +28,7 @@ impl Model for Told {
 }
 
 impl Told {
-    /// Tells whether all that this reader has read and was told of is among these steps, of which it is then a
+    /// Returns whether all that this reader has read and was told of is among these steps, of which it is then a
     /// beginning. A token that the publisher made after the reader's last read covers it, but no clause knows which of
     /// two calls came first.
     pub fn covers<A: Allocator + Copy>(&self, reader: &Reader<A>) -> bool

@@ -12,8 +12,8 @@ use Rattle.mdp_pcap.specs.Stepping.{HasMovedOn, HasGoneOn, IsStop}
 use Rattle.mdp_pcap.specs.declared.block.Block.{Block}
 use Rattle.mdp_pcap.specs.declared.layout.Layout.{Layout}
 use Rattle.mdp_pcap.specs.declared.layout.PcapFault.{PcapFault}
-use Rattle.mdp_pcap.specs.declared.reader.Halt.{Halt}
-use Rattle.mdp_pcap.specs.declared.reader.Halt.TheVariants as halts
+use Rattle.mdp_pcap.specs.declared.pcap_reader.Halt.{Halt}
+use Rattle.mdp_pcap.specs.declared.pcap_reader.Halt.TheVariants as halts
 use Rattle.mdp_pcap.proofs.Blocks.{blocks_join, blocks_more}
 use Rattle.mdp_pcap.proofs.Fronts.{whole_more, whole_least, faulty_more}
 

@@ -6,9 +6,9 @@ use Rattle.mdp_pcap.specs.Block.{Reading, BlockContent, frames_of}
 use Rattle.mdp_pcap.specs.File.{FrontContent, Unfinished, Faulty, AreBlocks, front_of, cut_end, at_start, IsPcap}
 use Rattle.mdp_pcap.specs.declared.layout.Layout.{Layout}
 use Rattle.mdp_pcap.specs.declared.layout.PcapFault.{PcapFault}
-use Rattle.mdp_pcap.specs.declared.reader.Halt.{Halt}
-use Rattle.mdp_pcap.specs.declared.reader.Halt.TheVariants as halts
-use Rattle.mdp_pcap.specs.declared.reader.PcapReader.{PcapReader}
+use Rattle.mdp_pcap.specs.declared.pcap_reader.Halt.{Halt}
+use Rattle.mdp_pcap.specs.declared.pcap_reader.Halt.TheVariants as halts
+use Rattle.mdp_pcap.specs.declared.pcap_reader.PcapReader.{PcapReader}
 
 -- a frame with its number in its file
 pub record NumberedFrame : Type 0 where

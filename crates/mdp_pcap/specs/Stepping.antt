@@ -4,10 +4,10 @@ use Rattle.mdp_pcap.specs.Block.{read_on, frames_of}
 use Rattle.mdp_pcap.specs.Placing.{block_in}
 use Rattle.mdp_pcap.specs.Reader.{NumberedFrame, number_after, ReaderContent, IsReadOn, IsReadWhole}
 use Rattle.mdp_pcap.specs.declared.block.Block.{Block}
-use Rattle.mdp_pcap.specs.declared.reader.Halt.{Halt}
-use Rattle.mdp_pcap.specs.declared.reader.Halt.TheVariants as halts
-use Rattle.mdp_pcap.specs.declared.reader.Step.{Step}
-use Rattle.mdp_pcap.specs.declared.reader.Step.TheVariants as steps
+use Rattle.mdp_pcap.specs.declared.pcap_reader.Halt.{Halt}
+use Rattle.mdp_pcap.specs.declared.pcap_reader.Halt.TheVariants as halts
+use Rattle.mdp_pcap.specs.declared.pcap_reader.Advance.{Advance}
+use Rattle.mdp_pcap.specs.declared.pcap_reader.Advance.TheVariants as advances
 
 -- what takes the frames took no more
 abbrev pub IsStop : {E : Type 0} → Halt E → Type 0
@@ -29,6 +29,6 @@ pub record HasGoneOn (Taken : List NumberedFrame → Type 0) (old now : ReaderCo
   pub going : now.fault ≡ None
   pub less : 2 * (length rest - count) + length now.held < 2 * length rest + length old.held
 
-abbrev pub HasStepped : (List NumberedFrame → Type 0) → ReaderContent → ReaderContent → List ℕ → Step → Type 0
-HasStepped Taken old now rest (steps.On count) = HasGoneOn Taken old now rest count
-HasStepped Taken old now rest steps.Done = IsReadWhole Taken old now (old.held ++ rest)
+abbrev pub HasStepped : (List NumberedFrame → Type 0) → ReaderContent → ReaderContent → List ℕ → Advance → Type 0
+HasStepped Taken old now rest (advances.On count) = HasGoneOn Taken old now rest count
+HasStepped Taken old now rest advances.Done = IsReadWhole Taken old now (old.held ++ rest)

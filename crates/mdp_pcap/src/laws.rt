@@ -7,7 +7,7 @@ ghost use Rattle.mdp_pcap.specs.Reader.{ReaderContent, Takes, IsReadWhole, HasHa
 ghost use Rattle.mdp_pcap.specs.declared.addresses.FeedAddress.{FeedAddress};
 ghost use Rattle.mdp_pcap.specs.declared.layout.PcapFault.{PcapFault};
 
-use crate::reader::TakesFrames;
+use crate::pcap_reader::TakesFrames;
 
 /// Proves that each text holds one thing: the frames up to its end or its first fault, and that fault.
 pub fn one_answer()

@@ -14,7 +14,7 @@ mod link;
 mod number;
 mod outcome;
 mod packet;
-mod reader;
+mod pcap_reader;
 mod section;
 
 pub use addresses::{FeedAddress, FeedAddresses};
@@ -23,7 +23,7 @@ pub use laws::{faults_stay, one_answer, one_feed, pieces_add, whole_file};
 pub use layout::PcapFault;
 pub use link::Link;
 pub use outcome::FrameOutcome;
-pub use reader::{Halt, PcapReader, TakesFrames};
+pub use pcap_reader::{Halt, PcapReader, TakesFrames};
 
 #[cfg(test)]
 mod tests;

@@ -13,7 +13,7 @@ use Rattle.mdp_engine.specs.Steps.{event_of}
 use Rattle.mdp_lanes.specs.Queues.{IntakeSenderView}
 use Rattle.mdp_crew.specs.declared.batch.Batch.{Batch}
 use Rattle.mdp_crew.specs.Batches.{all_events, batch_events}
-use Rattle.mdp_pipeline.specs.declared.reader.Reader.{Reader}
+use Rattle.mdp_pipeline.specs.declared.feed_reader.FeedReader.{FeedReader}
 use Rattle.mdp_pipeline.specs.Merge.{Arrival, arrivals}
 use Rattle.mdp_pipeline.specs.Reading.{Reading, AreReadings, Says, close_said, events_of, refusal_lines, refusal_text}
 use Rattle.mdp_receiver.specs.Said.{brought_by, kind_of}
@@ -52,7 +52,7 @@ module _ {A : Type 0} where
 
   -- ---- records
 
-  pub read_none : (feed : Feed) (before : IntakeSenderView (Batch A)) (reader : Reader A) → reader.sender ≡ before → reader.events.items ≡ [] → reader.refusals ≡ [] → HasReadSoFar feed [] before reader
+  pub read_none : (feed : Feed) (before : IntakeSenderView (Batch A)) (reader : FeedReader A) → reader.sender ≡ before → reader.events.items ≡ [] → reader.refusals ≡ [] → HasReadSoFar feed [] before reader
   read_none feed before reader same none told = record {
     batches = [];
     put = puts_none before reader.sender same;
@@ -62,7 +62,7 @@ module _ {A : Type 0} where
     refusals = told;
   }
 
-  pub read_more : (feed : Feed) (done : List RecordContent) (entry : RecordContent) (before : IntakeSenderView (Batch A)) (old new : Reader A) → HasReadSoFar feed done before old → HasReadOne feed entry old new → HasReadSoFar feed (done ++ entry ∷ []) before new
+  pub read_more : (feed : Feed) (done : List RecordContent) (entry : RecordContent) (before : IntakeSenderView (Batch A)) (old new : FeedReader A) → HasReadSoFar feed done before old → HasReadOne feed entry old new → HasReadSoFar feed (done ++ entry ∷ []) before new
   read_more feed done entry before old new so_far one =
       let arrival : Arrival = record { feed = feed; entry = entry } in
       let reading : Reading = record { arrival = arrival; said = one.said } in
@@ -87,14 +87,14 @@ module _ {A : Type 0} where
             ∙ sym (flat_map-append (λ (r : Reading). refusal_text r.arrival.feed r.arrival.entry.line r.said) so_far.readings (reading ∷ []));
       }
 
-  pub read_next : (feed : Feed) (records : List RecordContent) (i : ℕ) (entry : RecordContent) (before : IntakeSenderView (Batch A)) (old new : Reader A) → i < length records → entry ≡ get_or records i entry
+  pub read_next : (feed : Feed) (records : List RecordContent) (i : ℕ) (entry : RecordContent) (before : IntakeSenderView (Batch A)) (old new : FeedReader A) → i < length records → entry ≡ get_or records i entry
       → HasReadSoFar feed (take i records) before old → HasReadOne feed entry old new → HasReadSoFar feed (take (i + 1) records) before new
   read_next feed records i entry before old new within at so_far one =
       subst (λ (t : List RecordContent). HasReadSoFar feed t before new) (ap (λ (e : RecordContent). take i records ++ e ∷ []) at ∙ sym (take_more records i entry within))
       (read_more feed (take i records) entry before old new so_far one)
 
   -- what was held was handed over
-  pub moved_on : (feed : Feed) (done : List RecordContent) (before : IntakeSenderView (Batch A)) (old new : Reader A) (batches : List (Batch A)) → HasPut old.sender batches new.sender → events_held old ≡ all_events batches ++ events_held new → new.refusals ≡ old.refusals
+  pub moved_on : (feed : Feed) (done : List RecordContent) (before : IntakeSenderView (Batch A)) (old new : FeedReader A) (batches : List (Batch A)) → HasPut old.sender batches new.sender → events_held old ≡ all_events batches ++ events_held new → new.refusals ≡ old.refusals
       → HasReadSoFar feed done before old → HasReadSoFar feed done before new
   moved_on feed done before old new batches put events told so_far = record {
     batches = so_far.batches ++ batches;
@@ -110,7 +110,7 @@ module _ {A : Type 0} where
   }
 
   -- the records behind these say something too
-  pub handed_over : (feed : Feed) (records done left : List RecordContent) (before after : IntakeSenderView (Batch A)) (reader : Reader A) → records ≡ done ++ left → after ≡ reader.sender → HasReadSoFar feed done before reader → HasHandedOver feed records before after
+  pub handed_over : (feed : Feed) (records done left : List RecordContent) (before after : IntakeSenderView (Batch A)) (reader : FeedReader A) → records ≡ done ++ left → after ≡ reader.sender → HasReadSoFar feed done before reader → HasHandedOver feed records before after
   handed_over feed records done left before after reader parts same so_far =
       let more = readings_exist (arrivals feed left) in
       let both = readings-append (arrivals feed done) (arrivals feed left) so_far.readings more.0 so_far.are more.1 in
@@ -139,7 +139,7 @@ no_refusal : (feed : Feed) (line : ℕ) (kind : Kind) → refusal_text feed line
 no_refusal feed line incremental = refl
 no_refusal feed line recovery = refl
 
-pub holds_close : {A T E : Type 0} (feed : Feed) (entry : RecordContent) (old new : Reader A) (result : Result T E) → entry.received ≡ Close → OnOk result (events_held new ≡ events_held old ++ brought_by (close_said (kind_of feed))) → new.refusals ≡ old.refusals → OnOk result (HoldsOne feed entry old new)
+pub holds_close : {A T E : Type 0} (feed : Feed) (entry : RecordContent) (old new : FeedReader A) (result : Result T E) → entry.received ≡ Close → OnOk result (events_held new ≡ events_held old ++ brought_by (close_said (kind_of feed))) → new.refusals ≡ old.refusals → OnOk result (HoldsOne feed entry old new)
 holds_close feed entry old new (Ok done) is events same = record {
   said = close_said (kind_of feed);
   says = subst (λ (r : Received). Says (kind_of feed) r (close_said (kind_of feed))) (sym is) refl;

@@ -28,7 +28,7 @@ use Rattle.mdp_crew.specs.Publishing.{published_on}
 use Rattle.mdp_crew.specs.Running.{HasShown, HasShownAll, WentOut}
 use Rattle.mdp_crew.proofs.Boards.{published_nothing}
 use Rattle.mdp_crew.specs.Faults.{FailsBy}
-use Rattle.mdp_pipeline.specs.declared.reader.ReaderOutcome.{ReaderOutcome}
+use Rattle.mdp_pipeline.specs.declared.feed_reader.ReaderOutcome.{ReaderOutcome}
 use Rattle.mdp_crew.specs.declared.fault.RunFault.{RunFault}
 use Rattle.mdp_pipeline.specs.declared.summary.Summary.{Summary}
 use Rattle.mdp_pipeline.specs.Taken.{HasReadFor, tagged_as, tagged_taken}

@@ -34,7 +34,7 @@ use Rattle.mdp_pipeline.specs.Output.{BeginsInTextOrder, end_lines, shown_output
 use Rattle.mdp_pipeline.specs.Reading.{Reading, AreReadings, events_of}
 use Rattle.mdp_pipeline.specs.RefusalTexts.{RefusalTexts}
 use Rattle.mdp_pipeline.specs.Running.{BeginsAll, EndsAs, EndsEarly, HasRun, HasWritten, PrintsAll, Writes, joined_texts}
-use Rattle.mdp_pipeline.specs.Streamed.{EndsAfter, EndsAsCapture, EndsBehind, EndsWith, Goes, HasTakenLines, IsRunOrFirst, LacksInstrument, IsIdle, IsUnderWay, LinesShow, PrintsLines, RefusesText, Setup, StandsBehind, StopsAtEnd, StopsInPiece, Streams, TakesEnd, TakesPiece, TakesTexts, channel_with, numbered, setup_of, text_held}
+use Rattle.mdp_pipeline.specs.Streamed.{EndsAfter, EndsAsCapture, EndsBehind, EndsWith, Goes, gone_out, HasTakenLines, IsRunOrFirst, LacksInstrument, IsIdle, IsUnderWay, LinesShow, PrintsLines, RefusesText, Setup, StandsBehind, StopsAtEnd, StopsInPiece, Streams, TakesEnd, TakesPiece, TakesTexts, channel_with, numbered, setup_of, text_held}
 use Rattle.mdp_pipeline.specs.Streamed.LinesShow.{unlisted, listed}
 use Rattle.mdp_pipeline.specs.TextOrder.{arrivals_in, arrivals_of_line}
 use Rattle.mdp_pipeline.proofs.Beginnings.{begins_none, begins_so_far, readings-append}
@@ -112,17 +112,17 @@ module _ {A : Type 0} where
 
   -- ---- the run of a text that has ended
 
-  pub ended_run : (channel : ListedChannel) (has : Bool) (came : List NumberedLine) (sent : List ℕ) (notes : List Note) (run : Run A) → IsUnderWay channel has came sent notes run → HasTakenLines channel came sent notes run
+  pub ended_run : (channel : ListedChannel) (has : Bool) (came : List NumberedLine) (sent : List ℕ) (notes : List Note) (run : Run A) → IsUnderWay channel has came (gone_out sent notes) run → HasTakenLines channel came sent notes run
   ended_run channel has came sent notes run under = under.taken
 
   -- where no record came, a run begins at the end
   pub ended_fresh : (channel : ListedChannel) (has : Bool) (came : List NumberedLine) (sent : List ℕ) (notes : List Note) (run : Run A) → 0 < length channel.listed → HasRun channel [] [] run
-      → Goes {A = A} channel has came sent notes None → HasTakenLines channel came sent notes run
+      → Goes {A = A} channel has came (gone_out sent notes) None → HasTakenLines channel came sent notes run
   ended_fresh channel true came sent notes run some has goes = absurd (let none = goes.unlisted refl in omega (arith, some, ap length none))
   ended_fresh channel false came sent notes run some has goes = (run_begins_here channel came sent notes run some has goes).taken
 
   ended_goes : (channel : ListedChannel) (has : Bool) (came : List NumberedLine) (sent : List ℕ) (notes : List Note) (run : Option (Run A)) (made : Run A) → 0 < length channel.listed
-      → IsRunOrFirst channel run made → Goes channel has came sent notes run → HasTakenLines channel came sent notes made
+      → IsRunOrFirst channel run made → Goes channel has came (gone_out sent notes) run → HasTakenLines channel came sent notes made
   ended_goes channel has came sent notes None made some is goes = ended_fresh channel has came sent notes made some is goes
   ended_goes channel has came sent notes (Some run) made some is goes = subst (HasTakenLines channel came sent notes) (sym is) goes.taken
 
@@ -236,14 +236,14 @@ shows_taken channel came sent notes run some taken =
 
 -- what was sent, and what is held
 pub shows_all : {A : Type 0} (channel : ListedChannel) (has : Bool) (came : List NumberedLine) (sent : List ℕ) (notes : List Note) (run : Option (Run A))
-    → Goes channel has came sent notes run → LinesShow channel came (sent ++ text_held run) notes
+    → Goes channel has came (gone_out sent notes) run → LinesShow channel came (sent ++ text_held run) notes
 shows_all channel has came sent notes None goes =
     subst (λ (text : List ℕ). LinesShow channel came text notes) (sym (append-nil sent)) (shows_idle channel.listed channel has came sent notes refl goes)
 shows_all channel has came sent notes (Some run) goes = shows_taken channel came sent notes run goes.listed goes.taken
 
 -- where nothing is held
 pub shows_sent : {A : Type 0} (channel : ListedChannel) (has : Bool) (came : List NumberedLine) (sent : List ℕ) (notes : List Note) (run : Option (Run A)) → text_held run ≡ []
-    → Goes channel has came sent notes run → LinesShow channel came sent notes
+    → Goes channel has came (gone_out sent notes) run → LinesShow channel came sent notes
 shows_sent channel has came sent notes run none goes =
     subst (λ (text : List ℕ). LinesShow channel came text notes) (ap (λ (held : List ℕ). sent ++ held) none ∙ append-nil sent) (shows_all channel has came sent notes run goes)
 
@@ -253,7 +253,7 @@ take-nil (suc n) = refl
 
 -- of what is held so many bytes went out
 pub begins_goes : {A : Type 0} (channel : ListedChannel) (has : Bool) (came : List NumberedLine) (start sent taken : List ℕ) (notes : List Note) (run : Option (Run A)) (n : ℕ)
-    → taken ≡ (start ++ sent) ++ take n (text_held run) → Goes channel has came sent notes run → BeginsInTextOrder channel came start taken
+    → taken ≡ (start ++ sent) ++ take n (text_held run) → Goes channel has came (gone_out sent notes) run → BeginsInTextOrder channel came start taken
 begins_goes channel has came start sent taken notes None n went goes =
     let same : taken ≡ start =
     went ∙ ap (λ (t : List ℕ). (start ++ sent) ++ t) (take-nil n) ∙ append-nil (start ++ sent) ∙ ap (λ (t : List ℕ). start ++ t) goes.unsent ∙ append-nil start in
@@ -343,7 +343,7 @@ pub lacks_one : (whole : List ℕ) (capture : CaptureContent) → add_lines 1 (l
 lacks_one whole capture comes none = ap needs_instrument comes ∙ rw none refl
 
 -- what the lines of a run show that has come to its end
-pub ended_shows : {A : Type 0} (setup : Setup) (texts : List (List ℕ)) (capture : CaptureContent) (sent : List ℕ) (notes : List Note) (ended : EndedRun A) → EndsBehind setup texts capture sent notes ended
+pub ended_shows : {A : Type 0} (setup : Setup) (texts : List (List ℕ)) (capture : CaptureContent) (sent : List ℕ) (notes : List Note) (ended : EndedRun A) → EndsBehind setup texts capture (gone_out sent notes) ended
     → LinesShow (channel_with capture.instruments setup) (numbered texts) (sent ++ ended.run.handler.held) notes
 ended_shows setup texts capture sent notes ended is = shows_taken (channel_with capture.instruments setup) (numbered texts) sent notes ended.run is.ends.listed is.ends.taken
 

@@ -33,7 +33,7 @@ use Rattle.mdp_pipeline.specs.Merge.{arrival_on}
 use Rattle.mdp_pipeline.specs.Notes.{ReadLine, IsReadLine, jump_notes, lines_of, loss_notes, move_notes, moved_notes, notes_from, notes_of, readings_in, skip_notes}
 use Rattle.mdp_pipeline.specs.Reading.{Reading, events_of}
 use Rattle.mdp_pipeline.specs.Running.{HasRun, TakesMoving, TakesOn}
-use Rattle.mdp_pipeline.specs.Streamed.{Goes, HasTakenLines, IsIdle, IsUnderWay}
+use Rattle.mdp_pipeline.specs.Streamed.{Goes, gone_out, HasTakenLines, IsIdle, IsUnderWay}
 use Rattle.mdp_pipeline.specs.TextOrder.{arrivals_of_line}
 use Rattle.mdp_pipeline.proofs.Written.{read_more, reading_of}
 
@@ -183,7 +183,7 @@ module _ {A : Type 0} where
       (sym (append-nil (skip_notes line)) ∙ ap (λ (notes : List Note). skip_notes line ++ notes) (sym (none_moves (channel_of channel) es line.number)))
 
   pub silent_goes : (channel : ListedChannel) (has : Bool) (came : List NumberedLine) (sent : List ℕ) (told held : List Note) (line : NumberedLine) (run : Option (Run A))
-      → IsSilent line → Goes channel has came sent (told ++ held) run → Goes channel has (came ++ line ∷ []) sent (told ++ (held ++ skip_notes line)) run
+      → IsSilent line → Goes channel has came (gone_out sent (told ++ held)) run → Goes channel has (came ++ line ∷ []) (gone_out sent (told ++ (held ++ skip_notes line))) run
   silent_goes channel has came sent told held line None silent goes = silent_idle channel.listed channel.listed has came sent told held line silent goes.unlisted goes
   silent_goes channel has came sent told held line (Some run) silent goes = record {
     begun = goes.begun;
@@ -193,7 +193,7 @@ module _ {A : Type 0} where
 
   -- an instrument more, before the first record
   pub listed_goes : (channel now : ListedChannel) (came : List NumberedLine) (sent : List ℕ) (told held : List Note) (line : NumberedLine) (run : Option (Run A))
-      → IsSilent line → Goes channel false came sent (told ++ held) run → Goes now false (came ++ line ∷ []) sent (told ++ (held ++ skip_notes line)) run
+      → IsSilent line → Goes channel false came (gone_out sent (told ++ held)) run → Goes now false (came ++ line ∷ []) (gone_out sent (told ++ (held ++ skip_notes line))) run
   listed_goes channel now came sent told held line None silent goes = silent_idle channel.listed now.listed false came sent told held line silent (λ is. absurd (cc)) goes
   listed_goes channel now came sent told held line (Some run) silent goes = absurd (let e : false ≡ true = goes.begun in cc)
 
@@ -217,7 +217,7 @@ module _ {A : Type 0} where
 
   -- a datagram, with what it moved
   pub datagram_taken : (channel : ListedChannel) (came : List NumberedLine) (sent : List ℕ) (told held : List Note) (line : NumberedLine) (feed : Feed) (received : Received) (moved : Moved) (old new : Run A)
-      → BringsOne line feed received → TakesMoving feed line.number received moved old new
+      → BringsOne line feed received → TakesMoving feed (record { line = line.number; received = received }) moved old new
       → HasTakenLines channel came sent (told ++ held) old → HasTakenLines channel (came ++ line ∷ []) sent (told ++ (held ++ moved_notes line.number moved)) new
   datagram_taken channel came sent told held line feed received moved old new line_brings takes so_far =
       record_taken channel came sent told held (moved_notes line.number moved) line feed received old new line_brings takes.takes
@@ -267,7 +267,7 @@ silent_notes channel es (line ∷ came) =
     ∙ ap (λ (notes : List Note). skip_notes line ++ notes) (silent_notes channel es came)
 
 pub run_begins_here : {A : Type 0} (channel : ListedChannel) (came : List NumberedLine) (sent : List ℕ) (notes : List Note) (run : Run A) → 0 < length channel.listed
-    → HasRun channel [] [] run → IsIdle channel.listed false came sent notes → IsUnderWay channel true came sent notes run
+    → HasRun channel [] [] run → IsIdle channel.listed false came sent notes → IsUnderWay channel true came (gone_out sent notes) run
 run_begins_here channel came sent notes run some has idle = record {
   begun = refl;
   listed = some;
@@ -283,7 +283,7 @@ run_begins_here channel came sent notes run some has idle = record {
 -- ---- a datagram, with what it moved
 
 pub moving : {A : Type 0} (feed : Feed) (line : ℕ) (bytes : List ℕ) (told : Taken × Moved) (old new : Run A) → MovesDatagram feed bytes told old.handler new.handler
-    → new.refusals ≡ with_told feed line (refusal_told told.0) old.refusals → TakesMoving feed line (Datagram bytes) told.1 old new
+    → new.refusals ≡ with_told feed line (refusal_told told.0) old.refusals → TakesMoving feed (record { line = line; received = Datagram bytes }) told.1 old new
 moving feed line bytes told old new moves refusals =
     let takes = moves.2 in
     record {

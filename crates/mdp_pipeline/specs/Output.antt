@@ -10,7 +10,7 @@ use Rattle.mdp_arbiter.specs.declared.arbiter.Standing.{Standing}
 use Rattle.mdp_arbiter.specs.Channel.{ListedChannel}
 use Rattle.mdp_desks.specs.Moments.{Moment, moments, shown_lines}
 use Rattle.mdp_engine.specs.Honest.{IsHonest}
-use Rattle.mdp_engine.specs.Owed.{lines, owed_moments, steps_of}
+use Rattle.mdp_engine.specs.Owed.{lines, owed_moments, numbered_moves}
 use Rattle.mdp_lanes.specs.declared.step.Step.{Step}
 use Rattle.mdp_reports.specs.Behind.{IsBehind}
 use Rattle.mdp_reports.specs.BoardSteps.{board_steps, owed_board_steps}
@@ -47,7 +47,7 @@ shown_output channel refusals events =
 -- the text that a complete feed defines: the lines that it owes for the moves
 abbrev pub output : ListedChannel → List PacketContent → List ℕ → List Event → List ℕ
 output channel feed refusals events =
-    lines channel.listed feed (steps_of (moves_of channel events))
+    lines channel.listed feed (numbered_moves (moves_of channel events))
     ++ end_lines channel refusals events
 
 -- ---- a run
@@ -112,7 +112,7 @@ pub record Publishes (channel : ListedChannel) (events : List Event)
     (steps : List Step) : Type 0 where
   pub shown : steps ≡ board_steps channel.listed (moves_of channel events)
   pub owed : (feed : List PacketContent) → IsHonest channel.listed feed events
-      → steps ≡ owed_board_steps channel.listed feed (steps_of (moves_of channel events))
+      → steps ≡ owed_board_steps channel.listed feed (numbered_moves (moves_of channel events))
 
 -- What went out before an early end, as text and on the board: both are read off one list of
 -- moments, those that the moves show. They are those of every complete feed that agrees with the
@@ -122,7 +122,7 @@ pub record BeginsToPublish (channel : ListedChannel) (events : List Event) (end 
   pub shown : List Moment
   pub shown_is : shown ≡ moments channel.listed (moves_of channel events)
   pub owed : (feed : List PacketContent) → IsHonest channel.listed feed events
-      → shown ≡ owed_moments channel.listed feed (steps_of (moves_of channel events))
+      → shown ≡ owed_moments channel.listed feed (numbered_moves (moves_of channel events))
   pub behind : IsBehind shown end sent steps
 
 -- the text and the steps are those of one merge

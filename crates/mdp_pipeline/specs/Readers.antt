@@ -8,8 +8,8 @@ use Rattle.mdp_engine.specs.Steps.{event_of}
 use Rattle.mdp_lanes.specs.Queues.{IntakeSenderView}
 use Rattle.mdp_crew.specs.declared.batch.Batch.{Batch}
 use Rattle.mdp_crew.specs.Batches.{all_events}
-use Rattle.mdp_pipeline.specs.declared.reader.Reader.{Reader}
-use Rattle.mdp_pipeline.specs.declared.reader.ReaderOutcome.{ReaderOutcome}
+use Rattle.mdp_pipeline.specs.declared.feed_reader.FeedReader.{FeedReader}
+use Rattle.mdp_pipeline.specs.declared.feed_reader.ReaderOutcome.{ReaderOutcome}
 use Rattle.mdp_pipeline.specs.Merge.{arrivals}
 use Rattle.mdp_pipeline.specs.Reading.{Reading, AreReadings, Says, events_of, refusal_lines, refusal_text}
 use Rattle.mdp_receiver.specs.Said.{Said, brought_by, kind_of}
@@ -23,11 +23,11 @@ abbrev pub HasPut : {A : Type 0} → IntakeSenderView (Batch A) → List (Batch 
 HasPut before batches after = after ≡ record before { sent = before.sent ++ batches }
 
 -- the events that are read and not handed over yet
-abbrev pub events_held : {A : Type 0} → Reader A → List Event
+abbrev pub events_held : {A : Type 0} → FeedReader A → List Event
 events_held reader = map event_of reader.events.items
 
 -- One record's events are held behind the others, or its refusal is told.
-pub record HoldsOne {A : Type 0} (feed : Feed) (entry : RecordContent) (old new : Reader A) : Type 0 where
+pub record HoldsOne {A : Type 0} (feed : Feed) (entry : RecordContent) (old new : FeedReader A) : Type 0 where
   pub said : Said
   pub says : Says (kind_of feed) entry.received said
   pub events : events_held new ≡ events_held old ++ brought_by said
@@ -35,7 +35,7 @@ pub record HoldsOne {A : Type 0} (feed : Feed) (entry : RecordContent) (old new 
 
 -- One record was read: its events are held behind the others, but for those that were handed over, or its refusal is
 -- told.
-pub record HasReadOne {A : Type 0} (feed : Feed) (entry : RecordContent) (old new : Reader A) : Type 0 where
+pub record HasReadOne {A : Type 0} (feed : Feed) (entry : RecordContent) (old new : FeedReader A) : Type 0 where
   pub said : Said
   pub says : Says (kind_of feed) entry.received said
   pub batches : List (Batch A)
@@ -46,7 +46,7 @@ pub record HasReadOne {A : Type 0} (feed : Feed) (entry : RecordContent) (old ne
 -- These records were read: their events are handed over, but for the last ones, which are held, and their refusals are
 -- told.
 pub record HasReadSoFar {A : Type 0} (feed : Feed) (records : List RecordContent) (before : IntakeSenderView (Batch A))
-    (reader : Reader A) : Type 0 where
+    (reader : FeedReader A) : Type 0 where
   pub batches : List (Batch A)
   pub put : HasPut before batches reader.sender
   pub readings : List Reading

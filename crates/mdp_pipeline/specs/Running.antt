@@ -7,7 +7,7 @@ use Rattle.mdp_arbiter.specs.Channel.{ListedChannel, channel_of}
 use Rattle.mdp_arbiter.specs.Accepted.{Event}
 use Rattle.mdp_desks.specs.Moments.{Moment, text_of_moments}
 use Rattle.mdp_engine.specs.Engine.{View, Stands}
-use Rattle.mdp_capture.specs.Record.{Received}
+use Rattle.mdp_capture.specs.Record.{Received, RecordContent}
 use Rattle.mdp_pipeline.specs.Merge.{Arrival, arrival_on}
 use Rattle.mdp_templates.specs.Refused.{FeedKind as Kind}
 use Rattle.mdp_pipeline.specs.declared.progress.Run.{Run}
@@ -46,10 +46,10 @@ abbrev pub TakesOn : {A : Type 0} → Feed → ℕ → Received → Run A → Ru
 TakesOn feed line received old new =
     TakesAs (kind_of feed) (arrival_on feed (record { line = line; received = received })) old new
 
--- it has taken in a datagram that came on this line of a feed, which moved this
-pub record TakesMoving {A : Type 0} (feed : Feed) (line : ℕ) (received : Received) (moved : Moved)
-    (old new : Run A) : Type 0 where
-  pub takes : TakesOn feed line received old new
+-- it has taken in a datagram that came with this record on a feed, which moved this
+pub record TakesMoving {A : Type 0} (feed : Feed) (entry : RecordContent) (moved : Moved) (old new : Run A)
+    : Type 0 where
+  pub takes : TakesOn feed entry.line entry.received old new
   pub moves : TellsMoved takes.said moved old.handler
 
 -- an engine that keeps lines stands at these events, of whose lines this text was sent; it holds the rest

@@ -40,11 +40,20 @@ pub record Setup : Type 0 where
 abbrev pub channel_with : List Instrument → Setup → ListedChannel
 channel_with listed setup = record { listed = listed; room = setup.room; start = setup.start }
 
+-- what was sent of the text of lines, and what was told of them
+pub record GoneOut : Type 0 where
+  pub sent : List ℕ
+  pub told : List Note
+
+abbrev pub gone_out : List ℕ → List Note → GoneOut
+gone_out sent told = record { sent = sent; told = told }
+
 -- ---- what lines show and tell
 
--- Lines of a channel show this text, and this is told of them: what the moves of all that they bring show, and the notes
--- of each line. Where no instrument is listed nothing is shown, and the lines that are skipped are told.
-pub data LinesShow (channel : ListedChannel) (came : List NumberedLine) (text : List ℕ) (notes : List Note) : Type 0 where
+-- Lines of a channel show this text, and this is told of them: what the moves of all that they bring show, and the
+-- notes of each line. Where no instrument is listed nothing is shown, and the lines that are skipped are told.
+pub data LinesShow (channel : ListedChannel) (came : List NumberedLine) (text : List ℕ) (notes : List Note)
+    : Type 0 where
   unlisted : channel.listed ≡ [] → text ≡ [] → notes ≡ flat_map skip_notes came → LinesShow channel came text notes
   listed : 0 < length channel.listed → (reads : List ReadLine) → lines_of reads ≡ came → AllByRecursion IsReadLine reads
       → text ≡ shown_lines channel.listed (moves_of channel (events_of (readings_in reads)))
@@ -82,32 +91,32 @@ pub record HasTakenLines {A : Type 0} (channel : ListedChannel) (came : List Num
 
 -- a run has begun, behind the first record, of instruments that are listed
 pub record IsUnderWay {A : Type 0} (channel : ListedChannel) (has : Bool) (came : List NumberedLine)
-    (sent : List ℕ) (notes : List Note) (run : Run A) : Type 0 where
+    (gone : GoneOut) (run : Run A) : Type 0 where
   pub begun : has ≡ true
   pub listed : 0 < length channel.listed
-  pub taken : HasTakenLines channel came sent notes run
+  pub taken : HasTakenLines channel came gone.sent gone.told run
 
-abbrev pub Goes : {A : Type 0} → ListedChannel → Bool → List NumberedLine → List ℕ → List Note → Option (Run A) → Type 0
-Goes channel has came sent notes None = IsIdle channel.listed has came sent notes
-Goes channel has came sent notes (Some run) = IsUnderWay channel has came sent notes run
+abbrev pub Goes : {A : Type 0} → ListedChannel → Bool → List NumberedLine → GoneOut → Option (Run A) → Type 0
+Goes channel has came gone None = IsIdle channel.listed has came gone.sent gone.told
+Goes channel has came gone (Some run) = IsUnderWay channel has came gone run
 
--- The lines came, of a channel of these instruments, and among them a record or none. Of what they show this was sent,
--- and of what they tell these notes; the rest is held.
-pub record Behind {A : Type 0} (channel : ListedChannel) (has : Bool) (came : List NumberedLine) (sent : List ℕ)
-    (told : List Note) (now : StreamedLines A) : Type 0 where
+-- The lines came, of a channel of these instruments, and among them a record or none. Of what they show and tell this
+-- has gone out; the rest is held.
+pub record Behind {A : Type 0} (channel : ListedChannel) (has : Bool) (came : List NumberedLine) (gone : GoneOut)
+    (now : StreamedLines A) : Type 0 where
   pub least : 1 ≤ channel.room
   pub most : channel.room ≤ 65536
   pub window_is : now.window ≡ channel.room
   pub start_is : now.start ≡ channel.start
   pub instruments_are : now.instruments ≡ channel.listed
   pub record_is : now.has_record ≡ has
-  pub goes : Goes channel has came sent (told ++ now.notes.items) now.run
+  pub goes : Goes channel has came (gone_out gone.sent (gone.told ++ now.notes.items)) now.run
 
 -- the same of a capture so far
-abbrev pub BehindCapture : {A : Type 0} → Setup → CaptureContent → List NumberedLine → List ℕ → List Note
-    → StreamedLines A → Type 0
-BehindCapture setup capture came sent told now =
-    Behind (channel_with capture.instruments setup) (has_record capture) came sent told now
+abbrev pub BehindCapture : {A : Type 0} → Setup → CaptureContent → List NumberedLine → GoneOut → StreamedLines A
+    → Type 0
+BehindCapture setup capture came gone now =
+    Behind (channel_with capture.instruments setup) (has_record capture) came gone now
 
 -- these texts came, none of which refuses the run, and they make this capture so far
 pub record StandsBehind {A : Type 0} (setup : Setup) (texts : List (List ℕ)) (sent : List ℕ) (told : List Note)
@@ -115,29 +124,29 @@ pub record StandsBehind {A : Type 0} (setup : Setup) (texts : List (List ℕ)) (
   pub capture : CaptureContent
   pub comes_to : add_lines 1 texts no_capture ≡ Ok capture
   pub line_is : now.line ≡ min (1 + length texts) 4294967295
-  pub behind : BehindCapture setup capture (numbered texts) sent told now
+  pub behind : BehindCapture setup capture (numbered texts) (gone_out sent told) now
 
 -- ---- one line more, or some
 
 -- whatever it stood behind, it stands behind a line too that says this
 abbrev pub TakesContent : {A : Type 0} → LineContent → StreamedLines A → StreamedLines A → Type 0
 TakesContent content old new =
-    (setup : Setup) (capture : CaptureContent) (before : List NumberedLine) (sent : List ℕ) (told : List Note)
-    → BehindCapture setup capture before sent told old
+    (setup : Setup) (capture : CaptureContent) (before : List NumberedLine) (gone : GoneOut)
+    → BehindCapture setup capture before gone old
     → (next : CaptureContent) × (add_line old.line content capture ≡ Ok next)
-    × BehindCapture setup next (before ++ (record { number = old.line; content = content }) ∷ []) sent told new
+    × BehindCapture setup next (before ++ (record { number = old.line; content = content }) ∷ []) gone new
 
 -- a line that says this refuses the run, whatever it stands behind
 abbrev pub RefusesContent : {A : Type 0} → LineContent → StreamedLines A → RefusedLine → Type 0
 RefusesContent content now refused =
-    (setup : Setup) (capture : CaptureContent) (before : List NumberedLine) (sent : List ℕ) (told : List Note)
-    → BehindCapture setup capture before sent told now → add_line now.line content capture ≡ Err refused
+    (setup : Setup) (capture : CaptureContent) (before : List NumberedLine) (gone : GoneOut)
+    → BehindCapture setup capture before gone now → add_line now.line content capture ≡ Err refused
 
 -- where this is the first record, a run begins if an instrument is listed; and now one has come
 abbrev pub BeginsRun : {A : Type 0} → StreamedLines A → StreamedLines A → Type 0
 BeginsRun old new =
-    (channel : ListedChannel) (has : Bool) (came : List NumberedLine) (sent : List ℕ) (told : List Note)
-    → Behind channel has came sent told old → Behind channel true came sent told new
+    (channel : ListedChannel) (has : Bool) (came : List NumberedLine) (gone : GoneOut)
+    → Behind channel has came gone old → Behind channel true came gone new
 
 -- the run that has begun, or a first one of this channel
 abbrev pub IsRunOrFirst : {A : Type 0} → ListedChannel → Option (Run A) → Run A → Type 0
@@ -172,14 +181,14 @@ pub record Streams {A : Type 0} (setup : Setup) (text sent : List ℕ) (told : L
   pub cuts : Cuts text front now.cutter
   pub stands : StandsBehind setup front sent told now.lines
 
--- A text has a line that refuses the run. Of those before it this was sent and told, and the rest is held.
-pub record StopsAt {A : Type 0} (setup : Setup) (text sent : List ℕ) (told : List Note) (refused : RefusedLine)
+-- A text has a line that refuses the run. Of those before it this has gone out, and the rest is held.
+pub record StopsAt {A : Type 0} (setup : Setup) (text : List ℕ) (gone : GoneOut) (refused : RefusedLine)
     (now : StreamedRun A) : Type 0 where
   pub before : List (List ℕ)
   pub line : List ℕ
   pub rest : List (List ℕ)
   pub of : lines text ≡ before ++ line ∷ rest
-  pub stands : StandsBehind setup before sent told now.lines
+  pub stands : StandsBehind setup before gone.sent gone.told now.lines
   pub is_refused : add_lines 1 (before ++ line ∷ []) no_capture ≡ Err refused
 
 -- a piece was taken in, whatever came before it
@@ -190,7 +199,7 @@ TakesPiece piece old new = (setup : Setup) (text sent : List ℕ) (told : List N
 -- in a piece the run was refused, whatever came before it and whatever follows
 abbrev pub StopsInPiece : {A : Type 0} → List ℕ → RefusedLine → StreamedRun A → StreamedRun A → Type 0
 StopsInPiece piece refused old new = (setup : Setup) (text more sent : List ℕ) (told : List Note)
-    → Streams setup text sent told old → StopsAt setup ((text ++ piece) ++ more) sent told refused new
+    → Streams setup text sent told old → StopsAt setup ((text ++ piece) ++ more) (gone_out sent told) refused new
 
 -- the text ended, and its last line was taken in
 abbrev pub TakesEnd : {A : Type 0} → StreamedRun A → StreamedRun A → Type 0
@@ -199,7 +208,7 @@ TakesEnd old new = (setup : Setup) (text sent : List ℕ) (told : List Note)
 
 abbrev pub StopsAtEnd : {A : Type 0} → RefusedLine → StreamedRun A → StreamedRun A → Type 0
 StopsAtEnd refused old new = (setup : Setup) (text sent : List ℕ) (told : List Note)
-    → Streams setup text sent told old → StopsAt setup text sent told refused new
+    → Streams setup text sent told old → StopsAt setup text (gone_out sent told) refused new
 
 -- the text that a run holds, if one has begun
 abbrev pub text_held : {A : Type 0} → Option (Run A) → List ℕ
@@ -229,8 +238,8 @@ pub record HasHandedOn {A : Type 0} (old new : StreamedLines A) : Type 0 where
 -- ---- all lines of a text
 
 -- the lines of a channel of these instruments were all taken in, of whose text this was sent, and this is told of them
-pub record EndsAfter {A : Type 0} (channel : ListedChannel) (came : List NumberedLine) (sent : List ℕ) (notes : List Note)
-    (ended : EndedRun A) : Type 0 where
+pub record EndsAfter {A : Type 0} (channel : ListedChannel) (came : List NumberedLine) (sent : List ℕ)
+    (notes : List Note) (ended : EndedRun A) : Type 0 where
   pub instruments_are : ended.instruments ≡ channel.listed
   pub listed : 0 < length channel.listed
   pub taken : HasTakenLines channel came sent notes ended.run
@@ -247,16 +256,16 @@ pub record EndsWith (channel : ListedChannel) (came : List NumberedLine) (note :
   pub note_is : note ≡ end_note channel.listed engine
 
 -- the lines of a text that makes this capture were all taken in
-pub record EndsBehind {A : Type 0} (setup : Setup) (texts : List (List ℕ)) (capture : CaptureContent) (sent : List ℕ)
-    (notes : List Note) (ended : EndedRun A) : Type 0 where
+pub record EndsBehind {A : Type 0} (setup : Setup) (texts : List (List ℕ)) (capture : CaptureContent) (gone : GoneOut)
+    (ended : EndedRun A) : Type 0 where
   pub comes_to : add_lines 1 texts no_capture ≡ Ok capture
-  pub ends : EndsAfter (channel_with capture.instruments setup) (numbered texts) sent notes ended
+  pub ends : EndsAfter (channel_with capture.instruments setup) (numbered texts) gone.sent gone.told ended
 
 -- a run that stood behind all lines of a text has come to the end of its capture
 abbrev pub EndsAsCapture : {A : Type 0} → StreamedLines A → EndedRun A → Type 0
 EndsAsCapture old ended = (setup : Setup) (texts : List (List ℕ)) (sent : List ℕ) (told : List Note)
     → StandsBehind setup texts sent told old
-    → (capture : CaptureContent) × EndsBehind setup texts capture sent (told ++ old.notes.items) ended
+    → (capture : CaptureContent) × EndsBehind setup texts capture (gone_out sent (told ++ old.notes.items)) ended
 
 -- none of the lines that it stood behind lists an instrument, so that the text is refused on line 0
 abbrev pub LacksInstrument : {A : Type 0} → StreamedLines A → RefusedLine → Type 0

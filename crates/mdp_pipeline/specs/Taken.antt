@@ -7,7 +7,7 @@ use Rattle.mdp_arbiter.specs.Accepted.{Event}
 use Rattle.mdp_lanes.specs.Queues.{IntakeReceiverView, IntakeSenderView, IsFreshSenderOf}
 use Rattle.mdp_crew.specs.declared.batch.Batch.{Batch}
 use Rattle.mdp_crew.specs.Batches.{batch_events}
-use Rattle.mdp_pipeline.specs.declared.reader.ReaderOutcome.{ReaderOutcome}
+use Rattle.mdp_pipeline.specs.declared.feed_reader.ReaderOutcome.{ReaderOutcome}
 use Rattle.mdp_pipeline.specs.Merging.{Tagged}
 use Rattle.mdp_pipeline.specs.Readers.{HasRead}
 

@@ -40,7 +40,7 @@ pub struct EndedRun<A: Allocator + Copy> {
 }
 
 impl<A: Allocator + Copy> EndedRun<A> {
-    /// Tells what keeps the run from going on, if anything does.
+    /// Returns what keeps the run from going on, if anything does.
     pub fn note(&self) -> Option<EndNote>
         ensures { result ≡ end_note self.now.instruments self.now.run.handler }
     {

@@ -18,7 +18,7 @@ pub struct Feeds<'a, A: Allocator> {
     pub s: &'a [Record<A>],
 }
 
-// Tells the line of the first record, if there is one.
+// Returns the line of the first record, if there is one.
 fn first_line<A: Allocator>(records: &[Record<A>]) -> Option<u32>
     ensures { result ≡ head_line records.now }
 {
@@ -28,7 +28,7 @@ fn first_line<A: Allocator>(records: &[Record<A>]) -> Option<u32>
     }
 }
 
-// Tells whether a list with this first line goes before another.
+// Returns whether a list with this first line goes before another.
 fn goes_first(line: Option<u32>, other: Option<u32>) -> bool
     ensures { result ≡ is_first line other }
 {

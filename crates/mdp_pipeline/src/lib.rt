@@ -3,6 +3,7 @@
 #![tactic(auto)]
 
 mod ended;
+mod feed_reader;
 mod feeds;
 mod in_order;
 mod laws;
@@ -10,7 +11,6 @@ mod note;
 mod pace;
 mod pieces;
 mod progress;
-mod reader;
 mod refusals;
 mod refused_lines;
 mod settling;

@@ -17,7 +17,7 @@ struct Lines {
 }
 
 impl Lines {
-    // Tells the line of the slowest reader.
+    // Returns the line of the slowest reader.
     fn slowest(&self) -> u32 {
         self.a.min(self.b).min(self.s)
     }
@@ -46,7 +46,7 @@ pub struct Pace {
     moved: Condvar,
 }
 
-// Tells the line of the first close of feed S.
+// Returns the line of the first close of feed S.
 fn first_close<A: Allocator>(s: &[Record<A>]) -> u32 {
     for record in s {
         if record.bytes().is_none() {
@@ -69,7 +69,7 @@ impl Pace {
         }
     }
 
-    // Tells the last line that may be read where the slowest reader stands at this one.
+    // Returns the last line that may be read where the slowest reader stands at this one.
     fn last_line(&self, slowest: u32) -> u32 {
         if slowest == self.close {
             return slowest;

@@ -65,8 +65,8 @@ impl<A: Allocator + Copy> Run<A> {
         line: u32,
         bytes: &[u8],
     ) -> Result<Moved, Memory>
-        ensures { IfOk result (λ moved. TakesMoving feed line (Datagram bytes.now) moved
-            self.old self.new) }
+        ensures { IfOk result (λ moved. TakesMoving feed
+            (record { line = line; received = Datagram bytes.now }) moved self.old self.new) }
     {
         let (taken, moved) = self.handler.datagram_with_moves(alloc, feed, bytes)?;
         self.keep(feed, line, taken)?;

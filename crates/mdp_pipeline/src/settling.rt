@@ -14,8 +14,8 @@ ghost use Rattle.mdp_pipeline.specs.Merge.{records_in};
 ghost use Rattle.mdp_pipeline.specs.Output.{SaysAll, SaysSome, standing_in};
 ghost use Rattle.mdp_pipeline.specs.Taken.{HasReadFor};
 
+use crate::feed_reader::ReaderOutcome;
 use crate::feeds::Feeds;
-use crate::reader::ReaderOutcome;
 use crate::refusals::Refusals;
 use crate::summary::{Summary, write_end};
 use mdp_crew::{CrewOutcome, RunFault, out_of_memory};

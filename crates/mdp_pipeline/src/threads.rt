@@ -11,9 +11,9 @@ ghost use Rattle.mdp_pipeline.specs.Merge.{records_in};
 ghost use Rattle.mdp_pipeline.specs.Output.{BeginsMerge, BeginsToPublishMerge, Ends, PrintsMerge, PublishesMerge, standing_in};
 ghost use Rattle.mdp_pipeline.specs.Readers.{HasRead, has_ended};
 
+use crate::feed_reader::{ReaderOutcome, number_of, read_feed};
 use crate::feeds::Feeds;
 use crate::pace::Pace;
-use crate::reader::{ReaderOutcome, number_of, read_feed};
 use crate::settling::{Readers, settle_and_finish};
 use crate::summary::Summary;
 use mdp_capture::Record;

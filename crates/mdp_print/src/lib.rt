@@ -12,7 +12,7 @@ mod head;
 mod merged;
 mod pieces;
 mod status_lines;
-mod taken;
+mod taken_bytes;
 #[cfg(test)]
 mod tests;
 mod totals;

@@ -10,7 +10,7 @@ ghost use Rattle.mdp_print.specs.Pieces.{Appends, Extends};
 use crate::pieces::put;
 use crate::totals::put_total;
 use mdp_books::PrintedLevels;
-use mdp_quotes::{Standing, Way, standing_of};
+use mdp_quotes::{MergePlace, Way, merge_place_of};
 use mdp_templates::{DIRECT_DEPTH, IMPLIED_DEPTH, Level, Memory};
 use std::alloc::Allocator;
 
@@ -34,24 +34,24 @@ fn put_levels<A: Allocator>(
 
 // Appends the text of an implied level that stands so among direct ones: its own, unless one of them stands at its
 // price.
-fn put_standing<A: Allocator>(
+fn put_at_place<A: Allocator>(
     out: &mut Vec<u8, A>,
-    standing: &Standing,
+    place: &MergePlace,
     text: &[u8],
 ) -> Result<(), Memory>
-    requires alone { standing.now.passed ≡ standing.now.ahead
-        → text.now ≡ quote_text standing.now.total.price standing.now.total.size }
-    ensures { Extends (quote_text standing.now.total.price standing.now.total.size) out.old out.new
+    requires alone { place.now.passed ≡ place.now.ahead
+        → text.now ≡ quote_text place.now.total.price place.now.total.size }
+    ensures { Extends (quote_text place.now.total.price place.now.total.size) out.old out.new
         result }
 {
-    if standing.passed == standing.ahead {
+    if place.passed == place.ahead {
         return put(out, text);
     }
-    put_total(out, &standing.total)
+    put_total(out, &place.total)
 }
 
 // Appends the texts of the totals up to an implied level, of which this is the text, behind the direct levels that were
-// passed, and tells how many of these are passed then.
+// passed, and returns how many of these are passed then.
 fn put_up_to<A: Allocator>(
     out: &mut Vec<u8, A>,
     way: Way,
@@ -68,10 +68,10 @@ fn put_up_to<A: Allocator>(
     ensures extends { Extends (totals_text
         (totals_to way level.now (drop passed direct.now))) out.old out.new result }
 {
-    let standing = standing_of(way, &direct.levels()[passed..], level);
-    put_levels(out, direct, passed, passed + standing.ahead)?;
-    put_standing(out, &standing, text)?;
-    Ok(passed + standing.passed)
+    let place = merge_place_of(way, &direct.levels()[passed..], level);
+    put_levels(out, direct, passed, passed + place.ahead)?;
+    put_at_place(out, &place, text)?;
+    Ok(passed + place.passed)
 }
 
 /// Appends the texts of the totals of a side that is in order: each implied level at its price among the direct ones.

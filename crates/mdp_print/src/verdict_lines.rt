@@ -11,7 +11,7 @@ use mdp_quotes::Verdict;
 use mdp_templates::{Memory, Name};
 use std::alloc::Allocator;
 
-// Tells what an `A` line has of the verdict on the bid, in at most 15 bytes.
+// Returns what an `A` line has of the verdict on the bid, in at most 15 bytes.
 fn bid_words(verdict: Verdict) -> &'static [u8]
     ensures text { result.now ≡ codes " bid " ++ verdict_text verdict }
     ensures short { length result.now ≤ 15 }
@@ -28,7 +28,7 @@ fn bid_words(verdict: Verdict) -> &'static [u8]
     }
 }
 
-// Tells what an `A` line has of the verdict on the offer, to its end, in at most 18 bytes.
+// Returns what an `A` line has of the verdict on the offer, to its end, in at most 18 bytes.
 fn offer_words(verdict: Verdict) -> &'static [u8]
     ensures text { result.now ≡ codes " offer " ++ verdict_text verdict ++ codes "\n" }
     ensures short { length result.now ≤ 18 }

@@ -17,7 +17,7 @@ pub use best::Best;
 pub use consolidated::Consolidated;
 pub use laws::{consolidation_is_computed, one_consolidation};
 pub use live::Live;
-pub use merged::{Standing, are_in_order, merged_top, standing_of};
+pub use merged::{MergePlace, are_in_order, merge_place_of, merged_top};
 pub use top::TopOfBook;
 pub use total::{Total, Way};
 pub use verdict::{Verdict, audit};

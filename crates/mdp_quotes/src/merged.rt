@@ -12,7 +12,7 @@ use crate::total::{Total, Way, total_of};
 use mdp_books::Sides;
 use mdp_templates::Level;
 
-// Tells whether a level has a better price than another.
+// Returns whether a level has a better price than another.
 #[inline]
 fn is_better(way: Way, level: &Level, other: &Level) -> bool
     ensures { result ≡ is_ahead way level.now.price other.now.price }
@@ -20,7 +20,7 @@ fn is_better(way: Way, level: &Level, other: &Level) -> bool
     way.is_ahead(level.price, other.price)
 }
 
-// Tells whether each level has a better price than the next.
+// Returns whether each level has a better price than the next.
 fn is_ordered(levels: &[Level], way: Way) -> bool
     ensures { result ≡ are_ordered way levels.now }
 {
@@ -32,8 +32,8 @@ fn is_ordered(levels: &[Level], way: Way) -> bool
     true
 }
 
-/// Tells whether on each of the four sides every level has a better price than the next, as on nearly every book. Then
-/// the totals are the direct levels, with each implied level put in at its price.
+/// Returns whether on each of the four sides every level has a better price than the next, as on nearly every book.
+/// Then the totals are the direct levels, with each implied level put in at its price.
 pub fn are_in_order(sides: &Sides) -> bool
     ensures tells { result ≡ are_in_order sides.now }
     ensures merges { result ≡ true → quotes_of sides.now ≡ merged_quotes sides.now }
@@ -52,7 +52,7 @@ pub fn are_in_order(sides: &Sides) -> bool
 
 /// Where an implied level stands among direct ones.
 #[derive(Clone, Copy)]
-pub struct Standing {
+pub struct MergePlace {
     /// How many direct levels have a better price.
     pub ahead: usize,
     /// How many have a better price or its own.
@@ -75,7 +75,7 @@ fn ahead_of(way: Way, direct: &[Level], level: &Level) -> usize
 }
 
 /// Finds where an implied level stands among direct ones, of which the best comes first.
-pub fn standing_of(way: Way, direct: &[Level], level: &Level) -> Standing
+pub fn merge_place_of(way: Way, direct: &[Level], level: &Level) -> MergePlace
     ensures ahead { result.ahead ≡ ahead_of way level.now direct.now }
     ensures passed { result.passed ≡ passed_by way level.now direct.now }
     ensures total { result.total ≡ total_with level.now (slice_get direct.now result.ahead) }
@@ -84,12 +84,12 @@ pub fn standing_of(way: Way, direct: &[Level], level: &Level) -> Standing
 {
     let ahead = ahead_of(way, direct, level);
     match direct.get(ahead) {
-        Some(beside) if beside.price == level.price => Standing {
+        Some(beside) if beside.price == level.price => MergePlace {
             ahead,
             passed: ahead + 1,
             total: with_beside(level, beside),
         },
-        _ => Standing {
+        _ => MergePlace {
             ahead,
             passed: ahead,
             total: total_of(level),

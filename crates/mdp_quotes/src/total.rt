@@ -32,7 +32,7 @@ pub struct Total {
 }
 
 impl Way {
-    /// Tells whether price `a` is better than price `b`.
+    /// Returns whether price `a` is better than price `b`.
     pub(crate) fn is_ahead(self, a: i64, b: i64) -> bool
         ensures { result ≡ is_ahead self a b }
     {
@@ -43,14 +43,14 @@ impl Way {
     }
 }
 
-// Tells whether a total's price is better than a level's.
+// Returns whether a total's price is better than a level's.
 fn is_before(total: &Total, way: Way, level: &Level) -> bool
     ensures { result ≡ is_before way level.now total.now }
 {
     way.is_ahead(total.price, level.price)
 }
 
-// Tells how many totals have a better price than a level.
+// Returns how many totals have a better price than a level.
 fn place_of(totals: &[Total], way: Way, level: &Level) -> usize
     ensures place { result ≡ prefix_len (is_before way level.now) totals.now }
     ensures inside { result ≤ length totals.now }
@@ -62,7 +62,7 @@ fn place_of(totals: &[Total], way: Way, level: &Level) -> usize
     at
 }
 
-// Tells whether the total there has the level's price.
+// Returns whether the total there has the level's price.
 fn has_price(totals: &[Total], at: usize, level: &Level) -> bool
     ensures { result ≡ has_price level.now (slice_get totals.now at) }
 {

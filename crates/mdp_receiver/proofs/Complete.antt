@@ -9,7 +9,7 @@ use Rattle.mdp_books.specs.Feed.{book_at, sent_by}
 use Rattle.mdp_arbiter.specs.Channel.{Channel}
 use Rattle.mdp_arbiter.specs.Machine.{moves_of, trace}
 use Rattle.mdp_desks.specs.Moments.{Moment, moments}
-use Rattle.mdp_desks.specs.Shown.{Start, standing_after}
+use Rattle.mdp_desks.specs.Shown.{Footing, since_after}
 use Rattle.mdp_desks.specs.declared.desk.Desk.{Desk}
 use Rattle.mdp_engine.specs.Engine.{AreChanged, HoldsBook}
 use Rattle.mdp_engine.proofs.Holding.{law_of_owed_books}
@@ -34,7 +34,7 @@ law_of_handlers channel events gone v h =
           text = text ∙ ap (kept_lines v.keeps_lines) (law_of_honest_moments channel feed events honest);
           changed = subst (λ (ms : List Moment). AreChanged listed ms gone v.changed) (law_of_honest_moments channel feed events honest) changed;
         },
-        subst (λ (c : Channel). AllZip (HoldsBook feed v.arbiter.next) (standing_after listed (trace c events)).starts v.desks) h.channel_is
+        subst (λ (c : Channel). AllZip (HoldsBook feed v.arbiter.next) (since_after listed (trace c events)).footings v.desks) h.channel_is
             (law_of_owed_books listed feed events gone v honest h.stands),
       ),
     )
@@ -44,7 +44,7 @@ right_of true b e = e
 right_of false b e = cc
 
 -- the book of a desk whose snapshot includes nothing that is still to come
-current : (feed : List PacketContent) (next : ℕ) (desk : Desk) (start : Option Start) → IsSomeAnd start (λ (i : Start). HoldsBook feed next i desk) → desk.base < next → desk.book ≡ book_at desk.instrument (sent_by (take (next - 1) feed))
+current : (feed : List PacketContent) (next : ℕ) (desk : Desk) (start : Option Footing) → IsSomeAnd start (λ (i : Footing). HoldsBook feed next i desk) → desk.base < next → desk.book ≡ book_at desk.instrument (sent_by (take (next - 1) feed))
 current feed next desk None holds before = absurd holds
 current feed next desk (Some i) holds before =
     let same : max (next - 1) i.base ≡ next - 1 = omega (arith, before, holds.base) in
@@ -53,9 +53,9 @@ current feed next desk (Some i) holds before =
 pub law_of_current_books : LawOfCurrentBooks
 law_of_current_books channel events gone v feed slot desk h honest is at =
     let each = law_of_owed_books channel.listed feed events gone v honest h.stands in
-    let starts = (standing_after channel.listed (trace v.arbiter.channel events)).starts in
-    let there = subst (λ (o : Option Desk). MatchOption o (Unit {0}) (λ (d : Desk). IsSomeAnd (slice_get starts slot) (λ (i : Start). HoldsBook feed v.arbiter.next i d))) at
-    (AllZip-right (HoldsBook feed v.arbiter.next) starts v.desks each slot) in
+    let footings = (since_after channel.listed (trace v.arbiter.channel events)).footings in
+    let there = subst (λ (o : Option Desk). MatchOption o (Unit {0}) (λ (d : Desk). IsSomeAnd (slice_get footings slot) (λ (i : Footing). HoldsBook feed v.arbiter.next i d))) at
+    (AllZip-right (HoldsBook feed v.arbiter.next) footings v.desks each slot) in
     let within : is_within v.arbiter.next (Some desk) ≡ true = subst (λ (o : Option Desk). is_within v.arbiter.next o ≡ true) at (right_of _ (is_within v.arbiter.next (slice_get v.desks slot)) is) in
     let before : desk.base < v.arbiter.next = grind (arith, nat_tests, within) in
-    current feed v.arbiter.next desk (slice_get starts slot) there before
+    current feed v.arbiter.next desk (slice_get footings slot) there before

@@ -12,12 +12,12 @@ use Rattle.mdp_arbiter.specs.Channel.{ListedChannel, channel_of}
 use Rattle.mdp_arbiter.specs.Fates.{first_stale, waiting}
 use Rattle.mdp_arbiter.specs.Machine.{moves_of}
 use Rattle.mdp_desks.specs.Moments.{Moment, moments}
-use Rattle.mdp_desks.specs.Shown.{standing_after}
+use Rattle.mdp_desks.specs.Shown.{since_after}
 use Rattle.mdp_desks.specs.declared.desk.Desk.{Desk}
 use Rattle.mdp_engine.specs.Engine.{AreChanged, HasBrokenOff, HoldsBook, Stands, View}
 use Rattle.mdp_engine.specs.Honest.{IsHonest}
 use Rattle.mdp_engine.specs.Kept.{kept_lines}
-use Rattle.mdp_engine.specs.Owed.{owed_moments, steps_of}
+use Rattle.mdp_engine.specs.Owed.{owed_moments, numbered_moves}
 use Rattle.mdp_receiver.specs.Copies.{IsPacketOf}
 use Rattle.mdp_receiver.specs.Moved.{MovesAs}
 use Rattle.mdp_receiver.specs.Said.{IsSaid, Said, brought_by, kind_of, refusal_in}
@@ -115,8 +115,8 @@ LawOfHandlers =
     (channel : ListedChannel) (events : List Event) (gone : List Moment) (v : View) → Handles channel events gone v
     → TellsSo channel.listed (moments channel.listed (moves_of channel events)) gone v
     × ((feed : List PacketContent) → IsHonest channel.listed feed events
-    → TellsSo channel.listed (owed_moments channel.listed feed (steps_of (moves_of channel events))) gone v
-    × AllZip (HoldsBook feed v.arbiter.next) (standing_after channel.listed (moves_of channel events)).starts v.desks)
+    → TellsSo channel.listed (owed_moments channel.listed feed (numbered_moves (moves_of channel events))) gone v
+    × AllZip (HoldsBook feed v.arbiter.next) (since_after channel.listed (moves_of channel events)).footings v.desks)
 
 -- a book that is told to be current is that of every such feed right before the packet that comes next
 abbrev pub LawOfCurrentBooks : Type 0

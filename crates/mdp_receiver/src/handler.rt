@@ -259,7 +259,7 @@ impl<A: Allocator + Copy> Handler<A> {
         self.engine.clear_lines();
     }
 
-    /// Tells the number of the packet that comes next, from 1 to 4294967296.
+    /// Returns the number of the packet that comes next, from 1 to 4294967296.
     pub fn next(&self) -> u64
         ensures next { result ≡ self.now.arbiter.next }
         ensures least { 1 ≤ result }
@@ -271,7 +271,7 @@ impl<A: Allocator + Copy> Handler<A> {
         self.engine.next()
     }
 
-    /// Tells whether the receiver is lost: it has not joined the channel, or the next packet is given up.
+    /// Returns whether the receiver is lost: it has not joined the channel, or the next packet is given up.
     pub fn lost(&self) -> bool
         ensures now { result ≡ is_lost_now self.now.arbiter }
         ensures stands { (listed : List Instrument) (events : List Accepted) (gone : List Moment)
@@ -293,7 +293,7 @@ impl<A: Allocator + Copy> Handler<A> {
         put_last(out, self.next(), self.lost())
     }
 
-    /// Tells where the channel stands.
+    /// Returns where the channel stands.
     pub fn state(&self) -> ChannelState
         ensures { result ≡ state_of self.now }
     {
@@ -342,7 +342,7 @@ impl<A: Allocator + Copy> Handler<A> {
         }
     }
 
-    /// Tells whether the book at a slot is the complete feed's right before the packet that comes next: no packet is
+    /// Returns whether the book at a slot is the complete feed's right before the packet that comes next: no packet is
     /// given up, and the security's snapshot includes none that is still to come.
     pub fn is_current(&self, slot: usize) -> bool
         ensures { result ≡ is_current self.now slot }
@@ -357,7 +357,7 @@ impl<A: Allocator + Copy> Handler<A> {
         self.engine.desks().get(slot)
     }
 
-    // Tells what a datagram moved, of which this became, with the number of its packet, where the channel stood so
+    // Returns what a datagram moved, of which this became, with the number of its packet, where the channel stood so
     // before it.
     fn moves_since(&self, before: Standing, taken: Taken, number: u32) -> Moved
         requires { before.next ≤ 4294967296 }
@@ -371,7 +371,7 @@ impl<A: Allocator + Copy> Handler<A> {
         }
     }
 
-    // Tells the jump from a number, where the receiver was lost, and is no more.
+    // Returns the jump from a number, where the receiver was lost, and is no more.
     fn jump_since(&self, was_lost: bool, old: u64) -> Option<Jump>
         ensures { result ≡ jump_told was_lost (is_lost_now self.now.arbiter) old
             (least_last (snapshots_of self.now.arbiter.bases)) }
@@ -391,7 +391,7 @@ impl<A: Allocator + Copy> Handler<A> {
         }
     }
 
-    // Tells whether the snapshot of the book at a slot includes no packet that is still to come.
+    // Returns whether the snapshot of the book at a slot includes no packet that is still to come.
     fn is_within(&self, slot: usize) -> bool
         ensures { result ≡ is_within self.now.arbiter.next (slice_get self.now.desks slot) }
     {
@@ -444,7 +444,7 @@ impl<A: Allocator + Copy> Handler<A> {
         self.take_in(decoded)
     }
 
-    // Tells the number of the packet that a datagram is, where it is the second copy of one that has passed.
+    // Returns the number of the packet that a datagram is, where it is the second copy of one that has passed.
     fn copied(&self, feed: Feed, bytes: &[u8]) -> Option<u32>
         ensures { IfSome result (λ number. IsCopy feed bytes.now number self.now) }
     {
@@ -455,7 +455,7 @@ impl<A: Allocator + Copy> Handler<A> {
         }
     }
 
-    // Tells the number of the newest packet, where these are its bytes and it has passed.
+    // Returns the number of the newest packet, where these are its bytes and it has passed.
     fn past_number(&self, bytes: &[u8]) -> Option<u32>
         ensures packet { IfSome result (IsPacketOf bytes.now) }
         ensures past { IfSome result (λ number. IsPast number self.now) }
@@ -477,7 +477,7 @@ impl<A: Allocator + Copy> Handler<A> {
         None
     }
 
-    // Tells whether a datagram of this feed bears the number of the packet that comes next.
+    // Returns whether a datagram of this feed bears the number of the packet that comes next.
     fn is_next(&self, feed: Feed, bytes: &[u8]) -> bool
         ensures { result ≡ true → kind_of feed ≡ incremental }
     {
@@ -488,7 +488,7 @@ impl<A: Allocator + Copy> Handler<A> {
         }
     }
 
-    // Tells whether a datagram begins with the number of the packet that comes next, and may be read into the room.
+    // Returns whether a datagram begins with the number of the packet that comes next, and may be read into the room.
     fn has_next_number(&self, bytes: &[u8]) -> bool
         ensures { result ≡ true → (header : Header) × IsHeader bytes.now header
             × (header.number ≡ self.now.arbiter.next) }

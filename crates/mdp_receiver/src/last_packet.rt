@@ -36,7 +36,7 @@ impl<A: Allocator> LastPacket<A> {
         }
     }
 
-    /// Tells the number of the packet that these bytes are, where they are those of the newest one.
+    /// Returns the number of the packet that these bytes are, where they are those of the newest one.
     pub fn number_of(&self, bytes: &[u8]) -> Option<u32>
         ensures { IfSome result (IsPacketOf bytes.now) }
     {

@@ -41,7 +41,7 @@ pub struct Jump {
     pub new: u64,
 }
 
-// Tells the number of a datagram's packet; of one that is no packet, any number.
+// Returns the number of a datagram's packet; of one that is no packet, any number.
 pub(crate) fn packet_number(bytes: &[u8]) -> u32
     ensures { (packet : PacketContent) → IsPacket bytes.now packet → result ≡ packet.number }
 {
@@ -51,7 +51,7 @@ pub(crate) fn packet_number(bytes: &[u8]) -> u32
     }
 }
 
-// Tells whether a datagram was a packet, and the channel was open.
+// Returns whether a datagram was a packet, and the channel was open.
 fn came_while_open(taken: Taken) -> bool
     ensures { result ≡ came_while_open taken }
 {
@@ -63,7 +63,7 @@ fn came_while_open(taken: Taken) -> bool
     }
 }
 
-// Tells how a datagram made the receiver lost, of which this became, with the number of its packet, where the channel
+// Returns how a datagram made the receiver lost, of which this became, with the number of its packet, where the channel
 // stood so before it.
 pub(crate) fn loss_told(before: Standing, room: u64, taken: Taken, number: u32) -> Option<Loss>
     requires next { before.next ≤ 4294967296 }

@@ -24,8 +24,8 @@ use Rattle.mdp_pipeline.specs.Running.{HasRun, TakesMoving}
 use Rattle.mdp_pipeline.specs.TextOrder.{arrivals_of_line}
 use Rattle.mdp_pipeline.proofs.Streaming.{BringsOne, each-push, events-append, none_moves, packet_brings, readings_in-push, told_is_moved}
 use Rattle.mdp_pipeline.proofs.Written.{read_more, reading_of}
-use Rattle.mdp_recording.specs.Frames.{IsReadFrame, ReadFrame, content_of, frames_of, is_cut_away, is_told_after, line_of, lines_read, notes_from, notes_of, outcome_in, own_notes}
-use Rattle.mdp_recording.specs.Recorded.{Beside, HasTold, HoldsFrames, TakesOutcome, told_after}
+use Rattle.mdp_recording.specs.Frames.{Beside, IsReadFrame, ReadFrame, content_of, frames_of, is_cut_away, is_told_after, line_of, lines_read, notes_from, notes_of, outcome_in, own_notes}
+use Rattle.mdp_recording.specs.Recorded.{HasTold, HoldsFrames, TakesOutcome, told_after}
 use Rattle.mdp_recording.specs.declared.datagrams.FramedDatagrams.{FramedDatagrams}
 
 -- ---- frames that were read, and one more
@@ -139,7 +139,7 @@ module _ {A : Type 0} where
 
   -- a datagram
   pub datagram_framed : (feed : Feed) (number : ℕ) (payload : List ℕ) (moved : Moved) (old new : FramedDatagrams A)
-      → new.addresses ≡ old.addresses → new.has_cut ≡ old.has_cut → TakesMoving feed number (Brought payload) moved old.run new.run
+      → new.addresses ≡ old.addresses → new.has_cut ≡ old.has_cut → TakesMoving feed (record { line = number; received = Brought payload }) moved old.run new.run
       → new.notes.items ≡ old.notes.items ++ moved_notes number moved → TakesOutcome (Datagram feed payload) number old new
   datagram_framed feed number payload moved old new addresses cut moves notes_new by frames frame number_is outcome_is so_far =
       let readings = readings_in (lines_read so_far.reads) in
@@ -148,7 +148,7 @@ module _ {A : Type 0} where
       let n = frame.number in
       let found = outcome_in by.addresses frame in
       let line = line_of by.addresses frame in
-      let takes : TakesMoving feed n (Brought payload) moved old.run new.run = subst (λ (m : ℕ). TakesMoving feed m (Brought payload) moved old.run new.run) (sym number_is) moves in
+      let takes : TakesMoving feed (record { line = n; received = Brought payload }) moved old.run new.run = subst (λ (m : ℕ). TakesMoving feed (record { line = m; received = Brought payload }) moved old.run new.run) (sym number_is) moves in
       let said = takes.takes.said in
       let brings : BringsOne (as_line n found) feed (Brought payload) =
       subst (λ (o : OutcomeContent). BringsOne (as_line n o) feed (Brought payload)) (sym outcome_is) (packet_brings n feed payload) in

@@ -25,8 +25,8 @@ use Rattle.mdp_pipeline.specs.Streamed.LinesShow.{listed, unlisted}
 use Rattle.mdp_pipeline.proofs.StreamedText.{begins_goes, shows_all}
 use Rattle.mdp_desks.specs.Moments.{shown_lines}
 use Rattle.mdp_arbiter.specs.Machine.{moves_of}
-use Rattle.mdp_recording.specs.Frames.{FramesShow, IsReadFrame, ReadFrame, TellsFrames, frames_of, line_of, lines_in, lines_read, notes_from}
-use Rattle.mdp_recording.specs.Recorded.{BeginsFile, Beside, EndsAsRecording, EndsFrames, Follows, HasHandedOn, HoldsFrames, TakesPiece, beside}
+use Rattle.mdp_recording.specs.Frames.{Beside, FramesShow, beside, IsReadFrame, ReadFrame, TellsFrames, frames_of, line_of, lines_in, lines_read, notes_from}
+use Rattle.mdp_recording.specs.Recorded.{BeginsFile, EndsAsRecording, EndsFrames, Follows, HasHandedOn, HoldsFrames, TakesPiece, and_handed_on}
 use Rattle.mdp_recording.specs.declared.datagrams.FramedDatagrams.{FramedDatagrams}
 use Rattle.mdp_recording.specs.declared.run.RecordedRun.{RecordedRun}
 
@@ -125,7 +125,7 @@ module _ {A : Type 0} where
   }
 
   pub follows_none : (channel : ListedChannel) (addresses : List FeedAddress) (now : RecordedRun A) → now.instruments ≡ channel.listed → 0 < length channel.listed
-      → HoldsFrames (beside channel addresses [] []) now.datagrams [] → content_of now.reader ≡ at_first → Follows channel addresses [] [] [] now
+      → HoldsFrames (beside channel addresses [] []) now.datagrams [] → content_of now.reader ≡ at_first → Follows (beside channel addresses [] []) [] now
   follows_none channel addresses now same some holds first = record {
     instruments_are = same;
     listed = some;
@@ -152,18 +152,18 @@ module _ {A : Type 0} where
       → ((content_of old.reader).fault ≡ None → IsReadWhole (Takes (λ (b : Beside). HoldsFrames b) old.datagrams new.datagrams) (content_of old.reader) (content_of new.reader) ((content_of old.reader).held ++ piece))
       → (IsSome (content_of old.reader).fault → (content_of new.reader ≡ content_of old.reader) × (new.datagrams ≡ old.datagrams))
       → TakesPiece piece old new
-  piece_taken piece old new same read stopped channel addresses text sent told so_far = record {
+  piece_taken piece old new same read stopped by text so_far = record {
     instruments_are = same ∙ so_far.instruments_are;
     listed = so_far.listed;
-    read = piece_read (beside channel addresses sent told) old new text piece (content_of old.reader).fault refl read stopped so_far.read;
+    read = piece_read by old new text piece (content_of old.reader).fault refl read stopped so_far.read;
   }
 
   -- ---- what is handed on
 
-  holds_on : (channel : ListedChannel) (addresses : List FeedAddress) (sent : List ℕ) (told : List Note) (old new : FramedDatagrams A) → new.addresses ≡ old.addresses → new.has_cut ≡ old.has_cut
-      → new.notes.items ≡ [] → ClearsText old.run new.run → (frames : List NumberedFrame) → HoldsFrames (beside channel addresses sent told) old frames
-      → HoldsFrames (beside channel addresses (sent ++ old.run.handler.held) (told ++ old.notes.items)) new frames
-  holds_on channel addresses sent told old new same cut none clears frames holds =
+  holds_on : (by : Beside) (old new : FramedDatagrams A) → new.addresses ≡ old.addresses → new.has_cut ≡ old.has_cut
+      → new.notes.items ≡ [] → ClearsText old.run new.run → (frames : List NumberedFrame) → HoldsFrames by old frames
+      → HoldsFrames (beside by.channel by.addresses (by.sent ++ old.run.handler.held) (by.told ++ old.notes.items)) new frames
+  holds_on by old new same cut none clears frames holds =
       let run = holds.has_run in
       record {
         addresses_are = same ∙ holds.addresses_are;
@@ -171,12 +171,12 @@ module _ {A : Type 0} where
         of = holds.of;
         each = holds.each;
         has_run = record {
-          stands = clears.stands channel.listed (events_of (readings_in (lines_read holds.reads))) sent run.stands;
+          stands = clears.stands by.channel.listed (events_of (readings_in (lines_read holds.reads))) by.sent run.stands;
           channel_is = clears.channel ∙ run.channel_is;
           refusals_are = clears.refusals ∙ run.refusals_are;
         };
         told_is = cut ∙ holds.told_is;
-        notes_are = ap (λ (ns : List Note). (told ++ old.notes.items) ++ ns) none ∙ append-nil (told ++ old.notes.items) ∙ holds.notes_are;
+        notes_are = ap (λ (ns : List Note). (by.told ++ old.notes.items) ++ ns) none ∙ append-nil (by.told ++ old.notes.items) ∙ holds.notes_are;
       }
 
   pub handed_on : (old new : RecordedRun A) → new.instruments ≡ old.instruments → content_of new.reader ≡ content_of old.reader → new.datagrams.addresses ≡ old.datagrams.addresses
@@ -184,20 +184,20 @@ module _ {A : Type 0} where
   handed_on old new same reader addresses_same cut none clears = record {
     none = (clears.none, none);
     same = reader;
-    stands = λ channel addresses text sent told so_far. record {
+    stands = λ by text so_far. record {
       instruments_are = same ∙ so_far.instruments_are;
       listed = so_far.listed;
-      read = subst (λ (r : ReaderContent). IsReadWhole (HoldsFrames (beside channel addresses (sent ++ old.datagrams.run.handler.held) (told ++ old.datagrams.notes.items)) new.datagrams) at_first r text) (sym reader)
-          (whole_map (HoldsFrames (beside channel addresses sent told) old.datagrams) (HoldsFrames (beside channel addresses (sent ++ old.datagrams.run.handler.held) (told ++ old.datagrams.notes.items)) new.datagrams)
-          at_first (content_of old.reader) text (holds_on channel addresses sent told old.datagrams new.datagrams addresses_same cut none clears) so_far.read);
+      read = subst (λ (r : ReaderContent). IsReadWhole (HoldsFrames (and_handed_on old by) new.datagrams) at_first r text) (sym reader)
+          (whole_map (HoldsFrames by old.datagrams) (HoldsFrames (and_handed_on old by) new.datagrams) at_first (content_of old.reader) text
+          (holds_on by old.datagrams new.datagrams addresses_same cut none clears) so_far.read);
     };
   }
 
   -- ---- the end
 
   pub ends_as_recording : (old : RecordedRun A) → EndsAsRecording old (record { instruments = old.instruments; run = old.datagrams.run })
-  ends_as_recording old channel addresses text sent told so_far =
-      let handed = whole_file (HoldsFrames (beside channel addresses sent told) old.datagrams) (content_of old.reader) text so_far.read in
+  ends_as_recording old by text so_far =
+      let handed = whole_file (HoldsFrames by old.datagrams) (content_of old.reader) text so_far.read in
       let holds = handed.taken in
       record {
         pcap = record { frames = handed.frames; fault = ending_of (content_of old.reader) };
@@ -263,39 +263,39 @@ module _ {A : Type 0} where
   -- ---- a beginning of a file
 
   -- behind a fault nothing more is read, whatever comes
-  pub follows_on : (channel : ListedChannel) (addresses : List FeedAddress) (text more sent : List ℕ) (told : List Note) (now : RecordedRun A) (fault : PcapFault) → (content_of now.reader).fault ≡ Some fault
-      → Follows channel addresses text sent told now → Follows channel addresses (text ++ more) sent told now
-  follows_on channel addresses text more sent told now fault is so_far = record {
+  pub follows_on : (by : Beside) (text more : List ℕ) (now : RecordedRun A) (fault : PcapFault) → (content_of now.reader).fault ≡ Some fault
+      → Follows by text now → Follows by (text ++ more) now
+  follows_on by text more now fault is so_far = record {
     instruments_are = so_far.instruments_are;
     listed = so_far.listed;
-    read = faults_stay (HoldsFrames (beside channel addresses sent told) now.datagrams) at_first (content_of now.reader) text more fault so_far.read is;
+    read = faults_stay (HoldsFrames by now.datagrams) at_first (content_of now.reader) text more fault so_far.read is;
   }
 
   -- the run of a recording that has ended is one of its frames' lines
-  pub ends_after : (channel : ListedChannel) (addresses : List FeedAddress) (frames : List NumberedFrame) (sent : List ℕ) (notes : List Note) (ended : EndedRun A) (ends : EndsFrames channel addresses frames sent notes ended)
-      → EndsAfter channel (lines_in addresses frames) sent (notes_of_lines (channel_of channel) [] (lines_read ends.reads)) ended
-  ends_after channel addresses frames sent notes ended ends = record {
+  pub ends_after : (by : Beside) (frames : List NumberedFrame) (ended : EndedRun A) (ends : EndsFrames by frames ended)
+      → EndsAfter by.channel (lines_in by.addresses frames) by.sent (notes_of_lines (channel_of by.channel) [] (lines_read ends.reads)) ended
+  ends_after by frames ended ends = record {
     instruments_are = ends.instruments_are;
     listed = ends.listed;
     taken = record {
       reads = lines_read ends.reads;
-      of = lines_are addresses ends.reads ends.each ∙ ap (lines_in addresses) ends.of;
-      each = lines_each addresses ends.reads ends.each;
+      of = lines_are by.addresses ends.reads ends.each ∙ ap (lines_in by.addresses) ends.of;
+      each = lines_each by.addresses ends.reads ends.each;
       has_run = ends.has_run;
       notes_are = refl;
     };
   }
 
-  pub ends_told : (channel : ListedChannel) (addresses : List FeedAddress) (frames : List NumberedFrame) (sent : List ℕ) (notes : List Note) (ended : EndedRun A) (ends : EndsFrames channel addresses frames sent notes ended)
-      → TellsFrames channel addresses frames (notes_of_lines (channel_of channel) [] (lines_read ends.reads)) notes
-  ends_told channel addresses frames sent notes ended ends =
+  pub ends_told : (by : Beside) (frames : List NumberedFrame) (ended : EndedRun A) (ends : EndsFrames by frames ended)
+      → TellsFrames by.channel by.addresses frames (notes_of_lines (channel_of by.channel) [] (lines_read ends.reads)) by.told
+  ends_told by frames ended ends =
       record { reads = ends.reads; of = ends.of; each = ends.each; of_lines_are = refl; told_are = ends.notes_are }
 
-  pub ends_show : (channel : ListedChannel) (addresses : List FeedAddress) (frames : List NumberedFrame) (sent : List ℕ) (notes : List Note) (ended : EndedRun A) (ends : EndsFrames channel addresses frames sent notes ended)
-      → FramesShow channel addresses frames (sent ++ ended.run.handler.held) notes
-  ends_show channel addresses frames sent notes ended ends = record {
-    of_lines = notes_of_lines (channel_of channel) [] (lines_read ends.reads);
-    show = shows_all channel true (lines_in addresses frames) sent (notes_of_lines (channel_of channel) [] (lines_read ends.reads)) (Some ended.run)
-        (record { begun = refl; listed = ends.listed; taken = (ends_after channel addresses frames sent notes ended ends).taken });
-    tells = ends_told channel addresses frames sent notes ended ends;
+  pub ends_show : (by : Beside) (frames : List NumberedFrame) (ended : EndedRun A) (ends : EndsFrames by frames ended)
+      → FramesShow by.channel by.addresses frames (by.sent ++ ended.run.handler.held) by.told
+  ends_show by frames ended ends = record {
+    of_lines = notes_of_lines (channel_of by.channel) [] (lines_read ends.reads);
+    show = shows_all by.channel true (lines_in by.addresses frames) by.sent (notes_of_lines (channel_of by.channel) [] (lines_read ends.reads)) (Some ended.run)
+        (record { begun = refl; listed = ends.listed; taken = (ends_after by frames ended ends).taken });
+    tells = ends_told by frames ended ends;
   }

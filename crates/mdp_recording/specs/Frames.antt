@@ -95,6 +95,16 @@ notes_from channel addresses told es (read ∷ rest) =
     notes_of channel addresses told es read
     ++ notes_from channel addresses (is_told_after addresses told read) (es ++ events_of read.read.readings) rest
 
+-- a channel, its feeds' addresses, and what was sent and told of frames
+pub record Beside : Type 0 where
+  pub channel : ListedChannel
+  pub addresses : List FeedAddress
+  pub sent : List ℕ
+  pub told : List Note
+
+abbrev pub beside : ListedChannel → List FeedAddress → List ℕ → List Note → Beside
+beside channel addresses sent told = record { channel = channel; addresses = addresses; sent = sent; told = told }
+
 -- This is told of frames, and of it those notes of their lines.
 pub record TellsFrames (channel : ListedChannel) (addresses : List FeedAddress) (frames : List NumberedFrame)
     (of_lines told : List Note) : Type 0 where
@@ -113,9 +123,8 @@ pub record FramesShow (channel : ListedChannel) (addresses : List FeedAddress) (
   pub show : LinesShow channel (lines_in addresses frames) text of_lines
   pub tells : TellsFrames channel addresses frames of_lines told
 
--- the text of a run over a recording is that of a run over the capture of its frames' lines
-pub record PrintsFrames (channel : ListedChannel) (addresses : List FeedAddress) (frames : List NumberedFrame)
-    (told : List Note) (text : List ℕ) (standing : Standing) : Type 0 where
+-- the text that a run over a recording sends is that of a run over the capture of its frames' lines
+pub record PrintsFrames (by : Beside) (frames : List NumberedFrame) (standing : Standing) : Type 0 where
   pub of_lines : List Note
-  pub prints : PrintsLines channel (lines_in addresses frames) of_lines text standing
-  pub tells : TellsFrames channel addresses frames of_lines told
+  pub prints : PrintsLines by.channel (lines_in by.addresses frames) of_lines by.sent standing
+  pub tells : TellsFrames by.channel by.addresses frames of_lines by.told

@@ -1,7 +1,7 @@
 -- What a run over a recording has come to.
-use Rattle.std.specs.Prelude.{◌≡◌, ◌<◌, ℕ, Bool, false, List, [], ◌∷◌, ◌++◌, length, Option}
+use Rattle.std.specs.Prelude.{◌≡◌, ◌<◌, ℕ, Bool, false, List, [], ◌∷◌, ◌++◌, length}
 use Rattle.std.specs.List.{AllByRecursion}
-use Rattle.mdp_arbiter.specs.Channel.{ListedChannel, channel_of}
+use Rattle.mdp_arbiter.specs.Channel.{channel_of}
 use Rattle.mdp_pcap.specs.File.{PcapContent, IsPcap}
 use Rattle.mdp_pcap.specs.Outcome.{OutcomeContent}
 use Rattle.mdp_pcap.specs.Reader.{NumberedFrame, IsReadWhole, at_first, content_of, ending_of, number_after, numbered}
@@ -10,19 +10,9 @@ use Rattle.mdp_pipeline.specs.declared.ended.EndedRun.{EndedRun}
 use Rattle.mdp_pipeline.specs.declared.note.Note.{Note}
 use Rattle.mdp_pipeline.specs.Notes.{readings_in}
 use Rattle.mdp_pipeline.specs.Running.{HasRun}
-use Rattle.mdp_recording.specs.Frames.{ReadFrame, IsReadFrame, frames_of, is_told_after, lines_read, notes_from, outcome_in}
+use Rattle.mdp_recording.specs.Frames.{Beside, beside, ReadFrame, IsReadFrame, frames_of, is_told_after, lines_read, notes_from, outcome_in}
 use Rattle.mdp_recording.specs.declared.datagrams.FramedDatagrams.{FramedDatagrams}
 use Rattle.mdp_recording.specs.declared.run.RecordedRun.{RecordedRun}
-
--- the channel, its feeds' addresses, and what was sent and told so far
-pub record Beside : Type 0 where
-  pub channel : ListedChannel
-  pub addresses : List FeedAddress
-  pub sent : List ℕ
-  pub told : List Note
-
-abbrev pub beside : ListedChannel → List FeedAddress → List ℕ → List Note → Beside
-beside channel addresses sent told = record { channel = channel; addresses = addresses; sent = sent; told = told }
 
 -- whether it is told, after these frames, that one's group or port was not captured
 abbrev pub told_after : List FeedAddress → Bool → List ReadFrame → Bool
@@ -55,13 +45,11 @@ pub record HasTold {A : Type 0} (notes : List Note) (old new : FramedDatagrams A
 
 -- ---- a file that comes piece by piece
 
--- this text of a file came, of whose frames this was sent and told; the rest is held
-pub record Follows {A : Type 0} (channel : ListedChannel) (addresses : List FeedAddress) (text sent : List ℕ)
-    (told : List Note) (now : RecordedRun A) : Type 0 where
-  pub instruments_are : now.instruments ≡ channel.listed
-  pub listed : 0 < length channel.listed
-  pub read : IsReadWhole (HoldsFrames (beside channel addresses sent told) now.datagrams) at_first
-      (content_of now.reader) text
+-- this text of a file came; what was sent and told of its frames stands beside, and the rest is held
+pub record Follows {A : Type 0} (by : Beside) (text : List ℕ) (now : RecordedRun A) : Type 0 where
+  pub instruments_are : now.instruments ≡ by.channel.listed
+  pub listed : 0 < length by.channel.listed
+  pub read : IsReadWhole (HoldsFrames by now.datagrams) at_first (content_of now.reader) text
 
 -- it holds no text, and nothing that is to be told
 abbrev pub HoldsNothing : {A : Type 0} → RecordedRun A → Type 0
@@ -69,17 +57,22 @@ HoldsNothing now = (now.datagrams.run.handler.held ≡ []) × (now.datagrams.not
 
 -- a piece was taken in, whatever came before it
 abbrev pub TakesPiece : {A : Type 0} → List ℕ → RecordedRun A → RecordedRun A → Type 0
-TakesPiece piece old new =
-    (channel : ListedChannel) (addresses : List FeedAddress) (text sent : List ℕ) (told : List Note)
-    → Follows channel addresses text sent told old → Follows channel addresses (text ++ piece) sent told new
+TakesPiece piece old new = (by : Beside) (text : List ℕ) → Follows by text old → Follows by (text ++ piece) new
+
+-- what it holds is told too
+abbrev pub and_told : {A : Type 0} → RecordedRun A → Beside → Beside
+and_told old by = beside by.channel by.addresses by.sent (by.told ++ old.datagrams.notes.items)
+
+-- what it holds is sent and told too
+abbrev pub and_handed_on : {A : Type 0} → RecordedRun A → Beside → Beside
+and_handed_on old by = beside by.channel by.addresses (by.sent ++ old.datagrams.run.handler.held)
+    (by.told ++ old.datagrams.notes.items)
 
 -- what it held was sent and told, and it holds no more
 pub record HasHandedOn {A : Type 0} (old new : RecordedRun A) : Type 0 where
   pub none : HoldsNothing new
   pub same : content_of new.reader ≡ content_of old.reader
-  pub stands : (channel : ListedChannel) (addresses : List FeedAddress) (text sent : List ℕ) (told : List Note)
-      → Follows channel addresses text sent told old
-      → Follows channel addresses text (sent ++ old.datagrams.run.handler.held) (told ++ old.datagrams.notes.items) new
+  pub stands : (by : Beside) (text : List ℕ) → Follows by text old → Follows (and_handed_on old by) text new
 
 -- these frames are the first of a file
 pub record BeginsFile (text : List ℕ) (frames : List NumberedFrame) : Type 0 where
@@ -90,28 +83,25 @@ pub record BeginsFile (text : List ℕ) (frames : List NumberedFrame) : Type 0 w
 
 -- ---- the end of a file
 
--- all these frames were taken in, of whose text this was sent, and this is told of them
-pub record EndsFrames {A : Type 0} (channel : ListedChannel) (addresses : List FeedAddress)
-    (frames : List NumberedFrame) (sent : List ℕ) (notes : List Note) (ended : EndedRun A) : Type 0 where
-  pub instruments_are : ended.instruments ≡ channel.listed
-  pub listed : 0 < length channel.listed
+-- all these frames were taken in; what was sent of their text, and all that is told of them, stands beside
+pub record EndsFrames {A : Type 0} (by : Beside) (frames : List NumberedFrame) (ended : EndedRun A) : Type 0 where
+  pub instruments_are : ended.instruments ≡ by.channel.listed
+  pub listed : 0 < length by.channel.listed
   pub reads : List ReadFrame
   pub of : frames_of reads ≡ frames
-  pub each : AllByRecursion (IsReadFrame addresses) reads
-  pub has_run : HasRun channel (readings_in (lines_read reads)) sent ended.run
-  pub notes_are : notes ≡ notes_from (channel_of channel) addresses false [] reads
+  pub each : AllByRecursion (IsReadFrame by.addresses) reads
+  pub has_run : HasRun by.channel (readings_in (lines_read reads)) by.sent ended.run
+  pub notes_are : by.told ≡ notes_from (channel_of by.channel) by.addresses false [] reads
 
 -- A file has ended, with its frames and their numbers up to its end or its first fault, which is the reader's.
-pub record EndsRecording {A : Type 0} (channel : ListedChannel) (addresses : List FeedAddress) (text sent : List ℕ)
-    (notes : List Note) (old : RecordedRun A) (ended : EndedRun A) : Type 0 where
+pub record EndsRecording {A : Type 0} (by : Beside) (text : List ℕ) (old : RecordedRun A) (ended : EndedRun A)
+    : Type 0 where
   pub pcap : PcapContent
   pub is : IsPcap text pcap
   pub fault_is : pcap.fault ≡ ending_of (content_of old.reader)
   pub number_is : number_after 1 pcap.frames ≡ (content_of old.reader).number
-  pub ends : EndsFrames channel addresses (numbered 1 pcap.frames) sent notes ended
+  pub ends : EndsFrames by (numbered 1 pcap.frames) ended
 
 abbrev pub EndsAsRecording : {A : Type 0} → RecordedRun A → EndedRun A → Type 0
 EndsAsRecording old ended =
-    (channel : ListedChannel) (addresses : List FeedAddress) (text sent : List ℕ) (told : List Note)
-    → Follows channel addresses text sent told old
-    → EndsRecording channel addresses text sent (told ++ old.datagrams.notes.items) old ended
+    (by : Beside) (text : List ℕ) → Follows by text old → EndsRecording (and_told old by) text old ended

@@ -2,7 +2,8 @@
 
 ghost use Rattle.std.specs.Prelude.{◌∷◌, [], None, OnOk};
 ghost use Rattle.mdp_pcap.specs.Outcome.{Cut, Datagram, outcome_content};
-ghost use Rattle.mdp_recording.specs.Recorded.{Beside, HasTold, HoldsFrames, TakesOutcome};
+ghost use Rattle.mdp_recording.specs.Frames.{Beside};
+ghost use Rattle.mdp_recording.specs.Recorded.{HasTold, HoldsFrames, TakesOutcome};
 
 use mdp_capture::{Skip, SkippedLine};
 use mdp_pcap::{CapturedFrame, FeedAddresses, FrameOutcome, TakesFrames};

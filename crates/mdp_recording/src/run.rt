@@ -3,6 +3,7 @@
 ghost use Rattle.std.specs.Prelude.{◌≡◌, ◌<◌, ◌≤◌, [], IfOk, OnOk, length};
 ghost use Rattle.mdp_pcap.specs.Reader.{content_of, ending_of};
 ghost use Rattle.mdp_pipeline.specs.Streamed.{channel_with, setup_of};
+ghost use Rattle.mdp_recording.specs.Frames.{beside};
 ghost use Rattle.mdp_recording.specs.Recorded.{EndsAsRecording, Follows, HasHandedOn, HoldsNothing, TakesPiece};
 
 use crate::datagrams::FramedDatagrams;
@@ -44,8 +45,8 @@ impl<A: Allocator + Copy> RecordedRun<A> {
         requires listed { 0 < length instruments }
         requires some { 1 ≤ window }
         requires most { window ≤ 65536 }
-        ensures before { IfOk result (Follows (channel_with instruments (setup_of window start))
-            addresses [] [] []) }
+        ensures before { IfOk result (Follows
+            (beside (channel_with instruments (setup_of window start)) addresses [] []) []) }
         ensures idle { IfOk result HoldsNothing }
     {
         let plan = RunPlan {

@@ -135,7 +135,7 @@ fn a_fault_ends_a_recording(rt: HostRuntime) -> Result<(), Fail> {
     take_faulty(&rt, &mut run)
 }
 
-// Takes the recording in pieces of 16 bytes, and tells how many bytes are shown and how many notes
+// Takes the recording in pieces of 16 bytes, and returns how many bytes are shown and how many notes
 // told.
 fn shown_and_told(heap: &Refusing<Global>) -> Result<(usize, usize), Memory> {
     let mut run = new_run(heap)?;

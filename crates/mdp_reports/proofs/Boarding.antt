@@ -6,7 +6,7 @@ use Rattle.mdp_arbiter.specs.Channel.{channel_of}
 use Rattle.mdp_arbiter.specs.Machine.{go_on, state_at, trace}
 use Rattle.mdp_arbiter.specs.Machine.{Move}
 use Rattle.mdp_arbiter.proofs.Runs.{law_of_fronts}
-use Rattle.mdp_desks.specs.Moments.{Moment, ended, leapt, moments_after}
+use Rattle.mdp_desks.specs.Moments.{Moment, at_event_end, at_jump, moments_after}
 use Rattle.mdp_desks.specs.Reports.{Told}
 use Rattle.mdp_desks.proofs.Moments.{moments-append}
 use Rattle.mdp_reports.specs.Rounds.{round_of}
@@ -18,8 +18,8 @@ use Rattle.mdp_reports.specs.BoardLaws.{LawOfBoards, LawOfFirstSteps, LawOfMoreS
 -- ---- rounds
 
 one_round : (n : ℕ) (m : Moment) → step_of_round (round_of (suc n) m) ≡ step_of_moment m ∷ []
-one_round n (ended end seen) = ap (λ (ts : List Told). step_telling end ts ∷ []) (round_whole (suc n) end seen (omega arith))
-one_round n (leapt old new) = refl
+one_round n (at_event_end end seen) = ap (λ (ts : List Told). step_telling end ts ∷ []) (round_whole (suc n) end seen (omega arith))
+one_round n (at_jump old new) = refl
 
 all_rounds : (n : ℕ) (ms : List Moment) → steps_in (map (round_of (suc n)) ms) ≡ map step_of_moment ms
 all_rounds n [] = refl

@@ -20,7 +20,7 @@ use Rattle.mdp_engine.specs.Spreads.{seen_there, spread_line}
 use Rattle.mdp_desks.specs.Beside.{listed_in}
 use Rattle.mdp_engine.specs.Spreads.{spreads_from}
 use Rattle.mdp_desks.specs.Lines.{Seen, text_of, audit_text, lines_as, verdicts_text, spread_text, book_lines}
-use Rattle.mdp_desks.specs.Shown.{Start, book_since, start_seen}
+use Rattle.mdp_desks.specs.Shown.{Footing, book_since, seen_since}
 use Rattle.mdp_desks.specs.Due.{is_printed}
 use Rattle.mdp_engine.proofs.Auditing.{audits_are}
 use Rattle.mdp_desks.specs.Reports.{Told, told_of, told_there, told_from}
@@ -195,26 +195,26 @@ spread_same end listed seen kept spread agree named =
 
 -- ---- desks that show the same
 
-abbrev desk_of : List Sent → Sent → Start → Desk
+abbrev desk_of : List Sent → Sent → Footing → Desk
 desk_of since m i = record { instrument = i.instrument; base = i.base; book = book_since i (since ++ m ∷ []); marked = is_printed i.instrument.id i.jumped (behind i.base since) m }
 
-abbrev desks_of : List Sent → Sent → List Start → List Desk
-desks_of since m starts = map (desk_of since m) starts
+abbrev desks_of : List Sent → Sent → List Footing → List Desk
+desks_of since m footings = map (desk_of since m) footings
 
-desks_stand : (since : List Sent) (m : Sent) (starts : List Start) → m.end ≡ true → map (start_seen since m) starts ≡ map (desk_standing m.packet) (desks_of since m starts)
+desks_stand : (since : List Sent) (m : Sent) (footings : List Footing) → m.end ≡ true → map (seen_since since m) footings ≡ map (desk_standing m.packet) (desks_of since m footings)
 desks_stand since m [] is = refl
-desks_stand since m (i ∷ starts) is =
-    ap (λ (s : Option Seen). s ∷ map (start_seen since m) starts) (seen_end since m i is)
-    ∙ ap (λ (l : List (Option Seen)). desk_standing m.packet (desk_of since m i) ∷ l) (desks_stand since m starts is)
+desks_stand since m (i ∷ footings) is =
+    ap (λ (s : Option Seen). s ∷ map (seen_since since m) footings) (seen_end since m i is)
+    ∙ ap (λ (l : List (Option Seen)). desk_standing m.packet (desk_of since m i) ∷ l) (desks_stand since m footings is)
 
 shown_here : (packet : ℕ) (ds : List Desk) (n : ℕ) → there (slice_get (map (desk_standing packet) ds) n) ≡ seen_there packet (slice_get ds n)
 shown_here packet [] n = refl
 shown_here packet (d ∷ ds) zero = refl
 shown_here packet (d ∷ ds) (suc n) = shown_here packet ds n
 
-listed_same : (since : List Sent) (m : Sent) (starts : List Start) → listed_in (desks_of since m starts) ≡ map (λ (i : Start). i.instrument) starts
+listed_same : (since : List Sent) (m : Sent) (footings : List Footing) → listed_in (desks_of since m footings) ≡ map (λ (i : Footing). i.instrument) footings
 listed_same since m [] = refl
-listed_same since m (i ∷ starts) = ap (λ (l : List Instrument). i.instrument ∷ l) (listed_same since m starts)
+listed_same since m (i ∷ footings) = ap (λ (l : List Instrument). i.instrument ∷ l) (listed_same since m footings)
 
 flat_map-same : (f h : Spread → List ℕ) (spreads : List Spread) → ((spread : Spread) → f spread ≡ h spread) → flat_map f spreads ≡ flat_map h spreads
 flat_map-same f h [] same = refl
@@ -222,18 +222,18 @@ flat_map-same f h (x ∷ spreads) same = ap (λ (l : List ℕ). l ++ flat_map f 
 
 -- ---- an event end
 
-audits : (since : List Sent) (m : Sent) (starts : List Start) (listed : List Instrument) (kept : List (Option Best)) → m.end ≡ true → map (λ (i : Start). i.instrument) starts ≡ listed
-    → AllPairs (λ a b. a ≢ b) (ids_of listed) → AllZip Agrees (map (start_seen since m) starts) kept → AllZip IsNamed listed (map (start_seen since m) starts)
-    → flat_map (kept_line (end_at m) listed (told_from (end_at m) 0 (map (start_seen since m) starts)) kept) (spreads_from 0 (ids_of listed) listed)
-    ≡ flat_map (audit_text (end_at m) (map (start_seen since m) starts)) (map (start_seen since m) starts)
-audits since m starts listed kept is are differ agree named =
+audits : (since : List Sent) (m : Sent) (footings : List Footing) (listed : List Instrument) (kept : List (Option Best)) → m.end ≡ true → map (λ (i : Footing). i.instrument) footings ≡ listed
+    → AllPairs (λ a b. a ≢ b) (ids_of listed) → AllZip Agrees (map (seen_since since m) footings) kept → AllZip IsNamed listed (map (seen_since since m) footings)
+    → flat_map (kept_line (end_at m) listed (told_from (end_at m) 0 (map (seen_since since m) footings)) kept) (spreads_from 0 (ids_of listed) listed)
+    ≡ flat_map (audit_text (end_at m) (map (seen_since since m) footings)) (map (seen_since since m) footings)
+audits since m footings listed kept is are differ agree named =
     let end = end_at m in
     let k : ℕ = m.packet in
-    let seen : List (Option Seen) = map (start_seen since m) starts in
-    let ds : List Desk = desks_of since m starts in
+    let seen : List (Option Seen) = map (seen_since since m) footings in
+    let ds : List Desk = desks_of since m footings in
     let spreads : List Spread = spreads_from 0 (ids_of listed) listed in
-    let stand : seen ≡ map (desk_standing k) ds = desks_stand since m starts is in
-    let listing : listed_in ds ≡ listed = listed_same since m starts ∙ are in
+    let stand : seen ≡ map (desk_standing k) ds = desks_stand since m footings is in
+    let listing : listed_in ds ≡ listed = listed_same since m footings ∙ are in
     let one : (spread : Spread) → kept_line end listed (told_from end 0 seen) kept spread ≡ spread_line end ds spread = λ spread.
     spread_same end listed seen kept spread agree named
     ∙ ap (λ (l : List (Option Seen)). spread_text end (there (slice_get l spread.slot)) (there (slice_get l spread.leg1)) (there (slice_get l spread.leg2))) stand
@@ -246,19 +246,19 @@ audits since m starts listed kept is are differ agree named =
     (ap (λ (is : List Instrument). spreads_from 0 (ids_of is) is) (sym listing)))
     ∙ ap (λ (l : List (Option Seen)). flat_map (audit_text end l) l) (sym stand)
 
-pub end_text : (since : List Sent) (m : Sent) (starts : List Start) (listed : List Instrument) (kept : List (Option Best)) → m.end ≡ true → map (λ (i : Start). i.instrument) starts ≡ listed
-    → AllPairs (λ a b. a ≢ b) (ids_of listed) → AllZip Agrees (map (start_seen since m) starts) kept → AllZip IsNamed listed (map (start_seen since m) starts)
-    → told_text (end_at m) listed (told_from (end_at m) 0 (map (start_seen since m) starts)) kept ≡ lines_as (end_at m) (map (start_seen since m) starts)
+pub end_text : (since : List Sent) (m : Sent) (footings : List Footing) (listed : List Instrument) (kept : List (Option Best)) → m.end ≡ true → map (λ (i : Footing). i.instrument) footings ≡ listed
+    → AllPairs (λ a b. a ≢ b) (ids_of listed) → AllZip Agrees (map (seen_since since m) footings) kept → AllZip IsNamed listed (map (seen_since since m) footings)
+    → told_text (end_at m) listed (told_from (end_at m) 0 (map (seen_since since m) footings)) kept ≡ lines_as (end_at m) (map (seen_since since m) footings)
 unfolding lines_as
-end_text since m starts listed kept is are differ agree named =
-    let seen : List (Option Seen) = map (start_seen since m) starts in
+end_text since m footings listed kept is are differ agree named =
+    let seen : List (Option Seen) = map (seen_since since m) footings in
     ap (λ (l : List ℕ). l ++ flat_map (kept_line (end_at m) listed (told_from (end_at m) 0 seen) kept) (spreads_from 0 (ids_of listed) listed)) (books (end_at m) 0 seen)
-    ∙ ap (λ (l : List ℕ). flat_map (text_of (end_at m)) seen ++ l) (audits since m starts listed kept is are differ agree named)
+    ∙ ap (λ (l : List ℕ). flat_map (text_of (end_at m)) seen ++ l) (audits since m footings listed kept is are differ agree named)
 
-named_case : (since : List Sent) (m : Sent) (i : Start) (b : Bool) → IsNamed i.instrument (cond b (Some (there_of since m i)) None)
+named_case : (since : List Sent) (m : Sent) (i : Footing) (b : Bool) → IsNamed i.instrument (cond b (Some (there_of since m i)) None)
 named_case since m i true = refl
 named_case since m i false = tt
 
-pub all_named : (since : List Sent) (m : Sent) (starts : List Start) → AllZip IsNamed (map (λ (i : Start). i.instrument) starts) (map (start_seen since m) starts)
+pub all_named : (since : List Sent) (m : Sent) (footings : List Footing) → AllZip IsNamed (map (λ (i : Footing). i.instrument) footings) (map (seen_since since m) footings)
 all_named since m [] = tt
-all_named since m (i ∷ starts) = (named_case since m i (m.end && nat_lt i.base m.packet), all_named since m starts)
+all_named since m (i ∷ footings) = (named_case since m i (m.end && nat_lt i.base m.packet), all_named since m footings)

@@ -5,7 +5,7 @@ use Rattle.std.specs.List.{filter, AllByRecursion}
 use Rattle.std.proofs.lemmas.Bool.Decides.{nat_tests}
 use Rattle.mdp_books.specs.declared.event_end.EventEnd.{EventEnd}
 use Rattle.mdp_desks.specs.Lines.{Seen}
-use Rattle.mdp_desks.specs.Moments.{ended}
+use Rattle.mdp_desks.specs.Moments.{at_event_end}
 use Rattle.mdp_desks.specs.Shares.{is_kept_by}
 use Rattle.mdp_desks.specs.Reports.{Told, told_of, told_there, told_from, report_of}
 use Rattle.mdp_reports.specs.Rounds.{by_slot, all_by_slot, numbers_from, told_in, round_of}
@@ -146,11 +146,11 @@ told_rising end slot (s ∷ seen) =
 -- ---- a round
 
 tolds_of_round : (n : ℕ) (end : EventEnd) (seen : List (Option Seen)) (ws : List ℕ)
-    → map told_in (map (λ w. report_of (is_kept_by n w) (ended end seen)) ws) ≡ map (λ w. filter (kept_by n w) (told_from end 0 seen)) ws
+    → map told_in (map (λ w. report_of (is_kept_by n w) (at_event_end end seen)) ws) ≡ map (λ w. filter (kept_by n w) (told_from end 0 seen)) ws
 tolds_of_round n end seen [] = refl
 tolds_of_round n end seen (w ∷ ws) = ap (λ (l : List (List Told)). filter (kept_by n w) (told_from end 0 seen) ∷ l) (tolds_of_round n end seen ws)
 
-pub round_whole : (n : ℕ) (end : EventEnd) (seen : List (Option Seen)) → 1 ≤ n → all_by_slot (map told_in (round_of n (ended end seen))) ≡ told_from end 0 seen
+pub round_whole : (n : ℕ) (end : EventEnd) (seen : List (Option Seen)) → 1 ≤ n → all_by_slot (map told_in (round_of n (at_event_end end seen))) ≡ told_from end 0 seen
 round_whole n end seen some =
     ap all_by_slot (tolds_of_round n end seen (numbers_from 0 n))
     ∙ whole n (told_from end 0 seen) some (told_rising end 0 seen)

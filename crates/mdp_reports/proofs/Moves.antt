@@ -8,15 +8,15 @@ use Rattle.mdp_books.specs.Feed.{Sent, sent_in}
 use Rattle.mdp_arbiter.specs.Machine.{Move}
 use Rattle.mdp_arbiter.specs.Machine.Move.{passed, jumped}
 use Rattle.mdp_desks.specs.declared.desk.Desk.{Desk}
-use Rattle.mdp_desks.specs.Shown.{Standing, standing_after, standing_through}
+use Rattle.mdp_desks.specs.Shown.{SinceJump, since_after, since_through}
 use Rattle.mdp_desks.specs.Desks.{desk_after, desks_after, passed_desks, rebased_desks, snapshots_at}
-use Rattle.mdp_desks.specs.Standing.{Shows}
+use Rattle.mdp_desks.specs.Shows.{Shows}
 use Rattle.mdp_desks.specs.Moments.{Moment, moments, moments_of, moments_on, moments_after}
-use Rattle.mdp_desks.specs.Reports.{Report, leaps, report_by}
+use Rattle.mdp_desks.specs.Reports.{Report, of_jump, report_by}
 use Rattle.mdp_desks.specs.Shares.{own_part, own_slots, own_move, own_moves}
 use Rattle.mdp_desks.proofs.Hearing.{length_rebased}
 use Rattle.mdp_desks.proofs.Sharing.{law_of_shares}
-use Rattle.mdp_desks.proofs.Showing.{pass_moments, shows_jumped, shows_passed, standing_after-push}
+use Rattle.mdp_desks.proofs.Showing.{pass_moments, shows_jumped, shows_passed, since_after-push}
 use Rattle.mdp_reports.specs.ReportLaw.{AreFull, LawOfReports, StandBehind}
 use Rattle.mdp_reports.specs.Reporting.{desks_after_move, reports_of_move, desks_after_moves, reports_of_moves}
 
@@ -62,8 +62,8 @@ stands : (listed : List Instrument) (moves : List Move) (ds : List Desk) (shown 
 stands listed moves ds shown is = record { listed_are = is.listed_are; each = is.each; shown_is = refl }
 
 pushed : (listed : List Instrument) (slots : List ℕ) (before : List Move) (m : Move) (moves : List Move)
-    → map (report_by slots) (moments_after listed (before ++ m ∷ []) moves) ≡ map (report_by slots) (moments_on listed (standing_through listed (standing_after listed before) m) moves)
-pushed listed slots before m moves = ap (λ (s : Standing). map (report_by slots) (moments_on listed s moves)) (standing_after-push listed before m)
+    → map (report_by slots) (moments_after listed (before ++ m ∷ []) moves) ≡ map (report_by slots) (moments_on listed (since_through listed (since_after listed before) m) moves)
+pushed listed slots before m moves = ap (λ (s : SinceJump). map (report_by slots) (moments_on listed s moves)) (since_after-push listed before m)
 
 abbrev Reported : (ℕ → Bool) → List Instrument → List Move → List Move → List Desk → Type 0
 Reported mine listed before moves ds =
@@ -78,9 +78,9 @@ reported mine listed before (passed p ∷ moves) ds full is =
     let after = passed_desks (sent_in p) ds in
     let next = stands mine_listed (before ++ passed p ∷ []) after _ (shows_passed mine_listed before p ds after (moments mine_listed before) _ refl refl is) in
     let rest = reported mine listed (before ++ passed p ∷ []) moves after full next in (
-      ap (λ (l : List Report). l ++ reports_of_moves slots moves after) (ap (map (report_by slots)) (pass_moments (sent_in p) (standing_after mine_listed before).since (standing_after mine_listed before).starts ds is.each))
-          ∙ ap (λ (l : List Report). map (report_by slots) (moments_of (standing_after mine_listed before) (passed p)) ++ l) (rest.0 ∙ pushed mine_listed slots before (passed p) (own_moves mine moves))
-          ∙ sym (map-append (report_by slots) (moments_of (standing_after mine_listed before) (passed p)) (moments_on mine_listed (standing_through mine_listed (standing_after mine_listed before) (passed p)) (own_moves mine moves))),
+      ap (λ (l : List Report). l ++ reports_of_moves slots moves after) (ap (map (report_by slots)) (pass_moments (sent_in p) (since_after mine_listed before).since (since_after mine_listed before).footings ds is.each))
+          ∙ ap (λ (l : List Report). map (report_by slots) (moments_of (since_after mine_listed before) (passed p)) ++ l) (rest.0 ∙ pushed mine_listed slots before (passed p) (own_moves mine moves))
+          ∙ sym (map-append (report_by slots) (moments_of (since_after mine_listed before) (passed p)) (moments_on mine_listed (since_through mine_listed (since_after mine_listed before) (passed p)) (own_moves mine moves))),
       subst (λ (b : List Move). StandBehind mine_listed b (desks_after_moves slots moves after)) (append_assoc before (passed p ∷ []) (own_moves mine moves)) rest.1,
     )
 reported mine listed before (jumped old new ss ∷ moves) ds full is =
@@ -91,7 +91,7 @@ reported mine listed before (jumped old new ss ∷ moves) ds full is =
     let same : after ≡ rebased_desks (all_some (own_part mine 0 ss)) ds = ap (λ (b : List (Option SnapshotContent)). rebased_desks b ds) (own_picked mine listed ss full.0) in
     let next = stands mine_listed (before ++ m ∷ []) after _ (shows_jumped mine_listed before old new (own_part mine 0 ss) ds after (moments mine_listed before) _ (own_long mine 0 ss listed full.0) same refl is) in
     let rest = reported mine listed (before ++ m ∷ []) moves after full.1 next in (
-      ap (λ (l : List Report). leaps old new ∷ l) (rest.0 ∙ pushed mine_listed slots before m (own_moves mine moves)),
+      ap (λ (l : List Report). of_jump old new ∷ l) (rest.0 ∙ pushed mine_listed slots before m (own_moves mine moves)),
       subst (λ (b : List Move). StandBehind mine_listed b (desks_after_moves slots moves after)) (append_assoc before (m ∷ []) (own_moves mine moves)) rest.1,
     )
 

@@ -3,10 +3,10 @@ use Rattle.std.proofs.Common.{◌≡◌, ◌≤◌, ◌-◌, ℕ, zero, suc, Lis
 use Rattle.std.specs.Prelude.{Option, Some, None}
 use Rattle.std.specs.List.{slice_range, AllByRecursion}
 use Rattle.mdp_desks.specs.Reports.{Told}
-use Rattle.mdp_reports.specs.declared.row.Row.{Row}
-use Rattle.mdp_reports.specs.declared.row.Mark.{Mark}
-use Rattle.mdp_reports.specs.declared.row.Mark.TheVariants.{Ended, Leapt}
-use Rattle.mdp_reports.specs.Flat.{told_of_row, told_of_rows, report_of_mark, reports_of_marks, AreMarks}
+use Rattle.mdp_reports.specs.declared.places.ToldAt.{ToldAt}
+use Rattle.mdp_reports.specs.declared.places.ReportAt.{ReportAt}
+use Rattle.mdp_reports.specs.declared.places.ReportAt.TheVariants.{Event, Jump}
+use Rattle.mdp_reports.specs.Flat.{told_of_row, told_of_rows, report_at, reports_in, ArePlaces}
 use Rattle.mdp_reports.specs.Contents.{told_at, place_at}
 use Rattle.mdp_reports.proofs.Flatting.{slice-map}
 
@@ -31,32 +31,32 @@ abbrev end_or : Option (ℕ × ℕ) → ℕ
 end_or None = 0
 end_or (Some place) = place.1
 
-pub within : (count n : ℕ) (marks : List Mark) (from to : ℕ) → AreMarks count marks → place_at n marks ≡ Some (from, to) → (from ≤ to) × (to ≤ count)
+pub within : (count n : ℕ) (places : List ReportAt) (from to : ℕ) → ArePlaces count places → place_at n places ≡ Some (from, to) → (from ≤ to) × (to ≤ count)
 within count n [] from to are is = absurd cc
-within count zero (Ended e f t ∷ marks) from to are is =
+within count zero (Event e f t ∷ places) from to are is =
     let start : f ≡ from = ap start_or is in
     let end : t ≡ to = ap end_or is in
     let order = are.0 in
     let under = are.1 in
     (omega (arith, start, end, order), omega (arith, end, under))
-within count zero (Leapt old new ∷ marks) from to are is = absurd cc
-within count (suc n) (Ended e f t ∷ marks) from to are is = within count n marks from to are.3 is
-within count (suc n) (Leapt old new ∷ marks) from to are is = within count n marks from to are is
+within count zero (Jump old new ∷ places) from to are is = absurd cc
+within count (suc n) (Event e f t ∷ places) from to are is = within count n places from to are.3 is
+within count (suc n) (Jump old new ∷ places) from to are is = within count n places from to are is
 
-there : (ts : List Told) (n : ℕ) (marks : List Mark) (from to : ℕ) → place_at n marks ≡ Some (from, to) → slice_range ts from to ≡ told_at n (map (report_of_mark ts) marks)
+there : (ts : List Told) (n : ℕ) (places : List ReportAt) (from to : ℕ) → place_at n places ≡ Some (from, to) → slice_range ts from to ≡ told_at n (map (report_at ts) places)
 there ts n [] from to is = absurd cc
-there ts zero (Ended e f t ∷ marks) from to is =
+there ts zero (Event e f t ∷ places) from to is =
     let start : f ≡ from = ap start_or is in
     let end : t ≡ to = ap end_or is in
     ap (λ (a : ℕ). slice_range ts a to) (sym start) ∙ ap (slice_range ts f) (sym end)
-there ts zero (Leapt old new ∷ marks) from to is = absurd cc
-there ts (suc n) (m ∷ marks) from to is = there ts n marks from to is
+there ts zero (Jump old new ∷ places) from to is = absurd cc
+there ts (suc n) (m ∷ places) from to is = there ts n places from to is
 
-pub rest_there : (bytes : List ℕ) (rows : List Row) (n : ℕ) (marks : List Mark) (from to : ℕ) → place_at n marks ≡ Some (from, to) → told_of_rows bytes (slice_range rows from to) ≡ told_at n (reports_of_marks bytes rows marks)
-rest_there bytes rows n marks from to is = sym (slice-map (told_of_row bytes) rows from to) ∙ there (told_of_rows bytes rows) n marks from to is
+pub rest_there : (bytes : List ℕ) (rows : List ToldAt) (n : ℕ) (places : List ReportAt) (from to : ℕ) → place_at n places ≡ Some (from, to) → told_of_rows bytes (slice_range rows from to) ≡ told_at n (reports_in bytes rows places)
+rest_there bytes rows n places from to is = sym (slice-map (told_of_row bytes) rows from to) ∙ there (told_of_rows bytes rows) n places from to is
 
-pub rest_none : (ts : List Told) (n : ℕ) (marks : List Mark) → place_at n marks ≡ None → [] ≡ told_at n (map (report_of_mark ts) marks)
+pub rest_none : (ts : List Told) (n : ℕ) (places : List ReportAt) → place_at n places ≡ None → [] ≡ told_at n (map (report_at ts) places)
 rest_none ts n [] is = refl
-rest_none ts zero (Ended e f t ∷ marks) is = absurd cc
-rest_none ts zero (Leapt old new ∷ marks) is = refl
-rest_none ts (suc n) (m ∷ marks) is = rest_none ts n marks is
+rest_none ts zero (Event e f t ∷ places) is = absurd cc
+rest_none ts zero (Jump old new ∷ places) is = refl
+rest_none ts (suc n) (m ∷ places) is = rest_none ts n places is

@@ -4,9 +4,9 @@ use Rattle.std.specs.Prelude.{Option, Some, None}
 use Rattle.std.proofs.lemmas.List.{drop_all}
 use Rattle.mdp_templates.specs.declared.instrument.Instrument.{Instrument}
 use Rattle.mdp_quotes.specs.declared.best.Best.{Best}
-use Rattle.mdp_desks.specs.Reports.{Told, Report, tells, leaps}
+use Rattle.mdp_desks.specs.Reports.{Told, Report, of_event_end, of_jump}
 use Rattle.mdp_reports.specs.Rounds.{by_slot, all_by_slot, told_in, round_text, kept_after_round, text_from, heads, tail, rounds_behind, rounds_in}
-use Rattle.mdp_reports.specs.declared.row.Heading.{Heading}
+use Rattle.mdp_reports.specs.declared.places.Heading.{Heading}
 use Rattle.mdp_reports.specs.Contents.{told_at, heading_of, heading_at}
 use Rattle.mdp_lanes.specs.declared.step.Step.{Step}
 use Rattle.mdp_reports.specs.BoardSteps.{step_of_round, steps_in}
@@ -51,16 +51,16 @@ all_told n [] = refl
 all_told n (xs ∷ others) = one_told n xs (all_by_slot (map (told_at n) others)) (map (drop n) others) (all_told n others)
 
 by_text : (listed : List Instrument) (kept : List (Option Best)) (r : Report) (rest : List Report) → round_text listed kept (r ∷ rest) ≡ text_under (heading_of r) listed kept (by_slot (told_in r) (all_by_slot (map told_in rest)))
-by_text listed kept (tells end ts) rest = refl
-by_text listed kept (leaps old new) rest = refl
+by_text listed kept (of_event_end end ts) rest = refl
+by_text listed kept (of_jump old new) rest = refl
 
 by_kept : (kept : List (Option Best)) (r : Report) (rest : List Report) → kept_after_round kept (r ∷ rest) ≡ kept_under (heading_of r) kept (by_slot (told_in r) (all_by_slot (map told_in rest)))
-by_kept kept (tells end ts) rest = refl
-by_kept kept (leaps old new) rest = refl
+by_kept kept (of_event_end end ts) rest = refl
+by_kept kept (of_jump old new) rest = refl
 
 by_step : (r : Report) (rest : List Report) → step_of_round (r ∷ rest) ≡ step_under (heading_of r) (by_slot (told_in r) (all_by_slot (map told_in rest))) ∷ []
-by_step (tells end ts) rest = refl
-by_step (leaps old new) rest = refl
+by_step (of_event_end end ts) rest = refl
+by_step (of_jump old new) rest = refl
 
 -- the next round, by what is read of it
 pub record IsRound (n : ℕ) (lists : List (List Report)) (h : Heading) : Type 0 where

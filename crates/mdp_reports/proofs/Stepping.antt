@@ -8,9 +8,9 @@ use Rattle.mdp_lanes.specs.declared.step.Step.{Step}
 use Rattle.mdp_lanes.specs.declared.step.Step.TheVariants.{Jump, Event}
 use Rattle.mdp_books.specs.declared.event_end.EventEnd.{EventEnd}
 use Rattle.mdp_desks.specs.Reports.{Told}
-use Rattle.mdp_reports.specs.declared.board_steps.StepMark.{StepMark}
+use Rattle.mdp_reports.specs.declared.board_steps.StepAt.{StepAt}
 use Rattle.mdp_reports.specs.BoardSteps.{pair_told}
-use Rattle.mdp_reports.specs.Steps.{end_of, step_to, steps_of_marks, AreInPlace, step_with, steps_with, steps_with_told}
+use Rattle.mdp_reports.specs.Steps.{end_of, step_to, steps_in_places, AreInPlace, step_with, steps_with, steps_with_told}
 use Rattle.mdp_reports.proofs.Flatting.{slice_front}
 
 abbrev pub Pair : Type 0
@@ -18,34 +18,34 @@ Pair = ℕ × Row
 
 -- ---- places
 
-pub end_within : (count : ℕ) (marks : List StepMark) → AreInPlace count marks → end_of count marks ≤ count
+pub end_within : (count : ℕ) (places : List StepAt) → AreInPlace count places → end_of count places ≤ count
 end_within count [] are = omega arith
-end_within count (m ∷ marks) are =
-    let here : m.from ≤ end_of count marks = are.0 in
-    let rest = end_within count marks are.1 in
+end_within count (m ∷ places) are =
+    let here : m.from ≤ end_of count places = are.0 in
+    let rest = end_within count places are.1 in
     omega (arith, here, rest)
 
-end_more : (count : ℕ) (marks : List StepMark) → end_of count marks ≤ end_of (count + 1) marks
+end_more : (count : ℕ) (places : List StepAt) → end_of count places ≤ end_of (count + 1) places
 end_more count [] = omega arith
-end_more count (m ∷ marks) = omega arith
+end_more count (m ∷ places) = omega arith
 
-pub places_more : (count : ℕ) (marks : List StepMark) → AreInPlace count marks → AreInPlace (count + 1) marks
+pub places_more : (count : ℕ) (places : List StepAt) → AreInPlace count places → AreInPlace (count + 1) places
 places_more count [] are = tt
-places_more count (m ∷ marks) are =
-    let here : m.from ≤ end_of count marks = are.0 in
-    let more = end_more count marks in
-    (omega (arith, here, more), places_more count marks are.1)
+places_more count (m ∷ places) are =
+    let here : m.from ≤ end_of count places = are.0 in
+    let more = end_more count places in
+    (omega (arith, here, more), places_more count places are.1)
 
-abbrev pub mark_at : Bool → ℕ → StepMark
-mark_at is_jump from = record { is_jump = is_jump; from = from }
+abbrev pub step_place : Bool → ℕ → StepAt
+step_place is_jump from = record { is_jump = is_jump; from = from }
 
-end-push : (count : ℕ) (marks : List StepMark) (is_jump : Bool) → end_of count (marks ++ mark_at is_jump count ∷ []) ≡ end_of count marks
+end-push : (count : ℕ) (places : List StepAt) (is_jump : Bool) → end_of count (places ++ step_place is_jump count ∷ []) ≡ end_of count places
 end-push count [] is_jump = refl
-end-push count (m ∷ marks) is_jump = refl
+end-push count (m ∷ places) is_jump = refl
 
-pub places-push : (count : ℕ) (marks : List StepMark) (is_jump : Bool) → AreInPlace count marks → AreInPlace count (marks ++ mark_at is_jump count ∷ [])
+pub places-push : (count : ℕ) (places : List StepAt) (is_jump : Bool) → AreInPlace count places → AreInPlace count (places ++ step_place is_jump count ∷ [])
 places-push count [] is_jump are = (omega arith, tt)
-places-push count (m ∷ marks) is_jump are = (subst (λ (n : ℕ). m.from ≤ n) (sym (end-push count marks is_jump)) are.0, places-push count marks is_jump are.1)
+places-push count (m ∷ places) is_jump are = (subst (λ (n : ℕ). m.from ≤ n) (sym (end-push count places is_jump)) are.0, places-push count places is_jump are.1)
 
 -- ---- one step more
 
@@ -60,15 +60,15 @@ abbrev pub new_step : Bool → Step
 new_step true = Jump
 new_step false = Event []
 
-step-new : (rows : List Pair) (is_jump : Bool) → step_to rows (mark_at is_jump (length rows)) (length rows) ≡ new_step is_jump
+step-new : (rows : List Pair) (is_jump : Bool) → step_to rows (step_place is_jump (length rows)) (length rows) ≡ new_step is_jump
 step-new rows true = refl
 step-new rows false = ap Event (no_rows rows)
 
-pub steps-push : (rows : List Pair) (marks : List StepMark) (is_jump : Bool) → steps_of_marks rows (marks ++ mark_at is_jump (length rows) ∷ []) ≡ steps_of_marks rows marks ++ new_step is_jump ∷ []
+pub steps-push : (rows : List Pair) (places : List StepAt) (is_jump : Bool) → steps_in_places rows (places ++ step_place is_jump (length rows) ∷ []) ≡ steps_in_places rows places ++ new_step is_jump ∷ []
 steps-push rows [] is_jump = ap (λ (s : Step). s ∷ []) (step-new rows is_jump)
-steps-push rows (m ∷ marks) is_jump =
-    ap (λ (n : ℕ). step_to rows m n ∷ steps_of_marks rows (marks ++ mark_at is_jump (length rows) ∷ [])) (end-push (length rows) marks is_jump)
-    ∙ ap (λ (l : List Step). step_to rows m (end_of (length rows) marks) ∷ l) (steps-push rows marks is_jump)
+steps-push rows (m ∷ places) is_jump =
+    ap (λ (n : ℕ). step_to rows m n ∷ steps_in_places rows (places ++ step_place is_jump (length rows) ∷ [])) (end-push (length rows) places is_jump)
+    ∙ ap (λ (l : List Step). step_to rows m (end_of (length rows) places) ∷ l) (steps-push rows places is_jump)
 
 -- ---- one row more
 
@@ -81,65 +81,65 @@ drop_more rows p from within =
     ∙ take_all (length (rows ++ p ∷ []) - from) (drop from rows ++ p ∷ []) (omega (arith, long, both, all))
     ∙ ap (λ (l : List Pair). l ++ p ∷ []) (sym (take_all (length rows - from) (drop from rows) (omega (arith, long))))
 
-last_more : (rows : List Pair) (p : Pair) (m : StepMark) → m.from ≤ length rows → step_to (rows ++ p ∷ []) m (length (rows ++ p ∷ [])) ≡ step_with p (step_to rows m (length rows))
+last_more : (rows : List Pair) (p : Pair) (m : StepAt) → m.from ≤ length rows → step_to (rows ++ p ∷ []) m (length (rows ++ p ∷ [])) ≡ step_with p (step_to rows m (length rows))
 last_more rows p m within = by_kind m.is_jump
   where
     by_kind : (b : Bool) → cond b Jump (Event (slice_range (rows ++ p ∷ []) m.from (length (rows ++ p ∷ [])))) ≡ step_with p (cond b Jump (Event (slice_range rows m.from (length rows))))
     by_kind true = refl
     by_kind false = ap Event (drop_more rows p m.from within)
 
-same_step : (rows : List Pair) (p : Pair) (m : StepMark) (to : ℕ) → m.from ≤ to → to ≤ length rows → step_to (rows ++ p ∷ []) m to ≡ step_to rows m to
+same_step : (rows : List Pair) (p : Pair) (m : StepAt) (to : ℕ) → m.from ≤ to → to ≤ length rows → step_to (rows ++ p ∷ []) m to ≡ step_to rows m to
 same_step rows p m to order within = ap (λ (l : List Pair). cond m.is_jump Jump (Event l)) (slice_front rows (p ∷ []) m.from to order within)
 
-pub rows-push : (rows : List Pair) (p : Pair) (marks : List StepMark) → AreInPlace (length rows) marks → steps_of_marks (rows ++ p ∷ []) marks ≡ steps_with p (steps_of_marks rows marks)
+pub rows-push : (rows : List Pair) (p : Pair) (places : List StepAt) → AreInPlace (length rows) places → steps_in_places (rows ++ p ∷ []) places ≡ steps_with p (steps_in_places rows places)
 rows-push rows p [] are = refl
 rows-push rows p (m ∷ []) are = ap (λ (s : Step). s ∷ []) (last_more rows p m are.0)
-rows-push rows p (m ∷ n ∷ marks) are =
-    ap (λ (s : Step). s ∷ steps_of_marks (rows ++ p ∷ []) (n ∷ marks)) (same_step rows p m n.from are.0 (end_within (length rows) (n ∷ marks) are.1))
-    ∙ ap (λ (l : List Step). step_to rows m n.from ∷ l) (rows-push rows p (n ∷ marks) are.1)
+rows-push rows p (m ∷ n ∷ places) are =
+    ap (λ (s : Step). s ∷ steps_in_places (rows ++ p ∷ []) (n ∷ places)) (same_step rows p m n.from are.0 (end_within (length rows) (n ∷ places) are.1))
+    ∙ ap (λ (l : List Step). step_to rows m n.from ∷ l) (rows-push rows p (n ∷ places) are.1)
 
 -- ---- the step at a place
 
-suc_within : (count n : ℕ) (marks : List StepMark) (m : StepMark) → AreInPlace count marks → slice_get marks n ≡ Some m → (m.from ≤ end_of count (drop (suc n) marks)) × (end_of count (drop (suc n) marks) ≤ count)
+suc_within : (count n : ℕ) (places : List StepAt) (m : StepAt) → AreInPlace count places → slice_get places n ≡ Some m → (m.from ≤ end_of count (drop (suc n) places)) × (end_of count (drop (suc n) places) ≤ count)
 suc_within count n [] m are is = absurd cc
-suc_within count zero (x ∷ marks) m are is =
+suc_within count zero (x ∷ places) m are is =
     let same : x ≡ m = cc in
-    (subst (λ (y : StepMark). y.from ≤ end_of count marks) same are.0, end_within count marks are.1)
-suc_within count (suc n) (x ∷ marks) m are is = suc_within count n marks m are.1 is
+    (subst (λ (y : StepAt). y.from ≤ end_of count places) same are.0, end_within count places are.1)
+suc_within count (suc n) (x ∷ places) m are is = suc_within count n places m are.1 is
 
-pub at_within : (count n : ℕ) (marks : List StepMark) (m : StepMark) → AreInPlace count marks → slice_get marks n ≡ Some m → (m.from ≤ end_of count (drop (n + 1) marks)) × (end_of count (drop (n + 1) marks) ≤ count)
-at_within count n marks m are is =
+pub at_within : (count n : ℕ) (places : List StepAt) (m : StepAt) → AreInPlace count places → slice_get places n ≡ Some m → (m.from ≤ end_of count (drop (n + 1) places)) × (end_of count (drop (n + 1) places) ≤ count)
+at_within count n places m are is =
     let one : suc n ≡ n + 1 = omega arith in
-    subst (λ (k : ℕ). (m.from ≤ end_of count (drop k marks)) × (end_of count (drop k marks) ≤ count)) one (suc_within count n marks m are is)
+    subst (λ (k : ℕ). (m.from ≤ end_of count (drop k places)) × (end_of count (drop k places) ≤ count)) one (suc_within count n places m are is)
 
-suc_there : (rows : List Pair) (n : ℕ) (marks : List StepMark) (m : StepMark) → slice_get marks n ≡ Some m → slice_get (steps_of_marks rows marks) n ≡ Some (step_to rows m (end_of (length rows) (drop (suc n) marks)))
+suc_there : (rows : List Pair) (n : ℕ) (places : List StepAt) (m : StepAt) → slice_get places n ≡ Some m → slice_get (steps_in_places rows places) n ≡ Some (step_to rows m (end_of (length rows) (drop (suc n) places)))
 suc_there rows n [] m is = absurd cc
-suc_there rows zero (x ∷ marks) m is =
+suc_there rows zero (x ∷ places) m is =
     let same : x ≡ m = cc in
-    ap (λ (y : StepMark). Some (step_to rows y (end_of (length rows) marks))) same
-suc_there rows (suc n) (x ∷ marks) m is = suc_there rows n marks m is
+    ap (λ (y : StepAt). Some (step_to rows y (end_of (length rows) places))) same
+suc_there rows (suc n) (x ∷ places) m is = suc_there rows n places m is
 
-step_there : (rows : List Pair) (n : ℕ) (marks : List StepMark) (m : StepMark) → slice_get marks n ≡ Some m → slice_get (steps_of_marks rows marks) n ≡ Some (step_to rows m (end_of (length rows) (drop (n + 1) marks)))
-step_there rows n marks m is =
+step_there : (rows : List Pair) (n : ℕ) (places : List StepAt) (m : StepAt) → slice_get places n ≡ Some m → slice_get (steps_in_places rows places) n ≡ Some (step_to rows m (end_of (length rows) (drop (n + 1) places)))
+step_there rows n places m is =
     let one : suc n ≡ n + 1 = omega arith in
-    subst (λ (k : ℕ). slice_get (steps_of_marks rows marks) n ≡ Some (step_to rows m (end_of (length rows) (drop k marks)))) one (suc_there rows n marks m is)
+    subst (λ (k : ℕ). slice_get (steps_in_places rows places) n ≡ Some (step_to rows m (end_of (length rows) (drop k places)))) one (suc_there rows n places m is)
 
-pub jump_there : (rows : List Pair) (n : ℕ) (marks : List StepMark) (m : StepMark) → slice_get marks n ≡ Some m → m.is_jump ≡ true → Some Jump ≡ slice_get (steps_of_marks rows marks) n
-jump_there rows n marks m is jumps =
-    sym (step_there rows n marks m is ∙ ap (λ (b : Bool). Some (cond b Jump (Event (slice_range rows m.from (end_of (length rows) (drop (n + 1) marks)))))) jumps)
+pub jump_there : (rows : List Pair) (n : ℕ) (places : List StepAt) (m : StepAt) → slice_get places n ≡ Some m → m.is_jump ≡ true → Some Jump ≡ slice_get (steps_in_places rows places) n
+jump_there rows n places m is jumps =
+    sym (step_there rows n places m is ∙ ap (λ (b : Bool). Some (cond b Jump (Event (slice_range rows m.from (end_of (length rows) (drop (n + 1) places)))))) jumps)
 
-pub event_there : (rows : List Pair) (n : ℕ) (marks : List StepMark) (m : StepMark) → slice_get marks n ≡ Some m → m.is_jump ≡ false → Some (Event (slice_range rows m.from (end_of (length rows) (drop (n + 1) marks)))) ≡ slice_get (steps_of_marks rows marks) n
-event_there rows n marks m is ends =
-    sym (step_there rows n marks m is ∙ ap (λ (b : Bool). Some (cond b Jump (Event (slice_range rows m.from (end_of (length rows) (drop (n + 1) marks)))))) ends)
+pub event_there : (rows : List Pair) (n : ℕ) (places : List StepAt) (m : StepAt) → slice_get places n ≡ Some m → m.is_jump ≡ false → Some (Event (slice_range rows m.from (end_of (length rows) (drop (n + 1) places)))) ≡ slice_get (steps_in_places rows places) n
+event_there rows n places m is ends =
+    sym (step_there rows n places m is ∙ ap (λ (b : Bool). Some (cond b Jump (Event (slice_range rows m.from (end_of (length rows) (drop (n + 1) places)))))) ends)
 
-pub none_there : (rows : List Pair) (n : ℕ) (marks : List StepMark) → slice_get marks n ≡ None → None ≡ slice_get (steps_of_marks rows marks) n
+pub none_there : (rows : List Pair) (n : ℕ) (places : List StepAt) → slice_get places n ≡ None → None ≡ slice_get (steps_in_places rows places) n
 none_there rows n [] is = refl
-none_there rows zero (x ∷ marks) is = absurd cc
-none_there rows (suc n) (x ∷ marks) is = none_there rows n marks is
+none_there rows zero (x ∷ places) is = absurd cc
+none_there rows (suc n) (x ∷ places) is = none_there rows n places is
 
-pub as_many : (rows : List Pair) (marks : List StepMark) → length (steps_of_marks rows marks) ≡ length marks
+pub as_many : (rows : List Pair) (places : List StepAt) → length (steps_in_places rows places) ≡ length places
 as_many rows [] = refl
-as_many rows (m ∷ marks) = ap suc (as_many rows marks)
+as_many rows (m ∷ places) = ap suc (as_many rows places)
 
 -- ---- an event with all its rows
 

@@ -7,7 +7,7 @@ use Rattle.mdp_books.specs.declared.event_end.EventEnd.{EventEnd}
 use Rattle.mdp_desks.specs.declared.desk.Desk.{Desk}
 use Rattle.mdp_desks.specs.Beside.{AreClear, all_due_at, is_due_at}
 use Rattle.mdp_desks.specs.Desks.{desks_through, desk_standing}
-use Rattle.mdp_desks.specs.Reports.{Told, Report, tells, told_there, told_by}
+use Rattle.mdp_desks.specs.Reports.{Told, Report, of_event_end, told_there, told_by}
 use Rattle.mdp_desks.proofs.Waiting.{unmarked}
 use Rattle.mdp_desks.proofs.Hearing.{through, all_through}
 use Rattle.mdp_reports.specs.Flat.{reports_with}
@@ -80,9 +80,9 @@ tell_more end slots ds n x slot d e old new less under is are told =
     ∙ ap (λ (m : ℕ). reports_with_all (told_there end slot (desk_standing end.packet d) ++ told_of end (drop m slots) (drop m ds)) old) (sym one)
     ∙ ap (λ (l : List Told). reports_with_all l old) (sym (next_there end slots ds n x slot d e less under is are))
 
-pub all_behind : (end : EventEnd) (ts us : List Told) (old : List Report) → reports_with_all ts (old ++ tells end us ∷ []) ≡ old ++ tells end (us ++ ts) ∷ []
-all_behind end [] us old = ap (λ (l : List Told). old ++ tells end l ∷ []) (sym (append-nil us))
+pub all_behind : (end : EventEnd) (ts us : List Told) (old : List Report) → reports_with_all ts (old ++ of_event_end end us ∷ []) ≡ old ++ of_event_end end (us ++ ts) ∷ []
+all_behind end [] us old = ap (λ (l : List Told). old ++ of_event_end end l ∷ []) (sym (append-nil us))
 all_behind end (t ∷ ts) us old =
-    ap (reports_with_all ts) (reports_with-push t old (tells end us))
+    ap (reports_with_all ts) (reports_with-push t old (of_event_end end us))
     ∙ all_behind end ts (us ++ t ∷ []) old
-    ∙ ap (λ (l : List Told). old ++ tells end l ∷ []) (append_assoc us (t ∷ []) ts)
+    ∙ ap (λ (l : List Told). old ++ of_event_end end l ∷ []) (append_assoc us (t ∷ []) ts)

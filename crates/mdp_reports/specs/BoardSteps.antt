@@ -10,9 +10,9 @@ use Rattle.mdp_lanes.specs.declared.row.Row.TheVariants.{Top, Fault}
 use Rattle.mdp_lanes.specs.declared.step.Step.{Step}
 use Rattle.mdp_lanes.specs.declared.step.Step.TheVariants.{Jump, Event}
 use Rattle.mdp_arbiter.specs.Machine.{Move}
-use Rattle.mdp_desks.specs.Moments.{Moment, ended, leapt, moments}
-use Rattle.mdp_desks.specs.Reports.{Told, Report, tells, leaps, told_from}
-use Rattle.mdp_engine.specs.Owed.{Step as RunStep, owed_moments}
+use Rattle.mdp_desks.specs.Moments.{Moment, at_event_end, at_jump, moments}
+use Rattle.mdp_desks.specs.Reports.{Told, Report, of_event_end, of_jump, told_from}
+use Rattle.mdp_engine.specs.Owed.{NumberedMove as RunStep, owed_moments}
 use Rattle.mdp_reports.specs.Rounds.{all_by_slot, told_in}
 
 -- the row of a security whose book has this top where an event ends; a fault has none
@@ -30,8 +30,8 @@ step_telling end ts = Event (map (pair_told end) ts)
 -- ---- what the moves show
 
 abbrev pub step_of_moment : Moment → Step
-step_of_moment (ended end seen) = step_telling end (told_from end 0 seen)
-step_of_moment (leapt old new) = Jump
+step_of_moment (at_event_end end seen) = step_telling end (told_from end 0 seen)
+step_of_moment (at_jump old new) = Jump
 
 abbrev pub board_steps : List Instrument → List Move → List Step
 board_steps listed moves = map step_of_moment (moments listed moves)
@@ -41,8 +41,8 @@ board_steps listed moves = map step_of_moment (moments listed moves)
 -- of one report of each worker
 abbrev pub step_of_round : List Report → List Step
 step_of_round [] = []
-step_of_round (tells end ts ∷ rest) = step_telling end (all_by_slot (ts ∷ map told_in rest)) ∷ []
-step_of_round (leaps old new ∷ rest) = Jump ∷ []
+step_of_round (of_event_end end ts ∷ rest) = step_telling end (all_by_slot (ts ∷ map told_in rest)) ∷ []
+step_of_round (of_jump old new ∷ rest) = Jump ∷ []
 
 -- round by round
 abbrev pub steps_in : List (List Report) → List Step

@@ -7,60 +7,60 @@ use Rattle.mdp_books.specs.declared.event_end.EventEnd.{EventEnd}
 use Rattle.mdp_quotes.specs.Best.{best_of}
 use Rattle.mdp_quotes.specs.Top.{top_of_book}
 use Rattle.mdp_desks.specs.Lines.{book_lines}
-use Rattle.mdp_desks.specs.Reports.{Told, Report, tells, leaps}
-use Rattle.mdp_reports.specs.declared.row.Row.{Row}
-use Rattle.mdp_reports.specs.declared.row.Mark.{Mark}
-use Rattle.mdp_reports.specs.declared.row.Mark.TheVariants.{Ended, Leapt}
+use Rattle.mdp_desks.specs.Reports.{Told, Report, of_event_end, of_jump}
+use Rattle.mdp_reports.specs.declared.places.ToldAt.{ToldAt}
+use Rattle.mdp_reports.specs.declared.places.ReportAt.{ReportAt}
+use Rattle.mdp_reports.specs.declared.places.ReportAt.TheVariants.{Event, Jump}
 
 -- a row with its lines
-abbrev pub told_of_row : List ℕ → Row → Told
+abbrev pub told_of_row : List ℕ → ToldAt → Told
 told_of_row bytes r = record { slot = r.slot; lines = slice_range bytes r.from r.to; best = r.best; top = r.top }
 
-abbrev pub told_of_rows : List ℕ → List Row → List Told
+abbrev pub told_of_rows : List ℕ → List ToldAt → List Told
 told_of_rows bytes rows = map (told_of_row bytes) rows
 
 -- a moment with its rows
-abbrev pub report_of_mark : List Told → Mark → Report
-report_of_mark ts (Ended end from to) = tells end (slice_range ts from to)
-report_of_mark ts (Leapt old new) = leaps old new
+abbrev pub report_at : List Told → ReportAt → Report
+report_at ts (Event end from to) = of_event_end end (slice_range ts from to)
+report_at ts (Jump old new) = of_jump old new
 
-abbrev pub reports_of_marks : List ℕ → List Row → List Mark → List Report
-reports_of_marks bytes rows marks = map (report_of_mark (told_of_rows bytes rows)) marks
+abbrev pub reports_in : List ℕ → List ToldAt → List ReportAt → List Report
+reports_in bytes rows places = map (report_at (told_of_rows bytes rows)) places
 
 -- ---- the places are among what is there, and the last moment, where it is an event end, goes on to the last row
 
-pub record IsRowIn (count : ℕ) (r : Row) : Type 0 where
+pub record IsRowIn (count : ℕ) (r : ToldAt) : Type 0 where
   pub order : r.from ≤ r.to
   pub within : r.to ≤ count
 
-abbrev pub ReachesEnd : ℕ → ℕ → List Mark → Type 0
+abbrev pub ReachesEnd : ℕ → ℕ → List ReportAt → Type 0
 ReachesEnd count to [] = to ≡ count
-ReachesEnd count to (m ∷ marks) = ⊤
+ReachesEnd count to (m ∷ places) = ⊤
 
-abbrev pub AreMarks : ℕ → List Mark → Type 0
-AreMarks count [] = ⊤
-AreMarks count (Ended end from to ∷ marks) =
-    (from ≤ to) × (to ≤ count) × ReachesEnd count to marks × AreMarks count marks
-AreMarks count (Leapt old new ∷ marks) = AreMarks count marks
+abbrev pub ArePlaces : ℕ → List ReportAt → Type 0
+ArePlaces count [] = ⊤
+ArePlaces count (Event end from to ∷ places) =
+    (from ≤ to) × (to ≤ count) × ReachesEnd count to places × ArePlaces count places
+ArePlaces count (Jump old new ∷ places) = ArePlaces count places
 
-pub record AreFlat (bytes : List ℕ) (rows : List Row) (marks : List Mark) : Type 0 where
+pub record AreFlat (bytes : List ℕ) (rows : List ToldAt) (places : List ReportAt) : Type 0 where
   pub rows_in : AllByRecursion (IsRowIn (length bytes)) rows
-  pub marks_in : AreMarks (length rows) marks
+  pub places_in : ArePlaces (length rows) places
 
 -- ---- one row more in the last moment, where it is an event end
 
-abbrev pub mark_to : ℕ → Mark → Mark
-mark_to to (Ended end from before) = Ended end from to
-mark_to to (Leapt old new) = Leapt old new
+abbrev pub place_to : ℕ → ReportAt → ReportAt
+place_to to (Event end from before) = Event end from to
+place_to to (Jump old new) = Jump old new
 
-abbrev pub marks_to : ℕ → List Mark → List Mark
-marks_to to [] = []
-marks_to to (m ∷ []) = mark_to to m ∷ []
-marks_to to (m ∷ n ∷ marks) = m ∷ marks_to to (n ∷ marks)
+abbrev pub places_to : ℕ → List ReportAt → List ReportAt
+places_to to [] = []
+places_to to (m ∷ []) = place_to to m ∷ []
+places_to to (m ∷ n ∷ places) = m ∷ places_to to (n ∷ places)
 
 abbrev pub report_with : Told → Report → Report
-report_with t (tells end ts) = tells end (ts ++ t ∷ [])
-report_with t (leaps old new) = leaps old new
+report_with t (of_event_end end ts) = of_event_end end (ts ++ t ∷ [])
+report_with t (of_jump old new) = of_jump old new
 
 -- the last report tells of one more security, where it is of an event end
 abbrev pub reports_with : Told → List Report → List Report

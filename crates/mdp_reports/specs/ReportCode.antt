@@ -4,7 +4,7 @@ use Rattle.std.proofs.Common.{inl, inr}
 use Rattle.std.specs.Coded.{Coded, code_by, coded×, coded⊎, coded_ℕ, coded_list, coded_option}
 use Rattle.mdp_books.specs.declared.event_end.EventEnd.{EventEnd}
 use Rattle.mdp_books.specs.contracts.event_end.EventEnd as event_end
-use Rattle.mdp_desks.specs.Reports.{Told, Report, tells, leaps}
+use Rattle.mdp_desks.specs.Reports.{Told, Report, of_event_end, of_jump}
 use Rattle.mdp_quotes.specs.declared.best.Best.{Best}
 use Rattle.mdp_quotes.specs.contracts.best.Best as best
 use Rattle.mdp_quotes.specs.declared.top.TopOfBook.{TopOfBook}
@@ -27,16 +27,16 @@ abbrev pub Parts : Type 0
 Parts = (EventEnd × List Told) ⊎ (ℕ × ℕ)
 
 abbrev pub parts_of : Report → Parts
-parts_of (tells end ts) = inl (end, ts)
-parts_of (leaps old new) = inr (old, new)
+parts_of (of_event_end end ts) = inl (end, ts)
+parts_of (of_jump old new) = inr (old, new)
 
 abbrev pub report_from : Parts → Report
-report_from (inl parts) = tells parts.0 parts.1
-report_from (inr parts) = leaps parts.0 parts.1
+report_from (inl parts) = of_event_end parts.0 parts.1
+report_from (inr parts) = of_jump parts.0 parts.1
 
 pub same_report : (r : Report) → report_from (parts_of r) ≡ r
-same_report (tells end ts) = refl
-same_report (leaps old new) = refl
+same_report (of_event_end end ts) = refl
+same_report (of_jump old new) = refl
 
 abbrev pub reports_code : Coded (List Report)
 reports_code =

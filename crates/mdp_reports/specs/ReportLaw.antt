@@ -8,7 +8,7 @@ use Rattle.mdp_desks.specs.Desks.{desk_at_start}
 use Rattle.mdp_desks.specs.Moments.{moments, moments_after}
 use Rattle.mdp_desks.specs.Reports.{report_of}
 use Rattle.mdp_desks.specs.Shares.{own_part, own_slots, own_moves}
-use Rattle.mdp_desks.specs.Standing.{Shows}
+use Rattle.mdp_desks.specs.Shows.{Shows}
 use Rattle.mdp_reports.specs.RoundLaws.{Ascend}
 use Rattle.mdp_reports.specs.Reporting.{desks_after_moves, reports_of_moves}
 

@@ -6,7 +6,7 @@ use Rattle.mdp_arbiter.specs.Machine.{Move}
 use Rattle.mdp_arbiter.specs.Machine.Move.{passed, jumped}
 use Rattle.mdp_desks.specs.declared.desk.Desk.{Desk}
 use Rattle.mdp_desks.specs.Desks.{desks_moment, passed_moments, passed_desks, rebased_desks, snapshots_at}
-use Rattle.mdp_desks.specs.Reports.{Told, Report, leaps, report_by}
+use Rattle.mdp_desks.specs.Reports.{Told, Report, of_jump, report_by}
 use Rattle.mdp_reports.specs.Flat.{reports_with}
 
 -- the last report, where it is of an event end, tells of these too
@@ -27,7 +27,7 @@ desks_after_move slots (jumped old new snapshots) ds = rebased_desks (snapshots_
 
 abbrev pub reports_of_move : List ℕ → Move → List Desk → List Report
 reports_of_move slots (passed packet) ds = reports_passed slots (sent_in packet) ds
-reports_of_move slots (jumped old new snapshots) ds = leaps old new ∷ []
+reports_of_move slots (jumped old new snapshots) ds = of_jump old new ∷ []
 
 -- move by move
 abbrev pub desks_after_moves : List ℕ → List Move → List Desk → List Desk

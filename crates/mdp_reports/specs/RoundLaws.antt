@@ -8,7 +8,7 @@ use Rattle.mdp_arbiter.specs.Machine.{Move, moves_of}
 use Rattle.mdp_arbiter.specs.Machine.Move.{passed, jumped}
 use Rattle.mdp_templates.specs.Instrument.{ids_of}
 use Rattle.mdp_arbiter.specs.Channel.{ListedChannel}
-use Rattle.mdp_engine.specs.Owed.{steps_of}
+use Rattle.mdp_engine.specs.Owed.{numbered_moves}
 use Rattle.mdp_engine.specs.Owed.{lines}
 use Rattle.mdp_engine.specs.Honest.{IsHonest}
 use Rattle.mdp_desks.specs.Moments.{Moment, moments, moments_by, shown_lines}
@@ -53,7 +53,7 @@ LawOfRuns =
     → 1 ≤ n → AllPairs (λ a b. a ≢ b) (ids_of channel.listed) → IsHonest channel.listed feed es
     → moments channel.listed (moves_of channel es) ≡ flat_map (λ (ms : List Moment). ms) batches
     → collected_text channel.listed (all_rounds_in (map (batch_of n) batches))
-    ≡ lines channel.listed feed (steps_of (moves_of channel es))
+    ≡ lines channel.listed feed (numbered_moves (moves_of channel es))
 
 -- the moments of moves that come batch by batch are those of all of them
 abbrev pub LawOfCuts : Type 0

@@ -14,7 +14,7 @@ use Rattle.mdp_engine.specs.Spreads.{spreads_from}
 use Rattle.mdp_desks.specs.Lines.{verdicts_text}
 use Rattle.mdp_desks.specs.Moments.{Moment}
 use Rattle.mdp_desks.specs.Shares.{is_kept_by}
-use Rattle.mdp_desks.specs.Reports.{Told, Report, tells, leaps, report_of}
+use Rattle.mdp_desks.specs.Reports.{Told, Report, of_event_end, of_jump, report_of}
 
 -- ---- in slot order
 
@@ -29,8 +29,8 @@ all_by_slot [] = []
 all_by_slot (ts ∷ rest) = by_slot ts (all_by_slot rest)
 
 abbrev pub told_in : Report → List Told
-told_in (tells end ts) = ts
-told_in (leaps old new) = []
+told_in (of_event_end end ts) = ts
+told_in (of_jump old new) = []
 
 -- ---- the values of the last audit, by slot: the best levels of the security where it was last printed; none of a
 -- fault, and none from a jump on until it is printed
@@ -73,15 +73,15 @@ told_text end listed ts kept =
 
 abbrev pub round_text : List Instrument → List (Option Best) → List Report → List ℕ
 round_text listed kept [] = []
-round_text listed kept (tells end ts ∷ rest) =
+round_text listed kept (of_event_end end ts ∷ rest) =
     told_text end listed (all_by_slot (ts ∷ map told_in rest))
     (kept_after (all_by_slot (ts ∷ map told_in rest)) kept)
-round_text listed kept (leaps old new ∷ rest) = jump_line old new
+round_text listed kept (of_jump old new ∷ rest) = jump_line old new
 
 abbrev pub kept_after_round : List (Option Best) → List Report → List (Option Best)
 kept_after_round kept [] = kept
-kept_after_round kept (tells end ts ∷ rest) = kept_after (all_by_slot (ts ∷ map told_in rest)) kept
-kept_after_round kept (leaps old new ∷ rest) = map (λ _. None) kept
+kept_after_round kept (of_event_end end ts ∷ rest) = kept_after (all_by_slot (ts ∷ map told_in rest)) kept
+kept_after_round kept (of_jump old new ∷ rest) = map (λ _. None) kept
 
 abbrev pub text_from : List Instrument → List (Option Best) → List (List Report) → List ℕ
 text_from listed kept [] = []

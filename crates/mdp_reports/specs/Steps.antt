@@ -9,32 +9,32 @@ use Rattle.mdp_lanes.specs.declared.step.Step.TheVariants.{Jump, Event}
 use Rattle.mdp_lanes.specs.contracts.step.Step as step
 use Rattle.mdp_books.specs.declared.event_end.EventEnd.{EventEnd}
 use Rattle.mdp_desks.specs.Reports.{Told}
-use Rattle.mdp_reports.specs.declared.board_steps.StepMark.{StepMark}
+use Rattle.mdp_reports.specs.declared.board_steps.StepAt.{StepAt}
 use Rattle.mdp_reports.specs.declared.board_steps.Posting.{Posting}
 use Rattle.mdp_reports.specs.declared.board_steps.Posting.TheVariants.{Event as Rows, Jump as Leap}
-use Rattle.mdp_reports.specs.declared.row.Heading.{Heading}
-use Rattle.mdp_reports.specs.declared.row.Heading.TheVariants.{Event as AtEnd, Jump as AtJump}
+use Rattle.mdp_reports.specs.declared.places.Heading.{Heading}
+use Rattle.mdp_reports.specs.declared.places.Heading.TheVariants.{Event as AtEnd, Jump as AtJump}
 use Rattle.mdp_reports.specs.BoardSteps.{pair_told, step_telling}
 
 abbrev pub steps_code : Coded (List Step)
 steps_code = coded_list step.the_row.coded
 
 -- where the rows end of a step that stands before these, of so many rows
-abbrev pub end_of : ℕ → List StepMark → ℕ
+abbrev pub end_of : ℕ → List StepAt → ℕ
 end_of count [] = count
-end_of count (m ∷ marks) = m.from
+end_of count (m ∷ places) = m.from
 
-abbrev pub step_to : List (ℕ × Row) → StepMark → ℕ → Step
+abbrev pub step_to : List (ℕ × Row) → StepAt → ℕ → Step
 step_to rows m to = if m.is_jump then Jump else Event (slice_range rows m.from to)
 
-abbrev pub steps_of_marks : List (ℕ × Row) → List StepMark → List Step
-steps_of_marks rows [] = []
-steps_of_marks rows (m ∷ marks) = step_to rows m (end_of (length rows) marks) ∷ steps_of_marks rows marks
+abbrev pub steps_in_places : List (ℕ × Row) → List StepAt → List Step
+steps_in_places rows [] = []
+steps_in_places rows (m ∷ places) = step_to rows m (end_of (length rows) places) ∷ steps_in_places rows places
 
 -- each step's rows begin where the next one's begin or before, and among so many
-abbrev pub AreInPlace : ℕ → List StepMark → Type 0
+abbrev pub AreInPlace : ℕ → List StepAt → Type 0
 AreInPlace count [] = ⊤
-AreInPlace count (m ∷ marks) = (m.from ≤ end_of count marks) × AreInPlace count marks
+AreInPlace count (m ∷ places) = (m.from ≤ end_of count places) × AreInPlace count places
 
 -- a step that is lent
 abbrev pub posted : Posting → Step

@@ -12,8 +12,8 @@ use Rattle.mdp_desks.specs.Lines.{verdicts_text}
 use Rattle.mdp_desks.specs.Reports.{Told, Report}
 use Rattle.mdp_engine.specs.declared.spreads.Spread.{Spread}
 use Rattle.mdp_reports.specs.Rounds.{kept_after, told_text, kept_after_round, name_of, best_kept, rounds_behind}
-use Rattle.mdp_reports.specs.declared.row.Heading.{Heading}
-use Rattle.mdp_reports.specs.declared.row.Heading.TheVariants.{Event, Jump}
+use Rattle.mdp_reports.specs.declared.places.Heading.{Heading}
+use Rattle.mdp_reports.specs.declared.places.Heading.TheVariants.{Event, Jump}
 
 -- ---- a collector as contracts see it: the listed securities, and the best levels of each where it was last printed
 

@@ -14,7 +14,7 @@ use std::marker::Model;
 /// A step: an event or a jump, and where its rows begin among all rows. They go on to where those of the next step
 /// begin; a jump has none.
 #[derive(Clone, Copy)]
-pub struct StepMark {
+pub struct StepAt {
     pub is_jump: bool,
     pub from: usize,
 }
@@ -32,36 +32,36 @@ pub enum Posting<'a> {
 #[derive(Drop)]
 pub struct BoardSteps<A: Allocator> {
     rows: Vec<(u16, Row), A>,
-    marks: Vec<StepMark, A>,
+    places: Vec<StepAt, A>,
 }
 
 impl<A: Allocator> Model for BoardSteps<A> {
     ghost use Rattle.std.specs.Prelude.{List, length};
     ghost use Rattle.mdp_lanes.specs.declared.step.Step.{Step};
-    ghost use Rattle.mdp_reports.specs.Steps.{AreInPlace, steps_code, steps_of_marks};
+    ghost use Rattle.mdp_reports.specs.Steps.{AreInPlace, steps_code, steps_in_places};
 
     ghost Value = { List Step };
 
     ghost coded = { steps_code };
 
-    ghost view = { λ s. steps_of_marks s.rows.items s.marks.items };
+    ghost view = { λ s. steps_in_places s.rows.items s.places.items };
 
-    ghost invariant = { λ s. AreInPlace (length s.rows.items) s.marks.items };
+    ghost invariant = { λ s. AreInPlace (length s.rows.items) s.places.items };
 }
 
-// Gives the mark of step `n`, from 0, if there is one.
-fn mark_of(marks: &[StepMark], n: usize) -> Option<StepMark>
-    ensures { result ≡ slice_get marks.now n }
+// Gives the place of step `n`, from 0, if there is one.
+fn place_of(places: &[StepAt], n: usize) -> Option<StepAt>
+    ensures { result ≡ slice_get places.now n }
 {
-    marks.get(n).copied()
+    places.get(n).copied()
 }
 
-// Tells where the rows end of the step before this place, of so many rows.
-fn end_before(marks: &[StepMark], n: usize, count: usize) -> usize
-    ensures { result ≡ end_of count (drop n marks.now) }
+// Returns where the rows end of the step before this place, of so many rows.
+fn end_before(places: &[StepAt], n: usize, count: usize) -> usize
+    ensures { result ≡ end_of count (drop n places.now) }
 {
-    match marks.get(n) {
-        Some(mark) => mark.from,
+    match places.get(n) {
+        Some(place) => place.from,
         None => count,
     }
 }
@@ -82,7 +82,7 @@ impl<A: Allocator + Copy> BoardSteps<A> {
     {
         BoardSteps {
             rows: Vec::new(alloc),
-            marks: Vec::new(alloc),
+            places: Vec::new(alloc),
         }
     }
 
@@ -91,14 +91,14 @@ impl<A: Allocator + Copy> BoardSteps<A> {
         ensures { self.new ≡ [] }
     {
         self.rows.clear();
-        self.marks.clear();
+        self.places.clear();
     }
 
-    /// Tells how many steps there are.
+    /// Returns how many steps there are.
     pub fn len(&self) -> usize
         ensures { result ≡ length self.now }
     {
-        self.marks.len()
+        self.places.len()
     }
 
     /// Begins an event, which has no rows yet.
@@ -111,7 +111,7 @@ impl<A: Allocator + Copy> BoardSteps<A> {
             (λ _. self.new ≡ self.old) }
     {
         let from = self.rows.len();
-        self.marks.push(StepMark {
+        self.places.push(StepAt {
             is_jump: false,
             from,
         })?;
@@ -141,7 +141,7 @@ impl<A: Allocator + Copy> BoardSteps<A> {
             (λ _. self.new ≡ self.old) }
     {
         let from = self.rows.len();
-        self.marks.push(StepMark {
+        self.places.push(StepAt {
             is_jump: true,
             from,
         })?;
@@ -152,13 +152,13 @@ impl<A: Allocator + Copy> BoardSteps<A> {
     pub fn at(&self, n: usize) -> Option<Posting<'_>>
         ensures { option_map posted result ≡ slice_get self.now n }
     {
-        match mark_of(&self.marks, n) {
-            Some(mark) => {
-                if mark.is_jump {
+        match place_of(&self.places, n) {
+            Some(place) => {
+                if place.is_jump {
                     Some(Posting::Jump)
                 } else {
-                    let to = end_before(&self.marks, n + 1, self.rows.len());
-                    Some(Posting::Event(pairs_between(&self.rows, mark.from, to)))
+                    let to = end_before(&self.places, n + 1, self.rows.len());
+                    Some(Posting::Event(pairs_between(&self.rows, place.from, to)))
                 }
             }
             None => None,

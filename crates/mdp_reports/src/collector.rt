@@ -15,8 +15,8 @@ use crate::answer::Answer;
 use crate::audits::put_audits;
 use crate::board_steps::BoardSteps;
 use crate::kept::{forget, put_all_told};
+use crate::places::Heading;
 use crate::rest::Rest;
-use crate::row::Heading;
 use mdp_books::{Book, EventEnd};
 use mdp_desks::Marked;
 use mdp_engine::{Spread, mark_spreads, parts_of, spreads_of};
@@ -67,7 +67,7 @@ fn kept_for<A: Allocator + Copy>(
     Ok(kept)
 }
 
-// Tells what the report at a place tells.
+// Returns what the report at a place tells.
 fn rest_of<A: Allocator + Copy>(answer: &Answer<A>, n: usize) -> Rest<'_>
     ensures { result ≡ told_at n (told_in_answer answer.now) }
 {
@@ -78,7 +78,7 @@ fn rest_of<A: Allocator + Copy>(answer: &Answer<A>, n: usize) -> Rest<'_>
     }
 }
 
-// Tells how many reports the first worker has.
+// Returns how many reports the first worker has.
 fn count_in<A: Allocator + Copy>(round: &[Answer<A>]) -> usize
     ensures { result ≡ length (first_list (map told_in_answer round.now)) }
 {

@@ -3,7 +3,7 @@
 ghost use Rattle.std.specs.Prelude.{◌≡◌, ◌++◌, ◌∷◌, [], map, length, true, OnOk};
 ghost use Rattle.mdp_desks.specs.Beside.{AreDueAt};
 ghost use Rattle.mdp_desks.specs.Desks.{desk_standing};
-ghost use Rattle.mdp_desks.specs.Reports.{tells, told_by, told_there};
+ghost use Rattle.mdp_desks.specs.Reports.{of_event_end, told_by, told_there};
 ghost use Rattle.mdp_reports.specs.Reporting.{reports_with_all};
 
 use crate::reports::Reports;
@@ -61,7 +61,7 @@ pub(crate) fn report_event_end<A: Allocator + Copy>(
 ) -> Result<(), Memory>
     requires { length slots.now ≡ length desks.now }
     ensures { OnOk result (out.new ≡ out.old
-        ++ tells end (told_by end slots.now (map (desk_standing end.packet) desks.now)) ∷ []) }
+        ++ of_event_end end (told_by end slots.now (map (desk_standing end.packet) desks.now)) ∷ []) }
 {
     out.begin(end)?;
     tell_marked(out, end, slots, desks.as_slice(), desks.due_at(end.packet))?;

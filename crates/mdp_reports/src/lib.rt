@@ -10,11 +10,11 @@ mod event_end;
 mod kept;
 mod laws;
 mod merge;
+mod places;
 mod reporting;
 mod reports;
 mod rest;
 mod room;
-mod row;
 mod worker;
 
 pub use answer::Answer;
@@ -25,8 +25,8 @@ pub use laws::{
     law_of_first_desks, law_of_first_rounds, law_of_first_steps, law_of_full_jumps,
     law_of_more_steps, law_of_reports, law_of_runs, law_of_step_fronts, law_of_workers,
 };
+pub use places::{Heading, Line};
 pub use reports::{Reports, Room};
 pub use rest::Rest;
 pub use room::RecentRoom;
-pub use row::{Heading, Line};
 pub use worker::Worker;

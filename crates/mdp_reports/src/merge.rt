@@ -5,8 +5,8 @@ ghost use Rattle.mdp_reports.specs.Rounds.{all_by_slot};
 ghost use Rattle.mdp_reports.specs.Contents.{told_line};
 ghost use Rattle.mdp_reports.specs.Next.{IsNext, least_of, lesser};
 
+use crate::places::Line;
 use crate::rest::Rest;
-use crate::row::Line;
 
 // Gives the place of the lesser slot, of the same slot this place.
 fn lesser(place: usize, slot: Option<u16>, least: Option<(usize, u16)>) -> Option<(usize, u16)>
@@ -38,7 +38,7 @@ fn least(left: &[Rest]) -> Option<(usize, u16)>
     best
 }
 
-// Tells the place of the list whose first goes next.
+// Returns the place of the list whose first goes next.
 fn place_of_next(left: &[Rest]) -> Option<usize>
     ensures { MatchOption result (all_by_slot left.now ≡ []) (λ n. IsNext left.now n) }
 {

@@ -2,13 +2,13 @@
 
 ghost use Rattle.std.specs.List.{slice_range};
 ghost use Rattle.std.specs.Prelude.{◌≡◌, ◌++◌, ◌∷◌, [], ◌≤◌, length, OnOk, IfErr, IfOk};
-ghost use Rattle.mdp_desks.specs.Reports.{tells, leaps};
+ghost use Rattle.mdp_desks.specs.Reports.{of_event_end, of_jump};
 ghost use Rattle.mdp_reports.specs.Contents.{heading_at, place_at, told_at};
-ghost use Rattle.mdp_reports.specs.Flat.{told_of_book, marks_to, reports_with};
+ghost use Rattle.mdp_reports.specs.Flat.{told_of_book, places_to, reports_with};
 ghost use Rattle.mdp_reports.specs.Recent.{no_room};
 
+use crate::places::{Heading, ReportAt, ToldAt};
 use crate::rest::Rest;
-use crate::row::{Heading, Mark, Row};
 use mdp_books::EventEnd;
 use mdp_desks::put_book;
 use mdp_quotes::{Best, Live};
@@ -21,7 +21,7 @@ use std::marker::Model;
 pub struct Room {
     pub(crate) bytes: usize,
     pub(crate) rows: usize,
-    pub(crate) marks: usize,
+    pub(crate) places: usize,
 }
 
 impl Room {
@@ -32,7 +32,7 @@ impl Room {
         Room {
             bytes: 0,
             rows: 0,
-            marks: 0,
+            places: 0,
         }
     }
 }
@@ -41,32 +41,36 @@ impl Room {
 #[derive(Drop)]
 pub struct Reports<A: Allocator> {
     bytes: Vec<u8, A>,
-    rows: Vec<Row, A>,
-    marks: Vec<Mark, A>,
+    rows: Vec<ToldAt, A>,
+    places: Vec<ReportAt, A>,
 }
 
 impl<A: Allocator> Model for Reports<A> {
     ghost use Rattle.std.specs.Prelude.{List};
     ghost use Rattle.mdp_desks.specs.Reports.{Report};
-    ghost use Rattle.mdp_reports.specs.Flat.{AreFlat, reports_of_marks};
+    ghost use Rattle.mdp_reports.specs.Flat.{AreFlat, reports_in};
     ghost use Rattle.mdp_reports.specs.ReportCode.{reports_code};
 
     ghost Value = { List Report };
 
     ghost coded = { reports_code };
 
-    ghost view = { λ r. reports_of_marks r.bytes.items r.rows.items r.marks.items };
+    ghost view = { λ r. reports_in r.bytes.items r.rows.items r.places.items };
 
-    ghost invariant = { λ r. AreFlat r.bytes.items r.rows.items r.marks.items };
+    ghost invariant = { λ r. AreFlat r.bytes.items r.rows.items r.places.items };
 }
 
 // Lets the last moment reach to this row, where it is an event end.
-fn widen<A: Allocator>(marks: &mut Vec<Mark, A>, to: usize) -> Result<(), Memory>
-    ensures { OnOk result (marks.new.items ≡ marks_to to marks.old.items) }
+fn widen<A: Allocator>(places: &mut Vec<ReportAt, A>, to: usize) -> Result<(), Memory>
+    ensures { OnOk result (places.new.items ≡ places_to to places.old.items) }
 {
-    match marks.pop() {
-        Some(Mark::Ended { end, from, to: _ }) => marks.push(Mark::Ended { end, from, to })?,
-        Some(Mark::Leapt { old, new }) => marks.push(Mark::Leapt { old, new })?,
+    match places.pop() {
+        Some(ReportAt::Event { end, from, to: _ }) => places.push(ReportAt::Event {
+            end,
+            from,
+            to,
+        })?,
+        Some(ReportAt::Jump { old, new }) => places.push(ReportAt::Jump { old, new })?,
         None => {}
     }
     Ok(())
@@ -75,8 +79,8 @@ fn widen<A: Allocator>(marks: &mut Vec<Mark, A>, to: usize) -> Result<(), Memory
 // Appends a row with its lines.
 fn put_told<A: Allocator>(
     bytes: &mut Vec<u8, A>,
-    rows: &mut Vec<Row, A>,
-    marks: &mut Vec<Mark, A>,
+    rows: &mut Vec<ToldAt, A>,
+    places: &mut Vec<ReportAt, A>,
     end: EventEnd,
     slot: u16,
     name: &Name,
@@ -92,35 +96,35 @@ fn put_told<A: Allocator>(
           best = (told_of_book end slot name.now live.now).best;
           top = (told_of_book end slot name.now live.now).top;
         } ∷ []) }
-    ensures marks { OnOk result (marks.new.items
-        ≡ marks_to (length rows.new.items) marks.old.items) }
+    ensures places { OnOk result (places.new.items
+        ≡ places_to (length rows.new.items) places.old.items) }
 {
     let from = bytes.len();
     let top = put_book(bytes, end, name, live)?;
     let best = Best::of(live.book());
-    rows.push(Row {
+    rows.push(ToldAt {
         slot,
         from,
         to: bytes.len(),
         best,
         top,
     })?;
-    widen(marks, rows.len())
+    widen(places, rows.len())
 }
 
-// Tells where the rows of a moment stand that is an event end.
-fn place_of(marks: &[Mark], n: usize) -> Option<(usize, usize)>
-    ensures { result ≡ place_at n marks.now }
+// Returns where the rows of a moment stand that is an event end.
+fn place_of(places: &[ReportAt], n: usize) -> Option<(usize, usize)>
+    ensures { result ≡ place_at n places.now }
 {
-    match marks.get(n) {
-        Some(Mark::Ended { from, to, .. }) => Some((*from, *to)),
-        Some(Mark::Leapt { .. }) => None,
+    match places.get(n) {
+        Some(ReportAt::Event { from, to, .. }) => Some((*from, *to)),
+        Some(ReportAt::Jump { .. }) => None,
         None => None,
     }
 }
 
 // Lends the rows from one place to another.
-fn rows_between(rows: &[Row], from: usize, to: usize) -> &[Row]
+fn rows_between(rows: &[ToldAt], from: usize, to: usize) -> &[ToldAt]
     requires order { from ≤ to }
     requires within { to ≤ length rows.now }
     ensures { result.now ≡ slice_range rows.now from to }
@@ -140,16 +144,16 @@ impl<A: Allocator + Copy> Reports<A> {
         Ok(Reports {
             bytes: Vec::with_capacity(alloc, room.bytes.saturating_add(room.bytes / 4))?,
             rows: Vec::with_capacity(alloc, room.rows.saturating_add(room.rows / 4))?,
-            marks: Vec::with_capacity(alloc, room.marks.saturating_add(room.marks / 4))?,
+            places: Vec::with_capacity(alloc, room.places.saturating_add(room.places / 4))?,
         })
     }
 
-    /// Tells how much these reports hold.
+    /// Returns how much these reports hold.
     pub fn room(&self) -> Room {
         Room {
             bytes: self.bytes.len(),
             rows: self.rows.len(),
-            marks: self.marks.len(),
+            places: self.places.len(),
         }
     }
 
@@ -159,11 +163,11 @@ impl<A: Allocator + Copy> Reports<A> {
     ///
     /// Memory ran out. Then no report was begun.
     pub fn begin(&mut self, end: EventEnd) -> Result<(), Memory>
-        ensures begun { OnOk result (self.new ≡ self.old ++ tells end [] ∷ []) }
+        ensures begun { OnOk result (self.new ≡ self.old ++ of_event_end end [] ∷ []) }
         ensures same { IfErr result (λ _. self.new ≡ self.old) }
     {
         let from = self.rows.len();
-        self.marks.push(Mark::Ended {
+        self.places.push(ReportAt::Event {
             end,
             from,
             to: from,
@@ -171,7 +175,7 @@ impl<A: Allocator + Copy> Reports<A> {
         Ok(())
     }
 
-    /// Tells in the last report, where that is of an event end, of one more security: its slot among all listed ones,
+    /// Returns in the last report, where that is of an event end, of one more security: its slot among all listed ones,
     /// the lines of its book there, its best levels and the top of its consolidated book.
     ///
     /// # Errors
@@ -191,7 +195,7 @@ impl<A: Allocator + Copy> Reports<A> {
         let Ok(()) = put_told(
             &mut self.bytes,
             &mut self.rows,
-            &mut self.marks,
+            &mut self.places,
             end,
             slot,
             name,
@@ -199,7 +203,7 @@ impl<A: Allocator + Copy> Reports<A> {
         ) else {
             self.bytes.clear();
             self.rows.clear();
-            self.marks.clear();
+            self.places.clear();
             return Err(Memory);
         };
         Ok(())
@@ -211,27 +215,27 @@ impl<A: Allocator + Copy> Reports<A> {
     ///
     /// Memory ran out. Then nothing was reported.
     pub fn put_jump(&mut self, old: u64, new: u64) -> Result<(), Memory>
-        ensures told { OnOk result (self.new ≡ self.old ++ leaps old new ∷ []) }
+        ensures told { OnOk result (self.new ≡ self.old ++ of_jump old new ∷ []) }
         ensures same { IfErr result (λ _. self.new ≡ self.old) }
     {
-        self.marks.push(Mark::Leapt { old, new })?;
+        self.places.push(ReportAt::Jump { old, new })?;
         Ok(())
     }
 
-    /// Tells how many reports there are.
+    /// Returns how many reports there are.
     pub fn len(&self) -> usize
         ensures { result ≡ length self.now }
     {
-        self.marks.len()
+        self.places.len()
     }
 
     /// Gives the moment that the report at place `n` is of, from 0; none where there is no report.
     pub fn heading(&self, n: usize) -> Option<Heading>
         ensures { result ≡ heading_at n self.now }
     {
-        match self.marks.get(n) {
-            Some(Mark::Ended { end, .. }) => Some(Heading::Event(*end)),
-            Some(Mark::Leapt { old, new }) => Some(Heading::Jump {
+        match self.places.get(n) {
+            Some(ReportAt::Event { end, .. }) => Some(Heading::Event(*end)),
+            Some(ReportAt::Jump { old, new }) => Some(Heading::Jump {
                 old: *old,
                 new: *new,
             }),
@@ -243,7 +247,7 @@ impl<A: Allocator + Copy> Reports<A> {
     pub fn rest(&self, n: usize) -> Rest<'_>
         ensures { result ≡ told_at n self.now }
     {
-        match place_of(&self.marks, n) {
+        match place_of(&self.places, n) {
             Some((from, to)) => Rest::of(&self.bytes, rows_between(&self.rows, from, to)),
             None => Rest::none(),
         }

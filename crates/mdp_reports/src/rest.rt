@@ -5,14 +5,14 @@ ghost use Rattle.std.specs.List.{AllByRecursion};
 ghost use Rattle.mdp_reports.specs.Contents.{slot_first, told_line};
 ghost use Rattle.mdp_reports.specs.Flat.{told_of_rows, IsRowIn};
 
-use crate::row::{Line, Row};
+use crate::places::{Line, ToldAt};
 use std::marker::Model;
 
 /// What is left to take of what a report tells, lent from it and seen as the list of what is told.
 #[derive(Drop)]
 pub struct Rest<'a> {
     bytes: &'a [u8],
-    rows: &'a [Row],
+    rows: &'a [ToldAt],
 }
 
 impl<'a> Model for Rest<'a> {
@@ -43,14 +43,14 @@ impl<'a> Rest<'a> {
     }
 
     /// Makes the rest of these rows, whose lines stand among these bytes.
-    pub(crate) fn of(bytes: &'a [u8], rows: &'a [Row]) -> Rest<'a>
+    pub(crate) fn of(bytes: &'a [u8], rows: &'a [ToldAt]) -> Rest<'a>
         requires { AllByRecursion (IsRowIn (length bytes.now)) rows.now }
         ensures { result ≡ told_of_rows bytes.now rows.now }
     {
         Rest { bytes, rows }
     }
 
-    /// Tells the slot of the security that is taken next, if one is left.
+    /// Returns the slot of the security that is taken next, if one is left.
     pub fn slot(&self) -> Option<u16>
         ensures { result ≡ slot_first self.now }
     {

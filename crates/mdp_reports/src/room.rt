@@ -5,12 +5,12 @@ ghost use Rattle.mdp_reports.specs.Recent.{IsAtMostHalf, before_batches, portion
 
 use crate::reports::Room;
 
-// Gives what falls to so many turns of a number that is of `all` turns.
-fn share_of(number: usize, turns: usize, all: usize) -> usize
+// Gives what falls to so many moves of a number that is of `all` moves.
+fn share_of(number: usize, moves: usize, all: usize) -> usize
     requires { 0 < all }
-    ensures { result ≡ portion_of number turns all }
+    ensures { result ≡ portion_of number moves all }
 {
-    number.saturating_mul(turns) / all
+    number.saturating_mul(moves) / all
 }
 
 // Gives three quarters of a number, and another one.
@@ -20,12 +20,12 @@ fn three_quarters_and(number: usize, more: usize) -> usize
     (number - number / 4).saturating_add(more)
 }
 
-/// How much the reports of the last batches held, and how many turns these had: sums in which each batch counts three
+/// How much the reports of the last batches held, and how many moves these had: sums in which each batch counts three
 /// quarters as much as the one behind it.
 #[derive(Clone, Copy)]
 pub struct RecentRoom {
     room: Room,
-    turns: usize,
+    moves: usize,
 }
 
 impl RecentRoom {
@@ -35,37 +35,37 @@ impl RecentRoom {
     {
         RecentRoom {
             room: Room::none(),
-            turns: 0,
+            moves: 0,
         }
     }
 
-    /// Reckons the room for the reports of a batch of so many turns, as the last batches needed for each turn, and a
-    /// quarter more, since some turns have more lines than others. It is never more than half of the sums, which is
+    /// Reckons the room for the reports of a batch of so many moves, as the last batches needed for each move, and a
+    /// quarter more, since some moves have more lines than others. It is never more than half of the sums, which is
     /// twice what the reports of one batch have held.
-    pub fn room_for(&self, turns: usize) -> Room
-        ensures room { result ≡ room_for_batch turns self.now }
+    pub fn room_for(&self, moves: usize) -> Room
+        ensures room { result ≡ room_for_batch moves self.now }
         ensures half { IsAtMostHalf result self.now }
     {
-        if self.turns == 0 {
+        if self.moves == 0 {
             return Room::none();
         }
-        let parts = turns.saturating_add(turns / 4).min(self.turns / 2);
+        let parts = moves.saturating_add(moves / 4).min(self.moves / 2);
         Room {
-            bytes: share_of(self.room.bytes, parts, self.turns),
-            rows: share_of(self.room.rows, parts, self.turns),
-            marks: share_of(self.room.marks, parts, self.turns),
+            bytes: share_of(self.room.bytes, parts, self.moves),
+            rows: share_of(self.room.rows, parts, self.moves),
+            places: share_of(self.room.places, parts, self.moves),
         }
     }
 
-    /// Counts a batch of so many turns, whose reports held as much.
-    pub fn count(&mut self, turns: usize, room: Room)
-        ensures { self.new ≡ with_batch turns room self.old }
+    /// Counts a batch of so many moves, whose reports held as much.
+    pub fn count(&mut self, moves: usize, room: Room)
+        ensures { self.new ≡ with_batch moves room self.old }
     {
         self.room = Room {
             bytes: three_quarters_and(self.room.bytes, room.bytes),
             rows: three_quarters_and(self.room.rows, room.rows),
-            marks: three_quarters_and(self.room.marks, room.marks),
+            places: three_quarters_and(self.room.places, room.places),
         };
-        self.turns = three_quarters_and(self.turns, turns);
+        self.moves = three_quarters_and(self.moves, moves);
     }
 }

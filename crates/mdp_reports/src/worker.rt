@@ -5,11 +5,11 @@ ghost use Rattle.mdp_templates.specs.Instrument.{HasDepth};
 ghost use Rattle.mdp_desks.specs.Desks.{desk_at_start};
 ghost use Rattle.mdp_desks.specs.Shares.{is_kept_by, own_part, own_slots};
 ghost use Rattle.mdp_reports.specs.Reporting.{desks_after_move, reports_of_move};
-ghost use Rattle.mdp_arbiter.specs.Turns.{move_of};
+ghost use Rattle.mdp_arbiter.specs.OwnedMoves.{move_of};
 
-use crate::reporting::report_turn;
+use crate::reporting::report_move;
 use crate::reports::Reports;
-use mdp_arbiter::Turn;
+use mdp_arbiter::OwnedMove;
 use mdp_desks::Desks;
 use mdp_templates::{Instrument, Memory};
 use std::alloc::Allocator;
@@ -36,7 +36,7 @@ impl<A: Allocator> Model for Worker<A> {
     ghost invariant = { λ w. length w.slots.items ≡ length w.desks };
 }
 
-// Tells whether a slot is one of worker `number` of `count`.
+// Returns whether a slot is one of worker `number` of `count`.
 fn is_own(count: u16, number: u16, slot: u16) -> bool
     requires { 0 < count }
     ensures { result ≡ is_kept_by count number slot }
@@ -106,21 +106,25 @@ impl<A: Allocator + Copy> Worker<A> {
         })
     }
 
-    /// Appends its reports of a turn, one for each event end and each jump, and makes its move.
+    /// Appends its reports of a move, one for each event end and each jump, and makes it.
     ///
     /// # Errors
     ///
     /// Memory ran out. Then neither the worker nor the reports are of more use.
-    pub fn report_turn(&mut self, turn: &Turn<A>, out: &mut Reports<A>) -> Result<(), Memory>
+    pub fn report_move(
+        &mut self,
+        owned_move: &OwnedMove<A>,
+        out: &mut Reports<A>,
+    ) -> Result<(), Memory>
         ensures worker { OnOk result (self.new
             ≡ record self.old {
               desks = desks_after_move self.old.slots
-                  (move_of turn.now) self.old.desks;
+                  (move_of owned_move.now) self.old.desks;
             }) }
         ensures reports { OnOk result (out.new ≡ out.old
-            ++ reports_of_move self.old.slots (move_of turn.now) self.old.desks) }
+            ++ reports_of_move self.old.slots (move_of owned_move.now) self.old.desks) }
     {
-        report_turn(&mut self.desks, &self.slots, turn, out)?;
+        report_move(&mut self.desks, &self.slots, owned_move, out)?;
         Ok(())
     }
 }

@@ -56,7 +56,7 @@ impl<'a> Group<'a> {
         })
     }
 
-    /// Tells how many entries there are, at most 255.
+    /// Returns how many entries there are, at most 255.
     pub fn len(&self) -> usize
         ensures count { result ≡ length self.now }
         ensures few { result ≤ 255 }
@@ -64,7 +64,7 @@ impl<'a> Group<'a> {
         self.count as usize
     }
 
-    /// Tells whether there is no entry.
+    /// Returns whether there is no entry.
     pub fn is_empty(&self) -> bool
         ensures { IsTrue result ↔ (self.now ≡ []) }
     {

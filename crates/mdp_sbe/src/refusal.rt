@@ -46,7 +46,7 @@ pub enum Refusal {
 impl Refusal {
     ghost use Rattle.mdp_sbe.specs.Refusal.{refusal_number, refusal_name};
 
-    /// Tells the number that an `X` line prints, from 1 to 18.
+    /// Returns the number that an `X` line prints, from 1 to 18.
     pub fn number(self) -> u8
         ensures { result ≡ refusal_number self }
     {
@@ -72,7 +72,7 @@ impl Refusal {
         }
     }
 
-    /// Tells the name that an `X` line prints, in ASCII letters.
+    /// Returns the name that an `X` line prints, in ASCII letters.
     pub fn name(self) -> &'static str
         ensures { result.now ≡ refusal_name self }
     {

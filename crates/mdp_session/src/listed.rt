@@ -48,7 +48,7 @@ pub fn instrument_in(listed: &Listed) -> Option<Instrument>
     })
 }
 
-// Tells the id, if it is one.
+// Returns the id, if it is one.
 fn id_in(listed: &Listed) -> Option<i32>
     ensures { result ≡ id_in listed.now.id }
 {
@@ -81,14 +81,14 @@ fn name_of(bytes: &[u8]) -> Option<Name>
     Some(Name::new(text))
 }
 
-// Tells whether these are 1 to 20 bytes, each from 33 to 126.
+// Returns whether these are 1 to 20 bytes, each from 33 to 126.
 fn is_name(bytes: &[u8]) -> bool
     ensures { result ≡ is_name bytes.now }
 {
     !bytes.is_empty() && bytes.len() <= 20 && is_graphic(bytes)
 }
 
-// Tells whether each of these is a visible ASCII character, 33 to 126.
+// Returns whether each of these is a visible ASCII character, 33 to 126.
 fn is_graphic(bytes: &[u8]) -> bool
     ensures { result ≡ list_all is_graphic bytes.now }
 {

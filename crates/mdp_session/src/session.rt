@@ -153,7 +153,7 @@ impl Session {
         self.handler.clear_lines();
     }
 
-    /// Tells where the channel stands.
+    /// Returns where the channel stands.
     pub fn state(&self) -> ChannelState
         ensures { result ≡ state_of self.now }
     {
@@ -185,7 +185,7 @@ impl Session {
         self.handler.best(slot)
     }
 
-    /// Tells whether the book at a slot is the complete feed's right before the packet that comes next.
+    /// Returns whether the book at a slot is the complete feed's right before the packet that comes next.
     pub fn is_current(&self, slot: usize) -> bool
         ensures { result ≡ is_current self.now slot }
     {

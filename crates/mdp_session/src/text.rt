@@ -49,7 +49,7 @@ fn list_line(list: &mut InstrumentList<Global>, line: &[u8]) -> Result<Option<Un
     Ok(why_in(answer))
 }
 
-// Tells why a line isn't listed, by what was answered to it.
+// Returns why a line isn't listed, by what was answered to it.
 fn why_in(answer: ListedLine) -> Option<Unlisted>
     ensures { result ≡ why_in answer }
 {
@@ -60,7 +60,7 @@ fn why_in(answer: ListedLine) -> Option<Unlisted>
     }
 }
 
-// Tells how many bytes the first line of a text has, and how many with its end.
+// Returns how many bytes the first line of a text has, and how many with its end.
 fn first_line(text: &[u8]) -> (usize, usize)
     requires { 0 < length text.now }
     ensures line { lines text.now ≡ take result.0 text.now ∷ lines (drop result.1 text.now) }
@@ -74,7 +74,7 @@ fn first_line(text: &[u8]) -> (usize, usize)
     }
 }
 
-// Tells how many bytes a line has without the carriage return at its end, where its line feed stands here.
+// Returns how many bytes a line has without the carriage return at its end, where its line feed stands here.
 fn bytes_before(text: &[u8], end: usize) -> usize
     requires { end ≤ length text.now }
     ensures line { take result text.now ≡ strip_carriage_return (take end text.now) }

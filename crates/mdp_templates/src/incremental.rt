@@ -29,7 +29,7 @@ const USUAL_ENTRIES: usize = 5;
 /// Bit 7 of the match event indicator: the message is the last of its event.
 const LAST_OF_EVENT: u8 = 0x80;
 
-// Tells whether a root block's match event indicator ends the event.
+// Returns whether a root block's match event indicator ends the event.
 fn ends_event(root: &[u8]) -> bool
     requires { 9 ≤ length root.now }
     ensures { EndsEvent root.now result }

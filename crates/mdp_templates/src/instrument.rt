@@ -84,7 +84,7 @@ impl Instrument {
     }
 }
 
-/// Tells whether books can be kept for these instruments: 1 to 512 of them, with different ids, the two legs of each
+/// Returns whether books can be kept for these instruments: 1 to 512 of them, with different ids, the two legs of each
 /// calendar different outrights that stand earlier, and depths from 1 to [`DIRECT_DEPTH`], a calendar's that many.
 pub fn are_fit(instruments: &[Instrument]) -> bool
     ensures { IsTrue result ↔ AreFit instruments.now }
@@ -103,7 +103,7 @@ pub fn are_fit(instruments: &[Instrument]) -> bool
 /// How many instruments a channel is read for at most.
 pub const MOST_INSTRUMENTS: usize = 512;
 
-// Tells whether an instrument fits behind these: its id is none of theirs, its legs stand among them, and its depth
+// Returns whether an instrument fits behind these: its id is none of theirs, its legs stand among them, and its depth
 // is one of its kind.
 fn fits_after(earlier: &[Instrument], instrument: &Instrument) -> bool
     ensures { IsTrue result ↔ FitsAfter earlier.now instrument.now }
@@ -114,7 +114,7 @@ fn fits_after(earlier: &[Instrument], instrument: &Instrument) -> bool
         && is_depth_of(instrument.kind, instrument.depth)
 }
 
-// Tells whether a side of the direct book can have this depth for this kind of instrument.
+// Returns whether a side of the direct book can have this depth for this kind of instrument.
 fn is_depth_of(kind: InstrumentKind, depth: u8) -> bool
     ensures { IsTrue result ↔ IsDepthOf kind depth }
 {
@@ -125,7 +125,7 @@ fn is_depth_of(kind: InstrumentKind, depth: u8) -> bool
     }
 }
 
-/// Tells whether the legs stand among these that this kind of instrument asks for.
+/// Returns whether the legs stand among these that this kind of instrument asks for.
 pub fn has_legs(earlier: &[Instrument], kind: InstrumentKind) -> bool
     ensures { IsTrue result ↔ HasLegs earlier.now kind }
 {
@@ -135,7 +135,7 @@ pub fn has_legs(earlier: &[Instrument], kind: InstrumentKind) -> bool
     }
 }
 
-// Tells whether two ids are those of two different outrights among these.
+// Returns whether two ids are those of two different outrights among these.
 fn are_legs(earlier: &[Instrument], leg1: i32, leg2: i32) -> bool
     ensures { IsTrue result ↔ AreLegs earlier.now leg1 leg2 }
 {
@@ -145,7 +145,7 @@ fn are_legs(earlier: &[Instrument], leg1: i32, leg2: i32) -> bool
     has_outright(earlier, leg1) && has_outright(earlier, leg2)
 }
 
-// Tells whether an outright with this id stands among these.
+// Returns whether an outright with this id stands among these.
 fn has_outright(instruments: &[Instrument], id: i32) -> bool
     ensures { IsTrue result ↔ HasOutright instruments.now id }
 {

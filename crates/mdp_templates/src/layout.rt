@@ -59,7 +59,7 @@ fn read_entries<A: Allocator + Copy, E: GroupEntry>(
     Ok(())
 }
 
-/// Reads the root block of a message, appends its entries, and tells how many they are.
+/// Reads the root block of a message, appends its entries, and returns how many they are.
 pub(crate) fn read_layout<'a, A: Allocator + Copy, E: GroupEntry>(
     message: &Message<'a>,
     least_root: u16,

@@ -38,7 +38,7 @@ impl<'a> Message<'a> {
         self.entries
     }
 
-    /// Tells whether the message is the last of its event (MDP 3.0, the match event indicator's bit 7).
+    /// Returns whether the message is the last of its event (MDP 3.0, the match event indicator's bit 7).
     pub fn is_end(&self) -> bool
         ensures { result ≡ self.now.end }
     {
@@ -89,14 +89,14 @@ impl<A: Allocator> Packet<A> {
         }
     }
 
-    /// Tells the packet sequence number.
+    /// Returns the packet sequence number.
     pub fn number(&self) -> u32
         ensures { result ≡ self.now.number }
     {
         self.number
     }
 
-    /// Tells how many messages there are, those that are stepped over too.
+    /// Returns how many messages there are, those that are stepped over too.
     pub fn len(&self) -> usize
         ensures { result ≡ length self.now.messages }
     {

@@ -30,7 +30,7 @@ impl Found {
     }
 }
 
-// Tells whether an entry is for this side.
+// Returns whether an entry is for this side.
 fn is_for(quote: &Quote, kind: Kind) -> bool
     ensures { result ≡ same_kind quote.now.kind kind }
 {
@@ -62,7 +62,7 @@ fn find_all<const DEPTH: usize>(quotes: &[Option<Quote>], kind: Kind) -> [Found;
     found
 }
 
-/// Gathers the side that these entries give into an empty list, and tells whether its levels are 1 to n, each once.
+/// Gathers the side that these entries give into an empty list, and returns whether its levels are 1 to n, each once.
 pub(crate) fn gather<const DEPTH: usize>(
     quotes: &[Option<Quote>],
     kind: Kind,

@@ -53,7 +53,7 @@ impl<A: Allocator + Copy> Slots<A> {
         Ok(Slots { ids })
     }
 
-    /// Tells the place of a security, from 0, if it is listed.
+    /// Returns the place of a security, from 0, if it is listed.
     pub fn slot_of(&self, id: i32) -> Option<usize>
         ensures some { IfSome result (λ slot. slice_get self.now slot ≡ Some id) }
         ensures only { IfSome result (λ slot. (other : ℕ) → slice_get self.now other ≡ Some id

@@ -82,7 +82,7 @@ impl Snapshot {
     }
 
     // Gathers the sides that these entries give in their places in the snapshot, which is moved as a whole from then
-    // on, and tells whether the levels of each are good.
+    // on, and returns whether the levels of each are good.
     pub(crate) fn gather(&mut self, quotes: &[Option<Quote>]) -> bool
         requires shallow { AreAllShallow quotes.now }
         requires empty { self.old ≡ empty_snapshot self.old.security self.old.last }
@@ -106,14 +106,14 @@ impl Snapshot {
         true
     }
 
-    /// Tells the security whose book this is.
+    /// Returns the security whose book this is.
     pub fn security(&self) -> i32
         ensures { result ≡ self.now.security }
     {
         self.security
     }
 
-    /// Tells the number of the last packet that the book includes, 0 where it is the book before packet 1.
+    /// Returns the number of the last packet that the book includes, 0 where it is the book before packet 1.
     pub fn last(&self) -> u32
         ensures { result ≡ self.now.last }
     {

@@ -17,7 +17,7 @@ pub enum Template {
 }
 
 impl Template {
-    /// Tells the part of the template of this id.
+    /// Returns the part of the template of this id.
     pub fn of(id: u16) -> Template
         ensures { result ≡ template_of id }
     {

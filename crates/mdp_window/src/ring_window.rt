@@ -104,7 +104,7 @@ impl<T: Drop, A: Allocator + Copy> RingWindow<T, A> {
         })
     }
 
-    // Tells whether an item is held under this number.
+    // Returns whether an item is held under this number.
     fn is_held(&self, number: u64) -> bool
         ensures { IsTrue result ↔ IsSome (map.get self.now.held number) }
     {

@@ -11,7 +11,7 @@ use std::alloc::Allocator;
 pub trait Numbered {
     ghost number: { Self → ℕ };
 
-    /// Tells the packet sequence number.
+    /// Returns the packet sequence number.
     fn number(&self) -> u32
         ensures { result ≡ number self.now };
 }
@@ -45,12 +45,12 @@ pub trait Window<T: Numbered> {
 
     ghost view: { Self → View T };
 
-    /// Tells how many numbers the window covers, of 1 to 65536.
+    /// Returns how many numbers the window covers, of 1 to 65536.
     fn capacity(&self) -> u64
         ensures room { result ≡ (view self.now).room }
         ensures in_range { IsInRange (view self.now) };
 
-    /// Tells whether an item is held under this number.
+    /// Returns whether an item is held under this number.
     fn holds(&self, number: u64) -> bool
         ensures { result ≡ contains_key (view self.now).held number };
 
@@ -68,7 +68,7 @@ pub trait Window<T: Numbered> {
         requires { number ≤ 4294967296 }
         ensures { DropsBelow number (view self.old) (view self.new) };
 
-    /// Tells how many items are held, where the window keeps count of them; None where it doesn't.
+    /// Returns how many items are held, where the window keeps count of them; None where it doesn't.
     fn count(&self) -> Option<u64>
         ensures { IfSome result (λ n. n ≡ count_held (view self.now).held
             (view self.now).first (view self.now).room) }

@@ -45,7 +45,7 @@ impl<B: Allocator> Refusing<B> {
         }
     }
 
-    /// Tells whether an allocation was refused.
+    /// Returns whether an allocation was refused.
     pub fn has_refused(&self) -> bool {
         0 < self.turn.number && self.turn.number <= self.turn.asked.load(Ordering::SeqCst)
     }

@@ -8,7 +8,7 @@ use super::Handle;
 use mdp_session::Session;
 
 impl Handle {
-    /// Tells whether it is open.
+    /// Returns whether it is open.
     pub(crate) fn is_open(&mut self) -> bool
         ensures { (self.new ≡ self.old) × (result ≡ is_some self.old.held) }
     {

@@ -69,7 +69,7 @@ fn a_handle_is_closed_until_it_is_opened_and_after_it_is_freed(rt: HostRuntime) 
     is_closed(&rt, alloc, &mut handle);
 }
 
-/// Tells what is answered to options.
+/// Returns what is answered to options.
 fn answer(alloc: Global, options: Options) -> u32 {
     let (mut handle, status) = open(alloc, PLAIN, &options);
     mdp_free(alloc, &mut handle);

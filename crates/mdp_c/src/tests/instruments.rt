@@ -34,7 +34,7 @@ const CALENDAR: Listed = Listed {
     ..NEAR
 };
 
-/// Tells what is answered to an array, and where it is refused.
+/// Returns what is answered to an array, and where it is refused.
 fn of_array(alloc: Global, listed: &[Listed]) -> (u32, u64) {
     let mut handle = Handle::closed();
     let mut place = 99;
@@ -103,7 +103,7 @@ fn a_field_out_of_range_is_refused(rt: HostRuntime) {
     );
 }
 
-/// Tells what is answered to a text, and at which line it is refused.
+/// Returns what is answered to a text, and at which line it is refused.
 fn of_text(alloc: Global, text: &[u8]) -> (u32, u64) {
     let mut handle = Handle::closed();
     let mut line = 99;

@@ -68,7 +68,7 @@ fn a_read_is_one_call_of_the_reader_inside(rt: HostRuntime) -> Result<(), Fail> 
     Ok(())
 }
 
-// Reads a capture of so many datagrams of two bytes, and tells whether it took an allocation of this number.
+// Reads a capture of so many datagrams of two bytes, and returns whether it took an allocation of this number.
 fn takes(alloc: Global, datagrams: u32, number: u64) -> Result<bool, Fail> {
     let mut text = String::from_str(alloc, "I 1 N O\n")?;
     for value in 0..datagrams {

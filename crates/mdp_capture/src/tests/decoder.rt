@@ -28,7 +28,7 @@ fn is_as(line: &DecodedLine, bytes: &[u8], word: &str, wanted: &str) -> bool {
     word_of(line) == word && (wanted.is_empty() || bytes == wanted.as_bytes())
 }
 
-// Decodes a line, and once more where memory ran out, and tells whether it did.
+// Decodes a line, and once more where memory ran out, and returns whether it did.
 fn decode_again<A: Allocator + Copy>(
     decoder: &mut LineDecoder<A>,
     alloc: A,
@@ -47,7 +47,7 @@ fn decode_again<A: Allocator + Copy>(
     }
 }
 
-// Decodes lines of all kinds, each with the one before at hand, and tells whether memory ran out.
+// Decodes lines of all kinds, each with the one before at hand, and returns whether memory ran out.
 fn decode_all<A: Allocator + Copy>(alloc: A, too_long: &str) -> Result<bool, Fail> {
     let rows = [
         ("I 1 N O", "Instrument", ""),
@@ -96,7 +96,7 @@ fn a_decoder_goes_on_after_want_of_memory(rt: HostRuntime) -> Result<(), Fail> {
     Err("an allocation is always refused".into())
 }
 
-// Decodes a datagram by itself, and tells how many bytes it has.
+// Decodes a datagram by itself, and returns how many bytes it has.
 fn count_bytes<A: Allocator + Copy>(
     decoder: &mut LineDecoder<A>,
     alloc: A,
@@ -108,7 +108,7 @@ fn count_bytes<A: Allocator + Copy>(
     }
 }
 
-// Decodes datagrams of 1 to 2,048 bytes, and tells whether each has half as many bytes as digits.
+// Decodes datagrams of 1 to 2,048 bytes, and returns whether each has half as many bytes as digits.
 fn decodes_zeros(heap: &Refusing<Global>, alloc: Global) -> Result<bool, Fail> {
     let mut decoder = LineDecoder::new(heap);
     for digits in [2usize, 4096, 30, 32, 4094, 4096] {

@@ -93,7 +93,7 @@ fn refuses_the_513th_whatever_it_is(rt: HostRuntime) -> Result<(), Fail> {
     Ok(())
 }
 
-// Lists eight instruments with an allocation refused, and tells whether one was. A line that wanted memory is taken
+// Lists eight instruments with an allocation refused, and returns whether one was. A line that wanted memory is taken
 // once more.
 fn lists_all(heap: &Refusing<Global>, alloc: Global) -> Result<bool, Fail> {
     let mut list = InstrumentList::new(heap);

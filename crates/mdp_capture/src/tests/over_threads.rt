@@ -122,7 +122,7 @@ fn threads_read_the_same(rt: HostRuntime) -> Result<(), Fail> {
     Ok(())
 }
 
-// Reads the repeats in parts, and tells whether the allocator refused: then memory ran out, and else all is there.
+// Reads the repeats in parts, and returns whether the allocator refused: then memory ran out, and else all is there.
 fn is_refused(
     rt: &(impl Abort + Threads + Sync),
     heap: &Refusing<Global>,
@@ -141,7 +141,7 @@ fn is_refused(
     Ok(heap.has_refused())
 }
 
-// Refuses one allocation after the other, until none is refused, and tells how many were.
+// Refuses one allocation after the other, until none is refused, and returns how many were.
 fn count_refused(
     rt: &(impl Abort + Threads + Sync),
     alloc: Global,

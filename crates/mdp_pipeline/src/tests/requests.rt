@@ -41,7 +41,7 @@ fn put_packets(text: &mut String, numbers: RangeInclusive<u32>) -> Result<(), Fa
     Ok(())
 }
 
-// Tells how many requests for memory a run over a capture makes. It runs with the first one refused, then with the second, and so on
+// Returns how many requests for memory a run over a capture makes. It runs with the first one refused, then with the second, and so on
 // until none is.
 fn requests(alloc: Global, text: &str) -> Result<u64, Fail> {
     let plenty = Refusing::new(alloc, 0);

@@ -5,7 +5,7 @@ use Rattle.mdp_arbiter.specs.Accepted.{Event}
 use Rattle.mdp_engine.specs.Engine.{IsSettled}
 use Rattle.mdp_engine.specs.Steps.{event_of}
 use Rattle.mdp_crew.specs.Fed.{IsFedAll, feeding}
-use Rattle.mdp_arbiter.specs.Turns.{move_of}
+use Rattle.mdp_arbiter.specs.OwnedMoves.{move_of}
 use Rattle.mdp_crew.proofs.Adding.{well}
 use Rattle.mdp_crew.proofs.feeding.feed_all.Given as goal
 
@@ -13,7 +13,7 @@ use Rattle.mdp_crew.proofs.feeding.feed_all.Given as goal
 abbrev pub invariant-loop-event : goal.invariant-loop-event
 invariant-loop-event g l = record {
   fed : (listed : List Instrument) (before : List Event) → IsSettled listed before l.initial.arbiter
-      → IsFedAll listed (feeding before l.initial.arbiter (map move_of l.initial.turns.items)) (feeding (before ++ (map event_of l.yielded)) l.arbiter (map move_of l.turns.items)) well;
+      → IsFedAll listed (feeding before l.initial.arbiter (map move_of l.initial.owned_moves.items)) (feeding (before ++ (map event_of l.yielded)) l.arbiter (map move_of l.owned_moves.items)) well;
   all : l.yielded ++ into_iter_items l.event-iterator ≡ l.fn.events.items;
   left : into_iter_len l.event-iterator ≡ length (into_iter_items l.event-iterator);
 }

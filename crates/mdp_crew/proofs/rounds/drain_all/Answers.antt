@@ -1,6 +1,6 @@
 use Rattle.std.proofs.Common.{length, replicate, sym, ap, ◌∙◌, []}
 use Rattle.std.specs.List.{list_any}
-use Rattle.mdp_crew.specs.Rounds.{all_took, is_told, lasts}
+use Rattle.mdp_crew.specs.TakenRounds.{all_took, is_told, lasts}
 use Rattle.mdp_crew.proofs.Taking.{joined, lasts_lasts, lasts_nothing, length-joined, length-lasts, length-nothing, length-took, took_nothing, took_took}
 use Rattle.mdp_crew.proofs.rounds.drain_all.Goals as goal
 

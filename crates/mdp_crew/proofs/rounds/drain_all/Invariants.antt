@@ -1,6 +1,6 @@
 use Rattle.std.proofs.Common.{◌≡◌, List, length}
 use Rattle.mdp_reports.specs.declared.answer.Answer.{Answer}
-use Rattle.mdp_crew.specs.Rounds.{all_took, lasts}
+use Rattle.mdp_crew.specs.TakenRounds.{all_took, lasts}
 use Rattle.mdp_crew.proofs.rounds.drain_all.Given as goal
 
 abbrev pub invariant-loop : goal.invariant-loop

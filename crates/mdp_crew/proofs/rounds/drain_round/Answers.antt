@@ -1,7 +1,7 @@
 use Rattle.std.proofs.Common.{◌∷◌, ◌++◌, ◌∙◌, [], List, refl, sym, ap, arith}
 use Rattle.std.proofs.lemmas.List.{length-append}
 use Rattle.mdp_reports.specs.declared.answer.Answer.{Answer}
-use Rattle.mdp_crew.specs.Rounds.{last_of}
+use Rattle.mdp_crew.specs.TakenRounds.{last_of}
 use Rattle.mdp_crew.proofs.Taking.{lasts_none, lasts_step, took_none, took_step}
 use Rattle.mdp_crew.proofs.rounds.drain_round.Goals as goal
 

@@ -1,6 +1,6 @@
 use Rattle.std.proofs.Common.{◌≡◌, ◌∷◌, [], List, length, refl, sym, ap, ◌∙◌, arith}
 use Rattle.std.proofs.lemmas.List.{length-append}
-use Rattle.mdp_crew.specs.Rounds.{one_each, all_took}
+use Rattle.mdp_crew.specs.TakenRounds.{one_each, all_took}
 use Rattle.mdp_reports.specs.declared.answer.Answer.{Answer}
 use Rattle.mdp_crew.proofs.Taking.{took_none, took_step, each-push, length-each}
 use Rattle.mdp_crew.proofs.rounds.take_round.Goals as goal

@@ -1,5 +1,5 @@
 use Rattle.std.proofs.Common.{◌≡◌, length, vec_len, vec_capacity}
-use Rattle.mdp_crew.specs.Rounds.{all_took, one_each}
+use Rattle.mdp_crew.specs.TakenRounds.{all_took, one_each}
 use Rattle.mdp_crew.proofs.rounds.take_round.Given as goal
 
 abbrev pub invariant-loop-post : goal.invariant-loop-post

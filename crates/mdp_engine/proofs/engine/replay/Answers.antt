@@ -6,7 +6,7 @@ use Rattle.mdp_arbiter.specs.Channel.{Channel}
 use Rattle.mdp_desks.specs.Moments.{shown_lines}
 use Rattle.mdp_engine.specs.Engine.{Stands}
 use Rattle.mdp_engine.specs.Kept.{kept_lines}
-use Rattle.mdp_engine.specs.Owed.{lines, owed_moments, steps_of}
+use Rattle.mdp_engine.specs.Owed.{lines, owed_moments, numbered_moves}
 use Rattle.mdp_engine.specs.Steps.{event_of}
 use Rattle.mdp_engine.proofs.Owing.{law_of_owed_text, taken_more, text_so_far}
 use Rattle.mdp_engine.proofs.engine.replay.Goals as goal
@@ -40,6 +40,6 @@ returns-clause-owed g c = λ feed honest.
     let all : take c.loop-event.event-index c.args.events.now ≡ c.args.events.now = take_all c.loop-event.event-index c.args.events.now (omega (arith, c.loop-event-test.false)) in
     let stands = subst (λ events. Stands listed (map event_of events) [] engine) all c.loop-event.invariant.stands in
     c.in_ok-drain_lines.ensures.text ∙ ap (λ (t : List ℕ). t ++ engine.held) c.new-text.ensures.items
-    ∙ subst (λ (b : Bool). kept_lines b [] ++ engine.held ≡ kept_lines b (owed_moments listed feed (steps_of (trace engine.arbiter.channel es)))) c.loop-event.invariant.keeps
+    ∙ subst (λ (b : Bool). kept_lines b [] ++ engine.held ≡ kept_lines b (owed_moments listed feed (numbered_moves (trace engine.arbiter.channel es)))) c.loop-event.invariant.keeps
     (law_of_owed_text listed feed es [] engine honest stands)
-    ∙ ap (λ (ch : Channel). lines listed feed (steps_of (trace ch es))) c.loop-event.invariant.channel
+    ∙ ap (λ (ch : Channel). lines listed feed (numbered_moves (trace ch es))) c.loop-event.invariant.channel

@@ -3,7 +3,7 @@ use Rattle.std.proofs.Common.{◌≡◌, true, false, List, length, refl, sym, a
 use Rattle.mdp_reports.specs.declared.answer.Answer.{Answer}
 use Rattle.mdp_crew.specs.declared.crew.Post.{Post}
 use Rattle.mdp_crew.specs.Collecting.{showing}
-use Rattle.mdp_crew.specs.Rounds.{all_tell, all_finish, all_took, is_told, lasts}
+use Rattle.mdp_crew.specs.TakenRounds.{all_tell, all_finish, all_took, is_told, lasts}
 use Rattle.mdp_crew.proofs.Taking.{many_taken, turned_all, turned_on, turned_broken, turned_short}
 use Rattle.mdp_crew.proofs.collector.Collecting.turn.Goals as goal
 

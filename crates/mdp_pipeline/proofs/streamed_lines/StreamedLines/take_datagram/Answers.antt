@@ -17,7 +17,7 @@ returns-clause-taken g c =
     let left = c.take_datagram_with_moves.new.self in
     let line_is = c.begin.ensures.line in
     let bytes_is : c.bytes-bytes.result.now ≡ bytes = c.bytes-bytes.ensures ∙ ap (λ d. d.bytes) c.begin.ensures.decoder in
-    let takes = subst (λ (n : ℕ). TakesMoving c.args.feed n (Datagram bytes) moved c.in-Some.run' left) line_is
-    (subst (λ (b : List ℕ). TakesMoving c.args.feed mid.line (Datagram b) moved c.in-Some.run' left) bytes_is c.in_ok-moved.ensures) in
+    let takes = subst (λ (n : ℕ). TakesMoving c.args.feed (record { line = n; received = Datagram bytes }) moved c.in-Some.run' left) line_is
+    (subst (λ (b : List ℕ). TakesMoving c.args.feed (record { line = mid.line; received = Datagram b }) moved c.in-Some.run' left) bytes_is c.in_ok-moved.ensures) in
     datagram_run c.args.self.now mid (record mid { run = Some left; notes = c.note_moves.new.notes }) c.args.feed bytes moved c.in-Some.run' left c.in_ok-begin.ensures.begins refl c.in-Some.is refl takes
     (c.in_ok-note_moves.ensures ∙ ap (λ (n : ℕ). mid.notes.items ++ moved_notes n moved) line_is)

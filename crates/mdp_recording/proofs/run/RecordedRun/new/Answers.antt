@@ -2,7 +2,7 @@ use Rattle.std.proofs.Common.{List, [], false, refl, subst}
 use Rattle.mdp_templates.specs.declared.instrument.Instrument.{Instrument}
 use Rattle.mdp_pipeline.specs.Running.{HasRun}
 use Rattle.mdp_pipeline.specs.Streamed.{channel_with, setup_of}
-use Rattle.mdp_recording.specs.Recorded.{beside}
+use Rattle.mdp_recording.specs.Frames.{beside}
 use Rattle.mdp_recording.proofs.Recording.{follows_none, holds_none, none_held}
 use Rattle.mdp_recording.proofs.run.RecordedRun.new.Goals as goal
 

@@ -4,5 +4,5 @@ use Rattle.mdp_reports.proofs.board_steps.BoardSteps.len.Goals as goal
 
 pub returns : goal.returns
 returns g c =
-    let count : c.len.result ≡ length c.self.inside.marks.items = omega (arith, c.len.ensures) in
-    rw (← c.self.view_is) (count ∙ sym (as_many c.self.inside.rows.items c.self.inside.marks.items))
+    let count : c.len.result ≡ length c.self.inside.places.items = omega (arith, c.len.ensures) in
+    rw (← c.self.view_is) (count ∙ sym (as_many c.self.inside.rows.items c.self.inside.places.items))
