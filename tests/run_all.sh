@@ -102,6 +102,15 @@ run_recordings() {
     tests/run_channel.py "${words[@]}"
 }
 
+# Prints how many checks may run at once: one for each processor, where there are 5 GB for each.
+checks_at_once() {
+    awk -v processors="$(nproc)" '/^MemAvailable:/ { most = int($2 / 5000000); print most < 1 ? 1 : most < processors ? most : processors }' \
+        /proc/meminfo
+}
+
+# Without RT_JOBS `rt` reckons with two to three times the memory that a large crate's check takes, and processors stand idle.
+export RT_JOBS=${RT_JOBS:-$(checks_at_once)}
+
 run_part "rt ci" rt ci
 run_part "the examples" run_examples
 run_part "the demonstration" run_demo

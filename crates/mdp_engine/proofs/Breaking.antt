@@ -1,8 +1,8 @@
 -- Where memory runs out, the lines of what was let go and what is held begin the lines of all events.
-use Rattle.std.proofs.Common.{◌≡◌, ℕ, Bool, List, [], ◌∷◌, ◌++◌, refl, sym, ap, subst, ◌∙◌, append_assoc}
-use Rattle.std.specs.Prelude.{Some}
+use Rattle.std.proofs.Common.{◌≡◌, ℕ, Bool, true, List, [], ◌∷◌, ◌++◌, length, refl, sym, ap, subst, ◌∙◌, append_assoc, arith}
+use Rattle.std.specs.Prelude.{Err, Some}
 use Rattle.std.proofs.Math.Seq.{take-append_seam}
-use Rattle.std.proofs.lemmas.List.{append-nil}
+use Rattle.std.proofs.lemmas.List.{append-nil, take_all}
 use Rattle.mdp_templates.specs.Packet.{PacketContent}
 use Rattle.mdp_templates.specs.declared.instrument.Instrument.{Instrument}
 use Rattle.mdp_books.specs.Feed.{sent_in}
@@ -21,7 +21,7 @@ use Rattle.mdp_desks.specs.Moments.{Moment, moments, moments_after}
 use Rattle.mdp_desks.proofs.Moments.{moments-append}
 use Rattle.mdp_engine.specs.Kept.{kept_lines}
 use Rattle.mdp_engine.specs.Steps.{stepped_desks, stepped_moments}
-use Rattle.mdp_engine.specs.Engine.{View, Stands, BreaksOffOnWay, HasBrokenOff}
+use Rattle.mdp_engine.specs.Engine.{View, Stands, BreaksOffOnWay, HasBrokenOff, TakesIn}
 use Rattle.mdp_engine.proofs.Keeping.{IsAsBefore, kept-append}
 use Rattle.mdp_engine.proofs.Moving.{Leads, MovesTo, lines_so_far, moves_further, stands_passed, taken_further}
 
@@ -125,3 +125,18 @@ broken_off_on_way e old mid new taken keeps same as_it_was breaks listed es gone
     let here : BeginsWith (kept_lines old.keeps_lines (moments listed (trace channel es ++ settle mid.arbiter.channel all (state mid.arbiter)))) (kept_lines old.keeps_lines gone ++ new.held) =
     subst (λ (b : Bool). BeginsWith (kept_lines b (moments listed (trace channel es ++ settle mid.arbiter.channel all (state mid.arbiter)))) (kept_lines b gone ++ new.held)) as_it_was.keeps begun in
     subst (λ (ms : List Move). BeginsWith (kept_lines old.keeps_lines (moments listed ms)) (kept_lines old.keeps_lines gone ++ new.held)) (ap (λ (ms : List Move). trace channel es ++ ms) moved ∙ sym law.0) here
+
+-- ---- a call
+
+-- memory had run out before
+pub takes_nothing : {T E : Type 0} (fault : E) (further : List Event) (v : View) → v.has_failed ≡ true → TakesIn {T = T} further (Err fault) v v
+takes_nothing fault further v failed = record {
+  channel = tt;
+  sound = tt;
+  fails = failed;
+  begins = broken_off_before further v v refl;
+  keeps = refl;
+  front = take_all (length v.held) v.held (omega arith);
+  stays = λ _. refl;
+  rests = λ _. refl;
+}

@@ -1,5 +1,5 @@
 -- What an engine holds, and what that says of the events that came and the moments that were let go.
-use Rattle.std.specs.Prelude.{◌≡◌, ℕ, ◌-◌, ◌++◌, Bool, List, max, take, refl}
+use Rattle.std.specs.Prelude.{◌≡◌, ℕ, ◌-◌, ◌++◌, Bool, true, false, List, Result, max, take, refl, IsErr, OnErr, OnOk}
 use Rattle.std.specs.List.{AllZip}
 use Rattle.std.specs.Coded.{Coded, code_by, coded×, coded_ℕ, coded_bool, coded_list}
 use Rattle.mdp_templates.specs.Packet.{PacketContent}
@@ -81,6 +81,19 @@ HasBrokenOff further old new =
     (listed : List Instrument) (es : List Event) (gone : List Moment) → Stands listed es gone old
     → BeginsWith (kept_lines old.keeps_lines (moments listed (trace old.arbiter.channel (es ++ further))))
     (kept_lines old.keeps_lines gone ++ new.held)
+
+-- What each call keeps to that takes events in, whatever else it says of them. It has failed where it answers an error,
+-- and what it holds then begins the lines of these events. The channel stays, and so does whether lines are kept; what
+-- was held stays in front. Once it has failed it answers an error, and nothing changes.
+pub record TakesIn {T E : Type 0} (further : List Event) (result : Result T E) (old new : View) : Type 0 where
+  pub channel : OnOk result (new.arbiter.channel ≡ old.arbiter.channel)
+  pub sound : OnOk result (new.has_failed ≡ false)
+  pub fails : OnErr result (new.has_failed ≡ true)
+  pub begins : OnErr result (HasBrokenOff further old new)
+  pub keeps : new.keeps_lines ≡ old.keeps_lines
+  pub front : BeginsWith new.held old.held
+  pub stays : old.has_failed ≡ true → IsErr result
+  pub rests : old.has_failed ≡ true → new ≡ old
 
 -- ---- under a complete feed that the events agree with
 

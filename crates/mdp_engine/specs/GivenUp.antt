@@ -3,7 +3,6 @@
 use Rattle.std.specs.Prelude.{◌≡◌, ℕ, pos, true, List, [], ◌∷◌, codes}
 use Rattle.mdp_templates.specs.Packet.{PacketContent}
 use Rattle.mdp_templates.specs.Snapshot.{SnapshotContent}
-use Rattle.mdp_templates.specs.declared.entry.Entry.{Entry}
 use Rattle.mdp_templates.specs.declared.entry.Kind.{Kind}
 use Rattle.mdp_templates.specs.declared.entry.Kind.TheVariants.{Bid, Offer}
 use Rattle.mdp_templates.specs.declared.entry.Action.TheVariants.{New}

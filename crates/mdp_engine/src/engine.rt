@@ -15,7 +15,7 @@ ghost use Rattle.mdp_print.specs.Pieces.{BeginsWith, BreaksOff};
 ghost use Rattle.mdp_desks.specs.Moments.{Moment, moments, shown_lines};
 ghost use Rattle.mdp_engine.specs.Kept.{kept_lines};
 ghost use Rattle.mdp_desks.specs.Changed.{changed_through};
-ghost use Rattle.mdp_engine.specs.Engine.{Advances, AreChanged, BreaksOffOnWay, HasBrokenOff, Stands};
+ghost use Rattle.mdp_engine.specs.Engine.{Advances, AreChanged, BreaksOffOnWay, HasBrokenOff, Stands, TakesIn};
 ghost use Rattle.mdp_engine.specs.Honest.{IsHonest};
 ghost use Rattle.mdp_engine.specs.Owed.{lines, numbered_moves};
 ghost use Rattle.mdp_engine.specs.Steps.{event_of, passes_now, stepped_desks, stepped_moments};
@@ -162,14 +162,7 @@ impl<A: Allocator + Copy, W: Window<Packet<A>> + Drop> Engine<A, W> {
         ensures stands { OnOk result ((listed : List Instrument) (es : List Accepted)
             (gone : List Moment) → Stands listed es gone self.old
             → Stands listed (es ++ event_of event ∷ []) gone self.new) }
-        ensures channel { OnOk result (self.new.arbiter.channel ≡ self.old.arbiter.channel) }
-        ensures keeps { self.new.keeps_lines ≡ self.old.keeps_lines }
-        ensures sound { OnOk result (self.new.has_failed ≡ false) }
-        ensures fails { IfErr result (λ _. self.new.has_failed ≡ true) }
-        ensures front { BeginsWith self.new.held self.old.held }
-        ensures begins { OnErr result (HasBrokenOff (event_of event ∷ []) self.old self.new) }
-        ensures stays { self.old.has_failed ≡ true → IsErr result }
-        ensures rests { self.old.has_failed ≡ true → self.new ≡ self.old }
+        ensures takes { TakesIn (event_of event ∷ []) result self.old self.new }
     {
         self.still_sound()?;
         let Ok(()) = self.advance(event) else {
@@ -189,15 +182,7 @@ impl<A: Allocator + Copy, W: Window<Packet<A>> + Drop> Engine<A, W> {
         ensures stands { OnOk result ((listed : List Instrument) (es : List Accepted)
             (gone : List Moment) → Stands listed es gone self.old
             → Stands listed (es ++ recovered snapshot.now ∷ []) gone self.new) }
-        ensures channel { OnOk result (self.new.arbiter.channel ≡ self.old.arbiter.channel) }
-        ensures keeps { self.new.keeps_lines ≡ self.old.keeps_lines }
-        ensures sound { OnOk result (self.new.has_failed ≡ false) }
-        ensures fails { IfErr result (λ _. self.new.has_failed ≡ true) }
-        ensures front { BeginsWith self.new.held self.old.held }
-        ensures begins { OnErr result
-            (HasBrokenOff (recovered snapshot.now ∷ []) self.old self.new) }
-        ensures stays { self.old.has_failed ≡ true → IsErr result }
-        ensures rests { self.old.has_failed ≡ true → self.new ≡ self.old }
+        ensures takes { TakesIn (recovered snapshot.now ∷ []) result self.old self.new }
     {
         self.still_sound()?;
         let Ok(()) = self.recover(snapshot) else {
@@ -221,14 +206,7 @@ impl<A: Allocator + Copy, W: Window<Packet<A>> + Drop> Engine<A, W> {
             → (listed : List Instrument) (es : List Accepted) (gone : List Moment)
             → Stands listed es gone self.old → Stands listed (es ++ came packet.now ∷ []) gone self.new) }
         ensures kept { IfOk result (λ passed. passed ≡ false → self.new ≡ self.old) }
-        ensures channel { OnOk result (self.new.arbiter.channel ≡ self.old.arbiter.channel) }
-        ensures keeps { self.new.keeps_lines ≡ self.old.keeps_lines }
-        ensures sound { OnOk result (self.new.has_failed ≡ false) }
-        ensures fails { IfErr result (λ _. self.new.has_failed ≡ true) }
-        ensures front { BeginsWith self.new.held self.old.held }
-        ensures begins { OnErr result (HasBrokenOff (came packet.now ∷ []) self.old self.new) }
-        ensures stays { self.old.has_failed ≡ true → IsErr result }
-        ensures rests { self.old.has_failed ≡ true → self.new ≡ self.old }
+        ensures takes { TakesIn (came packet.now ∷ []) result self.old self.new }
     {
         self.still_sound()?;
         let Ok(passed) = self.pass_packet(packet) else {

@@ -17,8 +17,8 @@ loop-event-preserved g c = record {
       subst (λ (es : List Accepted). Stands c.args.instruments.now es [] c.on.new.self)
       (taken_more c.args.events.now c.loop-event.event-index c.event-item.result (event_of c.in_ok-copy.field-0) c.loop-event-test.true c.event-item.is c.in_ok-copy.ensures)
       (c.in_ok-on.ensures.stands c.args.instruments.now (map event_of (take c.loop-event.event-index c.args.events.now)) [] c.loop-event.invariant.stands);
-  keeps = c.on.ensures.keeps ∙ c.loop-event.invariant.keeps;
-  channel = c.in_ok-on.ensures.channel ∙ c.loop-event.invariant.channel;
+  keeps = c.on.ensures.takes.keeps ∙ c.loop-event.invariant.keeps;
+  channel = c.in_ok-on.ensures.takes.channel ∙ c.loop-event.invariant.channel;
 }
 
 pub returns-clause-shown : goal.returns-clause-shown

@@ -1,9 +1,10 @@
-use Rattle.std.proofs.Common.{refl}
+use Rattle.std.proofs.Common.{[], ◌∷◌}
 use Rattle.std.proofs.lemmas.Result.{err_from_is_err_and}
-use Rattle.mdp_engine.proofs.Breaking.{broken_off_before}
+use Rattle.mdp_arbiter.specs.Accepted.{came}
+use Rattle.mdp_engine.proofs.Breaking.{takes_nothing}
 use Rattle.mdp_engine.proofs.engine.Engine.on_next.Goals as goal
 
-pub returns-in_err-still_sound-clause-begins : goal.returns-in_err-still_sound-clause-begins
-returns-in_err-still_sound-clause-begins g c =
+pub returns-in_err-still_sound-clause-takes : goal.returns-in_err-still_sound-clause-takes
+returns-in_err-still_sound-clause-takes g c =
     let fault = err_from_is_err_and c.from_residual.result c.from_residual.ensures.1 in
-    rw fault.1 (broken_off_before _ c.args.self.now c.args.self.now refl)
+    rw fault.1 (takes_nothing _ (came c.args.packet.now ∷ []) c.args.self.now c.in_err-still_sound.ensures.failed)

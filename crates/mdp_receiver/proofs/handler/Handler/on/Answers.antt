@@ -9,4 +9,4 @@ use Rattle.mdp_receiver.proofs.handler.Handler.on.Goals as goal
 pub returns-clause-goes : goal.returns-clause-goes
 returns-clause-goes g c =
     subst (λ (v : View). OnOk c.on.result (GoesOn (event_of c.args.event ∷ []) v c.on.new.self)) c.self.view_is
-    (goes_on _ _ _ c.on.result c.on.ensures.stands c.on.ensures.channel c.on.ensures.keeps)
+    (goes_on _ _ _ c.on.result c.on.ensures.stands c.on.ensures.takes.channel c.on.ensures.takes.keeps)

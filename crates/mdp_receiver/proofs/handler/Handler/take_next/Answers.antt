@@ -34,8 +34,8 @@ returns-then-branch-clause-taken g c =
     λ es stands. rw (← c.number-number.ensures) (subst (λ (a : ArbiterView). fate ≡ packet_fate a.channel es (state a) c.number-number.result) same (c.fate_of-fate.ensures.stands es (subst (StandsAt es) (sym same) stands))) in
     takes_packet c.args.bytes.now packet fate v c.on_next.new.self c.in-Ok.ensures.ok told (record {
       stands = rw (← c.self.view_is) (c.in_ok-on_next.ensures.passed c.if-branch.true);
-      channel = rw (← c.self.view_is) c.in_ok-on_next.ensures.channel;
-      keeps = rw (← c.self.view_is) c.on_next.ensures.keeps;
+      channel = rw (← c.self.view_is) c.in_ok-on_next.ensures.takes.channel;
+      keeps = rw (← c.self.view_is) c.on_next.ensures.takes.keeps;
     })
 
 pub returns-in-Err-Memory-clause-begins : goal.returns-in-Err-Memory-clause-begins
@@ -50,7 +50,7 @@ pub returns-in_err-on_next-clause-begins : goal.returns-in_err-on_next-clause-be
 returns-in_err-on_next-clause-begins g c =
     let fault = err_from_is_err_and c.from_residual-in_err-on_next.result c.from_residual-in_err-on_next.ensures.1 in
     let packet = c.read_packet_into.new.packet in
-    let broken = subst (λ (v : View). HasBrokenOff (came packet ∷ []) v c.on_next.new.self) c.self.view_is c.in_err-on_next.ensures.begins in
+    let broken = subst (λ (v : View). HasBrokenOff (came packet ∷ []) v c.on_next.new.self) c.self.view_is c.in_err-on_next.ensures.takes.begins in
     rw fault.1 (packet_brought c.args.bytes.now packet c.args.self.now c.on_next.new.self c.in-Ok.ensures.ok broken)
 
 pub returns-clause-begins : goal.returns-clause-begins
