@@ -1,6 +1,6 @@
 -- Where memory runs out, the lines of what was let go and what is held begin the lines of all events.
 use Rattle.std.proofs.Common.{◌≡◌, ℕ, Bool, true, List, [], ◌∷◌, ◌++◌, length, refl, sym, ap, subst, ◌∙◌, append_assoc, arith}
-use Rattle.std.specs.Prelude.{Err, Some}
+use Rattle.std.specs.Prelude.{Err, IsErrAnd, Ok, Result, Some}
 use Rattle.std.proofs.Math.Seq.{take-append_seam}
 use Rattle.std.proofs.lemmas.List.{append-nil, take_all}
 use Rattle.mdp_templates.specs.Packet.{PacketContent}
@@ -53,6 +53,20 @@ begins_events listed es further gone v stands =
 pub broken_off_before : (further : List Event) (old new : View) → new.held ≡ old.held → HasBrokenOff further old new
 broken_off_before further old new held listed es gone stands =
     subst (λ (h : List ℕ). BeginsWith (kept_lines old.keeps_lines (moments listed (trace old.arbiter.channel (es ++ further)))) (kept_lines old.keeps_lines gone ++ h)) (sym held) (begins_events listed es further gone old stands)
+
+-- memory had run out before
+pub takes_nothing : {T E : Type 0} (P : E → Type 0) (further : List Event) (result : Result T E) (v : View) → IsErrAnd result P → v.has_failed ≡ true → TakesIn further result v v
+takes_nothing P further (Ok done) v is failed = absurd is
+takes_nothing P further (Err fault) v is failed = record {
+  channel = tt;
+  sound = tt;
+  fails = failed;
+  begins = broken_off_before further v v refl;
+  keeps = refl;
+  front = take_all (length v.held) v.held (omega arith);
+  stays = λ _. refl;
+  rests = λ _. refl;
+}
 
 -- further events only add lines
 pub broken_off_more : (further more : List Event) (old new : View) → HasBrokenOff further old new → HasBrokenOff (further ++ more) old new
@@ -125,18 +139,3 @@ broken_off_on_way e old mid new taken keeps same as_it_was breaks listed es gone
     let here : BeginsWith (kept_lines old.keeps_lines (moments listed (trace channel es ++ settle mid.arbiter.channel all (state mid.arbiter)))) (kept_lines old.keeps_lines gone ++ new.held) =
     subst (λ (b : Bool). BeginsWith (kept_lines b (moments listed (trace channel es ++ settle mid.arbiter.channel all (state mid.arbiter)))) (kept_lines b gone ++ new.held)) as_it_was.keeps begun in
     subst (λ (ms : List Move). BeginsWith (kept_lines old.keeps_lines (moments listed ms)) (kept_lines old.keeps_lines gone ++ new.held)) (ap (λ (ms : List Move). trace channel es ++ ms) moved ∙ sym law.0) here
-
--- ---- a call
-
--- memory had run out before
-pub takes_nothing : {T E : Type 0} (fault : E) (further : List Event) (v : View) → v.has_failed ≡ true → TakesIn {T = T} further (Err fault) v v
-takes_nothing fault further v failed = record {
-  channel = tt;
-  sound = tt;
-  fails = failed;
-  begins = broken_off_before further v v refl;
-  keeps = refl;
-  front = take_all (length v.held) v.held (omega arith);
-  stays = λ _. refl;
-  rests = λ _. refl;
-}
