@@ -1,11 +1,11 @@
 -- What becomes of a snapshot, by its place among the listed securities.
-use Rattle.std.proofs.Common.{◌≡◌, ℕ, ℤ, zero, suc, Bool, true, false, List, [], ◌∷◌, map, refl, sym, ap, arith}
+use Rattle.std.proofs.Common.{◌≡◌, ℕ, ℤ, zero, suc, Bool, true, false, List, [], ◌∷◌, refl, ap, arith}
 use Rattle.std.specs.Prelude.{Option, Some, slice_get, if◌then◌else◌}
 use Rattle.std.specs.List.{list_any}
 use Rattle.std.specs.Ordering.{int_eq}
 use Rattle.std.proofs.lemmas.Bool.Decides.{Decides-int_eq}
 use Rattle.mdp_templates.specs.Snapshot.{SnapshotContent}
-use Rattle.mdp_arbiter.specs.Accepted.{Event, is_closed, newest_snapshot, newest_snapshots}
+use Rattle.mdp_arbiter.specs.Accepted.{Event, newest_snapshot, newest_snapshots}
 use Rattle.mdp_arbiter.specs.Arbiter.{View}
 use Rattle.mdp_arbiter.specs.Standing.{StandsAt}
 use Rattle.mdp_arbiter.specs.Fates.{fate_among, fate_beside, fate_of_snapshot, snapshot_fate}

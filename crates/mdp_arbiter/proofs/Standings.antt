@@ -203,16 +203,6 @@ receives_stands allocates es p old new (Back back) t k s = rw k.1 (elim k.2 [
 ])
 receives_stands allocates es p old new (Memory back) t k s = cc
 
-pub receives_keeps : (allocates : Bool) (p : PacketContent) (old new : View) (r : Put PacketContent) → Receives allocates p old new r → state new ≡ state old
-receives_keeps allocates p old new Kept k = k.state
-receives_keeps allocates p old new (Back back) k = rw k.1 refl
-receives_keeps allocates p old new (Memory back) k = rw k.2 refl
-
-pub receives_channel : (allocates : Bool) (p : PacketContent) (old new : View) (r : Put PacketContent) → Receives allocates p old new r → new.channel ≡ old.channel
-receives_channel allocates p old new Kept k = k.channel
-receives_channel allocates p old new (Back back) k = rw k.1 refl
-receives_channel allocates p old new (Memory back) k = rw k.2 refl
-
 -- ---- snapshots
 
 pub same_newest : (id : ℤ) (n : Option SnapshotContent) (s : SnapshotContent) (b : Bool) → int_eq id s.security ≡ b → (id ≡ s.security → is_newer n s ≡ false) → newer_of id n s ≡ n
@@ -258,11 +248,3 @@ renews_stands es snap old new None k s =
       held = λ k. rw (packets-recovered es snap) (s.held k);
     })
 renews_stands es snap old new (Some back) k s = rw k.1 (renewed_by es snap old old.is_closed refl k.2 s)
-
-pub renews_keeps : (snap : SnapshotContent) (old new : View) (r : Option SnapshotContent) → Renews snap old new r → state new ≡ state old
-renews_keeps snap old new None k = rw k.2 refl
-renews_keeps snap old new (Some back) k = rw k.1 refl
-
-pub renews_channel : (snap : SnapshotContent) (old new : View) (r : Option SnapshotContent) → Renews snap old new r → new.channel ≡ old.channel
-renews_channel snap old new None k = rw k.2 refl
-renews_channel snap old new (Some back) k = rw k.1 refl

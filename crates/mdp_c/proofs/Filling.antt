@@ -1,6 +1,8 @@
 -- An array that is filled from its front.
-use Rattle.std.proofs.Common.{◌≡◌, ℕ, zero, suc, ◌+◌, ◌≤◌, List, [], ◌∷◌, ◌++◌, length, take, drop, ap, ◌∙◌, subst, arith}
+use Rattle.std.proofs.Common.{◌≡◌, ℕ, zero, suc, ◌+◌, ◌<◌, ◌≤◌, true, false, List, [], ◌∷◌, ◌++◌, length, take, drop, ap, ◌∙◌, subst, arith}
 use Rattle.std.proofs.Math.ListN.{set}
+use Rattle.std.specs.Prelude.{nat_le}
+use Rattle.std.proofs.lemmas.Bool.Decides.{nat_tests}
 use Rattle.std.proofs.lemmas.List.{take_all}
 
 by_one : {X : Type 0} (k : ℕ) (all old more : List X) (x : X) → drop k all ≡ x ∷ more → length all ≤ length old → set (take k all ++ drop k old) k x ≡ take (suc k) all ++ drop (suc k) old
@@ -20,3 +22,11 @@ one_filled {X} k all old more x next room = let one_more : suc k ≡ k + 1 = ome
 pub all_filled : {X : Type 0} (k : ℕ) (all old : List X) → k ≡ length all → take k all ++ drop k old ≡ all ++ drop (length all) old
 all_filled {X} k all old is =
     ap (λ (front : List X). front ++ drop k old) (take_all k all (omega arith)) ∙ ap (λ (n : ℕ). all ++ drop n old) is
+
+-- ---- room for so many
+
+pub fits : (many room : ℕ) → many ≤ room → nat_le many room ≡ true
+fits many room less = grind (arith, nat_tests, less)
+
+pub full : (many room : ℕ) → room < many → nat_le many room ≡ false
+full many room more = grind (arith, nat_tests, more)

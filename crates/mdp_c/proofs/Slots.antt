@@ -1,10 +1,11 @@
 -- The places of marks that are set, found one after another.
 use Rattle.std.proofs.Common.{◌≡◌, ℕ, zero, suc, ◌+◌, ◌-◌, ◌<◌, ◌≤◌, Bool, true, false, List, [], ◌∷◌, length, take, drop, get_or, refl, sym, ap, ◌∙◌, subst, arith, inl, inr, get_or-take, length-take, length-drop}
-use Rattle.std.specs.Prelude.{min}
+use Rattle.std.specs.Prelude.{min, Option, Some}
 use Rattle.std.proofs.lemmas.Bool.{cases_lt}
 use Rattle.std.proofs.lemmas.List.{drop_all, drop_more, drop-drop}
 use Rattle.mdp_desks.specs.Beside.{AreClear, IsFirstSet}
-use Rattle.mdp_c.specs.Changed.{slots_from, slots_of}
+use Rattle.mdp_engine.specs.Engine.{View}
+use Rattle.mdp_c.specs.Changed.{changed_slots, slots_from, slots_of}
 
 -- how many places a number of 32 bits can name
 abbrev most : ℕ
@@ -77,6 +78,12 @@ none_found marks from clear =
 -- at first all are left
 pub all_left : (marks : List Bool) → slots_left marks 0 ≡ slots_of marks
 all_left marks = refl
+
+-- none was set
+pub none_changed : (marks : List Bool) (v : View) (held : Option View) → AreClear 0 (length marks) marks → marks ≡ v.changed → Some v ≡ held → changed_slots held ≡ Some []
+none_changed marks v held clear are is =
+    let none : slots_of marks ≡ [] = none_found marks 0 (λ k low high. clear k low (omega (arith, high))) in
+    subst (λ (h : Option View). changed_slots h ≡ Some []) is (ap Some (ap slots_of (sym are) ∙ none))
 
 -- ---- what is left of a list
 

@@ -2,7 +2,9 @@
 
 ghost use Rattle.std.specs.Prelude.{◌≡◌, unwrap_or};
 ghost use Rattle.mdp_c.specs.Became.{became_of, counts_told, fate_number, jump_told, loss_told, packet_told};
+ghost use Rattle.mdp_c.specs.Statuses.{taken_status};
 
+use crate::status::DONE;
 use mdp_arbiter::PacketFate;
 use mdp_receiver::{Jump, Loss, Moved, SnapshotCounts, Taken};
 
@@ -54,17 +56,19 @@ const NOTHING: Became = Became {
 };
 
 /// Reports what became of a datagram and what it moved, in the place of what was told before; nothing of one that is
-/// refused.
-pub(crate) fn tell_became(became: &mut Became, taken: Taken, moved: Moved)
-    ensures { became.new ≡ unwrap_or (became_of taken moved) became.old }
+/// refused. Returns the status.
+pub(crate) fn tell_became(became: &mut Became, taken: Taken, moved: Moved) -> u32
+    ensures became { became.new ≡ unwrap_or (became_of taken moved) became.old }
+    ensures status { result ≡ taken_status taken }
 {
     match taken {
         Taken::Packet(fate) => *became = packet_told(fate),
         Taken::Snapshots(counts) => *became = counts_told(counts),
-        Taken::Refused(_) => return,
+        Taken::Refused(refusal) => return u32::from(refusal.number()),
     }
     add_loss(became, moved.loss);
     add_jump(became, moved.jump);
+    DONE
 }
 
 // Returns what became of a packet.

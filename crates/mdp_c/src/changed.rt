@@ -3,6 +3,7 @@
 ghost use Rattle.std.specs.Prelude.{◌≡◌, ◌<◌, ◌≤◌, ◌++◌, IfNone, IfSome, drop, length, min};
 ghost use Rattle.mdp_desks.specs.Beside.{AreClear, IsFirstSet};
 ghost use Rattle.mdp_c.specs.Changed.{changed_slots, slots_copied, slots_count, slots_of, slots_status};
+ghost use Rattle.mdp_c.specs.Copies.{copied, room_status};
 
 use crate::handle::Handle;
 use crate::status::{CLOSED, DONE, TOO_SHORT};
@@ -25,6 +26,21 @@ pub extern "C" fn mdp_changed(handle: &mut Handle, slots: &mut [u32], count: &mu
         return CLOSED;
     }
     let marked = handle.session().changed();
+    if marked.is_clear() {
+        *count = 0;
+        return DONE;
+    }
+    report_slots(marked, slots, count)
+}
+
+// Reports the places of the marks that are set, and how many they are. Not part of the call above, since most datagrams
+// change no book, and that one then saves no registers.
+#[inline(never)]
+fn report_slots(marked: &Marked<Global>, slots: &mut [u32], count: &mut u64) -> u32
+    ensures status { result ≡ room_status (slots_of marked.now) (length slots.old) }
+    ensures slots { slots.new ≡ copied (slots_of marked.now) slots.old }
+    ensures count { count.new ≡ length (slots_of marked.now) }
+{
     if let Some(many) = past_room(marked, slots.len()) {
         *count = many;
         return TOO_SHORT;
@@ -51,6 +67,7 @@ fn past_room(marked: &Marked<Global>, room: usize) -> Option<u64>
 }
 
 // Returns how many marks are set.
+#[cold]
 fn count_slots(marked: &Marked<Global>) -> u64
     ensures { result ≡ length (slots_of marked.now) }
 {

@@ -5,7 +5,7 @@ ghost use Rattle.mdp_c.specs.Feeding.{Closes, Feeds, FeedsSession, feed_of, hold
 
 use crate::became::{Became, tell_became};
 use crate::handle::Handle;
-use crate::status::{CLOSED, DONE, MEMORY, OUT_OF_RANGE, TOO_LONG, taken_status};
+use crate::status::{CLOSED, DONE, MEMORY, OUT_OF_RANGE, TOO_LONG};
 use mdp_session::Session;
 use mdp_templates::{Feed, LONGEST_DATAGRAM};
 use std::alloc::Global;
@@ -81,6 +81,5 @@ fn feed_session(
     let Ok((taken, moved)) = session.datagram_with_moves(alloc, feed, bytes) else {
         return MEMORY;
     };
-    tell_became(became, taken, moved);
-    taken_status(taken)
+    tell_became(became, taken, moved)
 }

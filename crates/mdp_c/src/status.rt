@@ -1,9 +1,8 @@
 //! The statuses that calls answer: the program's numbers, and from 81 on those of what only a caller in C can do.
 
 ghost use Rattle.std.specs.Prelude.{◌≡◌};
-ghost use Rattle.mdp_c.specs.Statuses.{taken_status, unlisted_status};
+ghost use Rattle.mdp_c.specs.Statuses.{unlisted_status};
 
-use mdp_receiver::Taken;
 use mdp_session::Unlisted;
 
 /// The call did what it says.
@@ -40,16 +39,5 @@ pub(crate) fn unlisted_status(why: Unlisted, no_instrument: u32) -> u32
     match why {
         Unlisted::NoInstrument => no_instrument,
         Unlisted::Refused(refusal) => u32::from(refusal.number()),
-    }
-}
-
-/// Returns the status of a datagram of which this became.
-pub(crate) fn taken_status(taken: Taken) -> u32
-    ensures { result ≡ taken_status taken }
-{
-    match taken {
-        Taken::Packet(_) => DONE,
-        Taken::Snapshots(_) => DONE,
-        Taken::Refused(refusal) => u32::from(refusal.number()),
     }
 }

@@ -1,6 +1,6 @@
 -- What is taken, round by round, and what is written of it.
 use Rattle.std.proofs.Common.{◌≡◌, ◌<◌, ℕ, zero, suc, Bool, true, false, List, [], ◌∷◌, ◌++◌, length, take, drop, map, set, get_or, replicate, refl, sym, ap, ◌∙◌, subst, append_assoc, arith}
-use Rattle.std.specs.Prelude.{Result, Ok, Err, ◌&&◌, ◌||◌}
+use Rattle.std.specs.Prelude.{Result, Ok, Err, ◌||◌}
 use Rattle.std.specs.List.{AllByRecursion, list_any}
 use Rattle.std.proofs.lemmas.List.{append-nil, take-append-drop}
 use Rattle.mdp_lanes.specs.Queues.{LaneReceiverView}
@@ -20,10 +20,6 @@ use Rattle.mdp_reports.specs.declared.answer.Answer.{Answer}
 use Rattle.mdp_reports.specs.declared.answer.Answer.TheVariants.{Tells, Failed, Finished}
 
 -- ---- any rounds
-
-all_two : (a b : Bool) → (a && b) ≡ true → (a ≡ true) × (b ≡ true)
-all_two true b is = (refl, is)
-all_two false b is = absurd cc
 
 none_first : (a b : Bool) → (a || b) ≡ false → a ≡ false
 none_first true b none = absurd cc

@@ -1,12 +1,11 @@
 -- The marks of the desks whose books an event end prints.
-use Rattle.std.proofs.Common.{◌≡◌, ◌≢◌, ◌<◌, ◌≤◌, ◌+◌, ℕ, zero, suc, Bool, true, false, cond, List, [], ◌∷◌, length, map, get_or, set, refl, sym, ap, subst, ◌∙◌, arith, inl, inr}
-use Rattle.std.specs.Prelude.{Option, Some, None, ◌&&◌, ◌||◌, nat_lt}
+use Rattle.std.proofs.Common.{◌≡◌, ◌≢◌, ◌<◌, ◌≤◌, ◌+◌, ℕ, suc, Bool, true, false, cond, List, [], ◌∷◌, length, map, get_or, set, refl, sym, ap, subst, ◌∙◌, arith, inl, inr}
+use Rattle.std.specs.Prelude.{Some, None, ◌&&◌, ◌||◌, nat_lt}
 use Rattle.std.proofs.lemmas.Bool.{cases_eq, cases_lt}
 use Rattle.std.proofs.lemmas.Bool.Decides.{nat_tests}
 use Rattle.std.proofs.lemmas.List.{length-map, length-set, get_or_past, get_or-map, get_or-set_same, get_or-set_other}
 use Rattle.mdp_books.proofs.Feeds.{or-false}
 use Rattle.mdp_desks.specs.declared.desk.Desk.{Desk}
-use Rattle.mdp_desks.specs.Lines.{Seen}
 use Rattle.mdp_desks.specs.Desks.{desk_standing}
 use Rattle.mdp_desks.specs.Beside.{AreClear, all_due_at, is_due_at, marks_of}
 use Rattle.mdp_desks.specs.Changed.{is_seen_printed, with_marks}

@@ -29,14 +29,6 @@ mark_at_place bytes low high n from under short =
 range_long : (bytes : List ℕ) (low high : ℕ) → low ≤ high → high ≤ length bytes → length (slice_range bytes low high) ≡ high - low
 range_long bytes low high from short = omega (arith, length-take (high - low) (drop low bytes), length-drop low bytes, from, short)
 
-pub first_here : (bytes : List ℕ) (low high : ℕ) → low < high → high ≤ length bytes → (slice_index bytes low == 1) ≡ true → IsFirstSet low high low (marks_in bytes)
-first_here bytes low high less short is = record {
-  behind = omega arith;
-  inside = less;
-  is_set = mark_there bytes low (omega (arith, less, short)) ∙ is;
-  before = λ k from under. absurd (omega (arith, from, under));
-}
-
 pub first_behind : (bytes : List ℕ) (low high n : ℕ) → low < high → high ≤ length bytes → IsFirstByte (is_byte 1) (slice_range bytes low high) (Some n) → IsFirstSet low high (low + n) (marks_in bytes)
 first_behind bytes low high n less short first =
     let long = range_long bytes low high (omega (arith, less)) short in
@@ -56,29 +48,7 @@ none_behind bytes low high less short none k from under =
     mark_at_place bytes low high k from under short
     ∙ not_set (is_byte 1 (slice_index (slice_range bytes low high) (k - low))) (none (k - low) (omega arith) (omega (arith, from, under, long)))
 
--- ---- among all
-
-pub next_set : (marks : List Bool) (low high from n : ℕ) → AreWithin low high marks → IsFirstSet (max from low) high n marks → IsFirstSet from (length marks) n marks
-next_set marks low high from n within first = record {
-  behind = omega (arith, first.behind);
-  inside = omega (arith, first.inside, within.short);
-  is_set = first.is_set;
-  before = λ k at under. elim (cases_lt k low) [
-    | inl below ↦ within.before k below
-    | inr above ↦ first.before k (omega (arith, at, above)) under
-  ];
-}
-
-pub next_none : (marks : List Bool) (low high from : ℕ) → AreWithin low high marks → AreClear (max from low) high marks → AreClear from (length marks) marks
-next_none marks low high from within none k at under = elim (cases_lt k low) [
-  | inl below ↦ within.before k below
-  | inr above ↦ by_high above
-]
-  where
-    by_high : low ≤ k → get_or marks k false ≡ false
-    by_high above = elim (cases_lt k high) [ inl inside ↦ none k (omega (arith, at, above)) inside | inr past ↦ within.behind k past ]
-
--- ---- none is set at first
+-- ---- among all: none is set at first
 
 pub none_in : (count : ℕ) → marks_in (replicate count 0) ≡ replicate count false
 none_in zero = refl
@@ -90,7 +60,7 @@ none_there (suc count) zero = refl
 none_there (suc count) (suc n) = none_there count n
 
 pub none_within : (bytes : List ℕ) (count : ℕ) → bytes ≡ replicate count 0 → AreWithin 0 0 (marks_in bytes)
-none_within bytes count is = record { short = omega arith; before = λ n under. absurd (omega (arith, under)); behind = λ n from. there n }
+none_within bytes count is = record { short = omega arith; first = λ some. absurd (omega (arith, some)); before = λ n under. absurd (omega (arith, under)); behind = λ n from. there n }
   where
     there : (n : ℕ) → get_or (marks_in bytes) n false ≡ false
     there n = ap (λ (ms : List Bool). get_or ms n false) (ap marks_in is ∙ none_in count) ∙ none_there count n
@@ -107,12 +77,16 @@ other_mark : (marks : List Bool) (slot n : ℕ) (b : Bool) → n ≢ slot → ge
 other_mark marks slot n b other is = get_or-set_other marks slot n b false other ∙ is
 
 -- where one is set, the bounds hold it
-pub set_within : (marks : List Bool) (low high low2 high2 slot : ℕ) → AreWithin low high marks → slot < length marks → high2 ≤ max high (slot + 1) → low2 ≤ slot → slot < high2 → (low < high → (low2 ≤ low) × (high ≤ high2)) → AreWithin low2 high2 (set marks slot true)
-set_within marks low high low2 high2 slot within less short first last wide =
+pub set_within : (marks : List Bool) (low high low2 high2 slot : ℕ) → AreWithin low high marks → slot < length marks → high2 ≤ max high (slot + 1) → low2 ≤ slot → slot < high2 → (low < high → (low2 ≤ low) × (high ≤ high2)) → (low2 ≢ slot → (low < high) × (low2 ≡ low)) → AreWithin low2 high2 (set marks slot true)
+set_within marks low high low2 high2 slot within less short first last wide is_low =
     let long = length-set marks slot true in
     let before = within.short in
     record {
       short = omega (arith, short, long, before, less);
+      first = λ _. elim (cases_eq low2 slot) [
+        | inl same ↦ subst (λ (n : ℕ). get_or (set marks slot true) n false ≡ true) (sym same) (get_or-set_same marks slot true false less)
+        | inr other ↦ get_or-set_other marks slot low2 true false other ∙ subst (λ (n : ℕ). get_or marks n false ≡ true) (sym (is_low other).1) (within.first (is_low other).0)
+      ];
       before = λ n under. other_mark marks slot n true (λ same. omega (arith, same, under, first)) (below n under);
       behind = λ n from. other_mark marks slot n true (λ same. omega (arith, same, from, last)) (above n from);
     }
@@ -132,37 +106,44 @@ set_within marks low high low2 high2 slot within less short first last wide =
     above : (n : ℕ) → high2 ≤ n → get_or marks n false ≡ false
     above n past = between n (λ some inside from. let bounds = wide some in omega (arith, bounds.1, past, inside))
 
--- where one is taken away, they stay
-pub clear_within : (marks : List Bool) (low high slot : ℕ) → AreWithin low high marks → slot < length marks → AreWithin low high (set marks slot false)
-clear_within marks low high slot within less =
-    let long = length-set marks slot false in
-    let short = within.short in
-    record {
-      short = omega (arith, short, long);
-      before = λ n under. still_clear n (within.before n under);
-      behind = λ n from. still_clear n (within.behind n from);
-    }
-  where
-    still_clear : (n : ℕ) → get_or marks n false ≡ false → get_or (set marks slot false) n false ≡ false
-    still_clear n is = elim (cases_eq n slot) [
-      | inl same ↦ subst (λ (m : ℕ). get_or (set marks slot false) m false ≡ false) (sym same) (get_or-set_same marks slot false false less)
-      | inr other ↦ other_mark marks slot n false other is
-    ]
+-- a mark that is taken away, and the others
+cleared : (marks : List Bool) (slot n : ℕ) → slot < length marks → (n ≢ slot → get_or marks n false ≡ false) → get_or (set marks slot false) n false ≡ false
+cleared marks slot n less is = elim (cases_eq n slot) [
+  | inl same ↦ subst (λ (m : ℕ). get_or (set marks slot false) m false ≡ false) (sym same) (get_or-set_same marks slot false false less)
+  | inr other ↦ other_mark marks slot n false other (is other)
+]
 
--- and where it was the first, the lower one goes on to the next
-pub clear_on : (marks : List Bool) (low high next slot : ℕ) → AreWithin low high marks → slot < length marks → slot ≡ low → AreClear (slot + 1) next (set marks slot false) → AreWithin next high (set marks slot false)
-clear_on marks low high next slot within less first clear =
-    let kept = clear_within marks low high slot within less in
-    record { short = kept.short; before = λ n under. by_low kept n under; behind = kept.behind }
+-- where it wasn't the first, the bounds stay
+pub clear_within : (marks : List Bool) (low high slot : ℕ) → AreWithin low high marks → slot < length marks → slot ≢ low → AreWithin low high (set marks slot false)
+clear_within marks low high slot within less other = record {
+  short = let long = length-set marks slot false in let short = within.short in omega (arith, short, long);
+  first = λ some. get_or-set_other marks slot low false false (λ same. other (sym same)) ∙ within.first some;
+  before = λ n under. cleared marks slot n less (λ _. within.before n under);
+  behind = λ n from. cleared marks slot n less (λ _. within.behind n from);
+}
+
+-- and where it was, the lower one goes on to the next
+pub clear_on : (marks : List Bool) (low high next slot : ℕ) → AreWithin low high marks → slot < length marks → slot ≡ low → AreClear (slot + 1) next (set marks slot false)
+    → (next < high → get_or (set marks slot false) next false ≡ true) → AreWithin next high (set marks slot false)
+clear_on marks low high next slot within less is_low clear found = record {
+  short = let long = length-set marks slot false in let short = within.short in omega (arith, short, long);
+  first = found;
+  before = λ n under. elim (cases_lt n (slot + 1)) [
+    | inl below ↦ cleared marks slot n less (λ other. within.before n (omega (arith, below, other, is_low)))
+    | inr above ↦ clear n above under
+  ];
+  behind = λ n from. cleared marks slot n less (λ _. within.behind n from);
+}
+
+-- no mark is set just where the bounds have no place between them
+pub clear_between : (marks : List Bool) (low high : ℕ) → AreWithin low high marks → (high ≤ low → AreClear 0 (length marks) marks) × (AreClear 0 (length marks) marks → high ≤ low)
+clear_between marks low high within = (λ past n _ _. by_low past n, λ clear. by_high clear)
   where
-    by_low : AreWithin low high (set marks slot false) → (n : ℕ) → n < next → get_or (set marks slot false) n false ≡ false
-    by_low kept n under = elim (cases_lt n low) [
-      | inl below ↦ kept.before n below
-      | inr above ↦ by_place n above under
+    by_low : high ≤ low → (n : ℕ) → get_or marks n false ≡ false
+    by_low past n = elim (cases_lt n low) [ inl under ↦ within.before n under | inr from ↦ within.behind n (omega (arith, from, past)) ]
+
+    by_high : AreClear 0 (length marks) marks → high ≤ low
+    by_high clear = elim (cases_lt low high) [
+      | inl some ↦ absurd (let short = within.short in let not_so : true ≡ false = sym (within.first some) ∙ clear low (omega arith) (omega (arith, some, short)) in cc)
+      | inr past ↦ past
     ]
-      where
-        by_place : (n : ℕ) → low ≤ n → n < next → get_or (set marks slot false) n false ≡ false
-        by_place n above under = elim (cases_eq n slot) [
-          | inl same ↦ subst (λ (m : ℕ). get_or (set marks slot false) m false ≡ false) (sym same) (get_or-set_same marks slot false false less)
-          | inr other ↦ clear n (omega (arith, above, first, other)) under
-        ]

@@ -28,9 +28,10 @@ pub record IsFirstSet (low high n : ℕ) (marks : List Bool) : Type 0 where
   pub is_set : get_or marks n false ≡ true
   pub before : AreClear low n marks
 
--- every mark that is set stands from `low` on and below `high`
+-- every mark that is set stands from `low` on and below `high`, and if there is a place between them, `low`'s is set
 pub record AreWithin (low high : ℕ) (marks : List Bool) : Type 0 where
   pub short : high ≤ length marks
+  pub first : low < high → get_or marks low false ≡ true
   pub before : (n : ℕ) → n < low → get_or marks n false ≡ false
   pub behind : (n : ℕ) → high ≤ n → get_or marks n false ≡ false
 

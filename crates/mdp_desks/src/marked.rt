@@ -1,7 +1,7 @@
 //! A mark for each place of a list, kept apart from what it marks so that one scan is cheap: which desks have lines due
 //! at the next event end, and whose books were printed.
 
-ghost use Rattle.std.specs.Prelude.{◌≡◌, ◌+◌, ◌<◌, ◌≤◌, IfOk, IfSome, IfNone, true, false, get_or, length, map, max, replicate, set};
+ghost use Rattle.std.specs.Prelude.{◌≡◌, ◌≢◌, ◌↔◌, ◌+◌, ◌<◌, ◌≤◌, IfOk, IfSome, IfNone, IsTrue, true, false, get_or, length, map, max, replicate, set};
 ghost use Rattle.mdp_desks.specs.Beside.{AreClear, IsFirstSet, marks_in};
 
 use mdp_templates::Memory;
@@ -9,7 +9,8 @@ use memchr::memchr;
 use std::alloc::Allocator;
 use std::marker::Model;
 
-/// A mark for each of so many places, seen as their list. Those that are set stand from `low` on and below `high`.
+/// A mark for each of so many places, seen as their list. Those that are set stand from `low`, the first of them, on and
+/// below `high`.
 #[derive(Drop)]
 pub struct Marked<A: Allocator> {
     // 1 where the mark is set, and 0 where it isn't
@@ -47,11 +48,12 @@ fn first_marked(marks: &[u8], low: usize, high: usize) -> Option<usize>
     }
 }
 
-// Returns a place below which no mark is set, where none is below `low` and all that are set stand below `high`.
+// Returns the place of the first mark that is set from `low` on and below `high`, or `high` where there is none.
 fn low_from(marks: &[u8], low: usize, high: usize) -> usize
     requires { high ≤ length marks.now }
     ensures short { result ≤ high }
     ensures clear { AreClear low result (marks_in marks.now) }
+    ensures first { result < high → get_or (marks_in marks.now) result false ≡ true }
 {
     match first_marked(marks, low, high) {
         Some(n) => n,
@@ -63,6 +65,7 @@ fn low_from(marks: &[u8], low: usize, high: usize) -> usize
 fn widened(low: usize, high: usize, slot: usize) -> (usize, usize)
     requires { slot < 18446744073709551615 }
     ensures low { result.0 ≤ slot }
+    ensures first { result.0 ≢ slot → (low < high) × (result.0 ≡ low) }
     ensures high { slot < result.1 }
     ensures short { result.1 ≤ max high (slot + 1) }
     ensures kept { low < high → (result.0 ≤ low) × (high ≤ result.1) }
@@ -98,6 +101,13 @@ impl<A: Allocator> Marked<A> {
         ensures { result ≡ get_or self.now slot false }
     {
         self.marks[slot] == 1
+    }
+
+    /// Returns whether no mark is set.
+    pub fn is_clear(&self) -> bool
+        ensures { IsTrue result ↔ AreClear 0 (length self.now) self.now }
+    {
+        self.low >= self.high
     }
 
     /// Finds the first mark that is set, from a place on.

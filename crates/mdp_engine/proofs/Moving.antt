@@ -93,9 +93,6 @@ pub record HasMade (listed : List Instrument) (es : List Event) (moves : List Mo
 abbrev pub MovesTo : View → View → Type 0
 MovesTo old now = (listed : List Instrument) (es : List Event) (moves : List Move) (gone : List Moment) → IsUnderWay listed es moves gone old → HasMade listed es moves gone old now
 
-pub moves_nowhere : (v : View) → MovesTo v v
-moves_nowhere v = λ listed es moves gone under. record { made = []; leads = refl; under_way = subst (λ (ms : List Move). IsUnderWay listed es ms gone v) (sym (append-nil moves)) under }
-
 move_on : {A : Type 0} (old now new : View) (mid : ArbiterView) (step : Step A) (listed : List Instrument) (es : List Event) (moves : List Move) (gone : List Moment)
     → now.arbiter.channel ≡ old.arbiter.channel → StepsAs es now.arbiter mid (Some step) → mid.channel ≡ now.arbiter.channel
     → new.desks ≡ stepped_desks step mid.newest now.desks → ShowsMore (stepped_moments step now.desks) now new → new.arbiter ≡ mid

@@ -1,9 +1,9 @@
 -- Lists of the spreads that each security is part of, noted one after another, and why the others are quiet.
-use Rattle.std.proofs.Common.{◌≡◌, ◌<◌, ◌≤◌, ℕ, zero, suc, ◌+◌, ◌++◌, Bool, true, false, List, [], ◌∷◌, length, take, drop, get_or, set, replicate, Option, Some, None, refl, sym, ap, subst, ◌∙◌, arith, inl, inr, append-nil, append_assoc}
+use Rattle.std.proofs.Common.{◌≡◌, ◌<◌, ◌≤◌, ℕ, zero, suc, ◌+◌, ◌++◌, Bool, true, false, List, [], ◌∷◌, length, take, drop, get_or, set, Option, Some, None, refl, sym, ap, subst, ◌∙◌, arith, inl, inr, append-nil, append_assoc}
 use Rattle.std.specs.Prelude.{All, Vec, nat_lt, slice_get}
 use Rattle.std.specs.List.{Contains, flat_map}
 use Rattle.std.proofs.lemmas.Bool.{cases_lt, cases_eq, cases_Bool}
-use Rattle.std.proofs.lemmas.List.{get_or-map, get_or_default, length-map, length-replicate, length-set, map-set, get_or-set_same, get_or-set_other, at_drop_more, drop_all, take_at}
+use Rattle.std.proofs.lemmas.List.{get_or-map, get_or_default, length-map, length-set, map-set, get_or-set_same, get_or-set_other, at_drop_more, drop_all, take_at}
 use Rattle.std.proofs.lemmas.List.Elements.{Contains-push, Contains-push_cases, Contains-append_left}
 use Rattle.mdp_books.specs.declared.event_end.EventEnd.{EventEnd}
 use Rattle.mdp_desks.specs.declared.desk.Desk.{Desk}
@@ -97,19 +97,6 @@ parts_more count n spreads spread d parts new under less at is so_far =
             let itself : spread ≡ get_or spreads n e = at ∙ get_or_default spreads n d e less in
             subst (λ (i : ℕ). IsNoted three i (get_or spreads i e)) same (subst (λ (s : Spread). IsNoted three n s) itself new_one)
 
--- with no spread noted
-pub no_parts_are : (count : ℕ) (spreads : List Spread) (parts : List (List ℕ)) → parts ≡ replicate count [] → AreParts count 0 spreads parts
-no_parts_are count spreads parts is = subst (λ (ps : List (List ℕ)). AreParts count 0 spreads ps) (sym is) (record {
-  long = simp length-replicate refl;
-  within = λ slot n part. absurd (none count slot n part);
-  noted = λ n d less. absurd (omega (arith, less));
-})
-  where
-    none : (count slot n : ℕ) → IsPart (replicate count []) slot n → ⊥
-    none zero slot n part = omega (arith, part.1)
-    none (suc count) zero n part = omega (arith, part.1)
-    none (suc count) (suc slot) n part = none count slot n part
-
 -- ---- marks that are set
 
 -- a mark that is set stays set where others are
@@ -150,18 +137,6 @@ due_more marks parts old new from slot high first kept here so_far s n under is 
     by_place above = elim (cases_lt s slot) [
       | inl before ↦ absurd (opposite (get_or marks s false) is (first.before s above before))
       | inr after ↦ (let same : s ≡ slot = omega (arith, after, under) in of_all (λ (m : ℕ). get_or new m false ≡ true) (get_or parts slot []) n here (subst (λ (i : ℕ). IsPart parts i n) same part))
-    ]
-
-pub due_end : (marks : List Bool) (parts : List (List ℕ)) (due : List Bool) (from : ℕ) → AreClear from (length marks) marks → DueBelow from marks parts due → AreDue marks parts due
-due_end marks parts due from clear so_far s n is part = elim (cases_lt s from) [
-  | inl below ↦ so_far s n below is part
-  | inr above ↦ absurd (by_length above)
-]
-  where
-    by_length : from ≤ s → ⊥
-    by_length above = elim (cases_lt s (length marks)) [
-      | inl inside ↦ opposite (get_or marks s false) is (clear s above inside)
-      | inr past ↦ opposite (get_or marks s false) is (none_past marks s past)
     ]
 
 -- ---- quiet spreads

@@ -24,22 +24,3 @@ asked_whole words settings are none = go settings.live settings.channel are.live
     go live (Some name) flag is = absurd (none (inr (subst IsSome is refl)))
     go true None flag is = absurd (none (inl flag))
     go false None flag is = refl
-
--- a channel that a text says has an instrument
-some_there : (instruments : List Instrument) (addresses : List FeedAddress) (channel : ChannelContent) → Ok channel ≡ whole (record { instruments = instruments; addresses = addresses }) → 0 < length channel.instruments
-some_there [] addresses channel is = absurd (let both : Ok channel ≡ Err faults.NoInstrument = is in cc)
-some_there (x ∷ xs) [] channel is =
-    let some : (length (x ∷ xs) == 0) ≡ false = grind (arith, nat_tests) in
-    absurd (let both : Ok channel ≡ Err faults.NoAddress = rw some at is in cc)
-some_there (x ∷ xs) (y ∷ ys) channel is =
-    let some : (length (x ∷ xs) == 0) ≡ false = grind (arith, nat_tests) in
-    let more : (length (y ∷ ys) == 0) ≡ false = grind (arith, nat_tests) in
-    let both : Ok channel ≡ Ok (record { instruments = x ∷ xs; addresses = y ∷ ys }) = rw more at (rw some at is) in
-    let same : channel ≡ record { instruments = x ∷ xs; addresses = y ∷ ys } = cc in
-    subst (λ (c : ChannelContent). 0 < length c.instruments) (sym same) (omega arith)
-
-pub has_instruments : (text : List ℕ) (channel : ChannelContent) → IsAnswer text (Ok channel) → 0 < length channel.instruments
-has_instruments text channel (at_line place refusal first is) = absurd (let both : Ok channel ≡ Err (faults.Line (place + 1) refusal) = is in cc)
-has_instruments text channel (at_end none is) =
-    let all = channel_of (channel_lines text) in
-    some_there all.instruments all.addresses channel is

@@ -8,7 +8,7 @@ use Rattle.mdp_pcap.specs.Block.{Reading, BlockContent, read_on, frames_of}
 use Rattle.mdp_pcap.specs.File.{FrontContent, Whole, Faulty, front_of, cut_end, EndsAs}
 use Rattle.mdp_pcap.specs.Placing.{block_in}
 use Rattle.mdp_pcap.specs.Reader.{NumberedFrame, Takes, numbered, number_after, next_number, ReaderContent, IsReadOn, StandsAs, IsReadWhole, ending_with, at_first, HasHandedOn, IsReadSome, HasHalted}
-use Rattle.mdp_pcap.specs.Stepping.{HasMovedOn, HasGoneOn, IsStop}
+use Rattle.mdp_pcap.specs.Stepping.{HasMovedOn, HasGoneOn}
 use Rattle.mdp_pcap.specs.declared.block.Block.{Block}
 use Rattle.mdp_pcap.specs.declared.layout.Layout.{Layout}
 use Rattle.mdp_pcap.specs.declared.layout.PcapFault.{PcapFault}
@@ -118,10 +118,6 @@ stopped_in_held holds old now rest sink fault is front =
     subst (λ (n : ReaderContent). IsReadWhole (Takes holds sink sink) old n (old.held ++ rest)) (sym is) whole
 
 -- ---- halts
-
-pub halts_stopped : {B S E : Type 0} (holds : B → S → List NumberedFrame → Type 0) (old : ReaderContent) (text : List ℕ) (before after : S) (halt : Halt E) → IsStop halt → HasHalted (Takes holds before after) old text halt
-halts_stopped holds old text before after halts.Memory is = absurd is
-halts_stopped holds old text before after (halts.Stop stop) is = tt
 
 -- what was read before a halt is read
 pub halts_later : {B S E : Type 0} (holds : B → S → List NumberedFrame → Type 0) (old middle : ReaderContent) (text rest : List ℕ) (before between after : S) (halt : Halt E) → IsReadOn (Takes holds before between) old middle text rest → HasHalted (Takes holds between after) middle rest halt → HasHalted (Takes holds before after) old text halt

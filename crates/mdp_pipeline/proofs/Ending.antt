@@ -75,10 +75,6 @@ pub early_here : (channel : ListedChannel) (events : List Event) (refusals start
 early_here channel events refusals start taken taken' engine n went so_far =
     subst (λ (es : List Event). EndsEarly channel es refusals start taken') (append-nil events) (early channel events [] refusals start taken taken' engine n went so_far)
 
--- nothing went out
-pub early_none : (channel : ListedChannel) (events : List Event) (refusals start : List ℕ) → EndsEarly channel events refusals start start
-early_none channel events refusals start = record { sent = []; rest = shown_output channel refusals events; taken_is = sym (append-nil start); whole = refl }
-
 -- ---- the end
 
 abbrev pub Tells : View → Standing → Type 0

@@ -33,13 +33,6 @@ breaks_nowhere text before after same =
     subst (λ (t : List ℕ). BreaksOff text before t) (sym same)
     (record { kept = take_all (length before) before (omega arith); short = take-append_seam before text })
 
--- its first part breaks off
-pub breaks_early : (first second before after : List ℕ) → BreaksOff first before after → BreaksOff (first ++ second) before after
-breaks_early first second before after off = record {
-  kept = off.kept;
-  short = subst (λ (t : List ℕ). BeginsWith t after) (append_assoc before first second) (begins_more after (before ++ first) second off.short);
-}
-
 -- its second part does, behind the first
 pub breaks_late : (first second before now after : List ℕ) → now ≡ before ++ first → BreaksOff second now after → BreaksOff (first ++ second) before after
 breaks_late first second before now after is off = record {

@@ -1,6 +1,6 @@
 -- The snapshots of a datagram, counted one by one.
 use Rattle.std.proofs.Common.{◌≡◌, ℕ, ◌+◌, ◌<◌, List, [], ◌∷◌, ◌++◌, map, take, drop, length, get_or, refl, sym, ap, subst, ◌∙◌, append_assoc, arith}
-use Rattle.std.proofs.lemmas.List.{append-nil, map-append, take_more, drop_more}
+use Rattle.std.proofs.lemmas.List.{map-append, take_more, drop_more}
 use Rattle.mdp_templates.specs.Snapshot.{SnapshotContent}
 use Rattle.mdp_templates.specs.declared.instrument.Instrument.{Instrument}
 use Rattle.mdp_arbiter.specs.Accepted.{Event, recovered}
@@ -24,10 +24,6 @@ AreCounted snapshots i first counts =
     (listed : List Instrument) (before : List Event) (gone : List Moment) → Stands listed before gone first
     → counts_after first.arbiter.channel.ids before (map recovered snapshots) no_counts
     ≡ counts_after first.arbiter.channel.ids (before ++ map recovered (take i snapshots)) (map recovered (drop i snapshots)) counts
-
-pub counted_none : (snapshots : List SnapshotContent) (first : View) → AreCounted snapshots 0 first no_counts
-counted_none snapshots first = λ listed before gone stands.
-    ap (λ (es : List Event). counts_after first.arbiter.channel.ids es (map recovered snapshots) no_counts) (sym (append-nil before))
 
 pub taken_so : (snapshots : List SnapshotContent) (i : ℕ) → i < length snapshots → (s : SnapshotContent) → s ≡ get_or snapshots i s → map recovered (take i snapshots) ++ recovered s ∷ [] ≡ map recovered (take (i + 1) snapshots)
 taken_so snapshots i within s at =

@@ -28,7 +28,6 @@ use Rattle.mdp_receiver.specs.Said.{IsSaid, Said, brings, brought_by, refused}
 use Rattle.mdp_receiver.specs.Taken.{taken_by, taken_of}
 use Rattle.mdp_receiver.specs.declared.moved.Jump.{Jump}
 use Rattle.mdp_receiver.specs.declared.moved.Loss.{Loss}
-use Rattle.mdp_receiver.specs.declared.moved.Moved.{Moved}
 use Rattle.mdp_receiver.specs.declared.taken.Taken.{Taken}
 use Rattle.mdp_receiver.specs.declared.taken.Taken.TheVariants.{Packet, Refused}
 

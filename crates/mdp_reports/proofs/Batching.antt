@@ -1,7 +1,7 @@
 -- Batches of reports are the rounds of all their moments.
 use Rattle.std.proofs.Common.{◌≡◌, ◌≤◌, ℕ, ◌+◌, zero, suc, List, [], ◌∷◌, ◌++◌, map, refl, sym, ap, ◌∙◌, append_assoc, arith}
 use Rattle.std.specs.List.{flat_map}
-use Rattle.std.proofs.lemmas.List.{append-nil, map-append}
+use Rattle.std.proofs.lemmas.List.{map-append}
 use Rattle.mdp_quotes.specs.declared.best.Best.{Best}
 use Rattle.std.specs.Prelude.{Option}
 use Rattle.mdp_templates.specs.declared.instrument.Instrument.{Instrument}

@@ -1,5 +1,5 @@
 -- What is read of reports.
-use Rattle.std.proofs.Common.{◌≡◌, ◌≤◌, ◌-◌, ℕ, zero, suc, List, [], ◌∷◌, map, take, drop, refl, sym, ap, ◌∙◌, arith}
+use Rattle.std.proofs.Common.{◌≡◌, ◌≤◌, ℕ, zero, suc, List, [], ◌∷◌, map, take, drop, refl, sym, ap, ◌∙◌, arith}
 use Rattle.std.specs.Prelude.{Option, Some, None}
 use Rattle.std.specs.List.{slice_range, AllByRecursion}
 use Rattle.mdp_desks.specs.Reports.{Told}
@@ -19,9 +19,6 @@ all_drop : {X : Type 0} (P : X → Type 0) (n : ℕ) (xs : List X) → AllByRecu
 all_drop P zero xs all = all
 all_drop P (suc n) [] all = tt
 all_drop P (suc n) (x ∷ xs) all = all_drop P n xs all.1
-
-pub all_slice : {X : Type 0} (P : X → Type 0) (from to : ℕ) (xs : List X) → AllByRecursion P xs → AllByRecursion P (slice_range xs from to)
-all_slice P from to xs all = all_take P (to - from) (drop from xs) (all_drop P from xs all)
 
 abbrev start_or : Option (ℕ × ℕ) → ℕ
 start_or None = 0

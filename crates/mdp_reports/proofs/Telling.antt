@@ -29,10 +29,6 @@ none_there end slot d is = by_base (nat_lt d.base end.packet) refl
 abbrev pub told_of : EventEnd → List ℕ → List Desk → List Told
 told_of end slots ds = told_by end slots (map (desk_standing end.packet) ds)
 
-no_slots : (end : EventEnd) (slots : List ℕ) → told_by end slots [] ≡ []
-no_slots end [] = refl
-no_slots end (slot ∷ slots) = refl
-
 told_below : (end : EventEnd) (slots : List ℕ) (ds : List Desk) (n : ℕ) → length slots ≡ length ds → ((i : ℕ) → i < n → get_or (all_due_at end.packet ds) i false ≡ false) → told_of end (drop n slots) (drop n ds) ≡ told_of end slots ds
 told_below end slots ds zero many none = refl
 told_below end [] [] (suc n) many none = refl

@@ -43,10 +43,6 @@ at_next : (entries : Entries) (count : ℕ) (listed : List Instrument) (entry : 
 at_next entries count listed entry there are =
     ap (option_and_then (unlisted_after (instruments_in (take count entries)))) there ∙ ap (λ (is : List Instrument). unlisted_after is entry) (sym are)
 
--- no entry yet
-pub lists_none : (entries : Entries) → ListsFront entries 0 []
-lists_none entries = record { are = refl; each = λ place below. absurd (omega (arith, below)) }
-
 -- one entry more
 pub lists_more : (entries : Entries) (count : ℕ) (listed : List Instrument) (entry : Option Instrument) → slice_get entries count ≡ Some entry → unlisted_after listed entry ≡ None
     → ListsFront entries count listed → ListsFront entries (count + 1) (listed_after_line listed entry)

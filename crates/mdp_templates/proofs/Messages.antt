@@ -8,8 +8,8 @@ use Rattle.std.proofs.lemmas.List.Elements.{filter_map-append}
 use Rattle.mdp_sbe.proofs.Framings.{AreMessages-push}
 use Rattle.mdp_sbe.specs.declared.refusal.Refusal.{Refusal}
 use Rattle.mdp_sbe.specs.declared.header.Header.{Header}
-use Rattle.mdp_sbe.specs.Framing.{IsHeader, Parts, BeginsMessage, IsUnframed, AreMessages, AreRefused}
-use Rattle.mdp_sbe.specs.Framing.IsRefusedHere.{unframed, in_message}
+use Rattle.mdp_sbe.specs.Framing.{IsHeader, Parts, BeginsMessage, AreMessages, AreRefused}
+use Rattle.mdp_sbe.specs.Framing.IsRefusedHere.{in_message}
 use Rattle.mdp_templates.specs.declared.quote.Quote.{Quote}
 use Rattle.mdp_templates.specs.declared.fault.Fault.{Fault}
 use Rattle.mdp_templates.specs.declared.fault.Fault.TheVariants as faults
@@ -22,10 +22,6 @@ use Rattle.mdp_templates.specs.Recovery.IsRefusedSnapshot.{in_layout, in_sides}
 use Rattle.mdp_templates.specs.Spans.{AddsOne}
 use Rattle.mdp_templates.specs.Recovery.AreRefusedSnapshots.{in_messages as in_recovery}
 use Rattle.mdp_templates.specs.Snapshot.{SnapshotContent}
-
--- what is left begins no message
-pub refused_framing : {V : Type 0} (IsValue : Parts → V → Type 0) (IsRefused : Parts → Refusal → Type 0) (rest : List ℕ) (values : List V) (here : List ℕ) (r : Refusal) → AreMessages IsValue rest values here → IsUnframed here r → AreRefused IsValue IsRefused rest r
-refused_framing IsValue IsRefused rest values here r so_far bad = record { values = values; here = here; good = so_far; fault = unframed bad }
 
 -- the next message is refused
 pub refused_message : {V : Type 0} (IsValue : Parts → V → Type 0) (IsRefused : Parts → Refusal → Type 0) (rest : List ℕ) (values : List V) (here : List ℕ) (message : Parts) (after : List ℕ) (fault : Fault) → AreMessages IsValue rest values here → BeginsMessage here message after → OnRefusal (IsRefused message) fault → OnRefusal (AreRefused IsValue IsRefused rest) fault

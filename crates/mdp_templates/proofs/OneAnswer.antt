@@ -196,9 +196,6 @@ one_incremental message = one_as (template_of message.template) message
 
 -- ---- a packet
 
-abbrev StartsWell : List ℕ → Header → Type 0
-StartsWell text header = IsHeader text header
-
 short_or_not : (text : List ℕ) → HasOneAnswer (IsHeader text) (λ r. (length text < 12) × (r ≡ refusals.TooShort))
 short_or_not text =
     elim (cases_lt (length text) 12) [

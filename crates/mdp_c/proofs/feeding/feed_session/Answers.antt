@@ -6,6 +6,6 @@ returns c = inl (record {
   told = (c.in-Ok.taken, c.in-Ok.moved);
   taken = c.in-Ok.ensures.taken;
   sound = c.in-Ok.ensures.sound;
-  became = c.tell_became.ensures;
-  status = c.taken_status.ensures;
+  became = c.tell_became.ensures.became;
+  status = c.tell_became.ensures.status;
 })

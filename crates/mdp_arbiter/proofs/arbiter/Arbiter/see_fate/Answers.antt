@@ -1,10 +1,9 @@
-use Rattle.std.proofs.Common.{◌≡◌, ℕ, ◌<◌, ◌∙◌, true, length, arith, refl, rules, ap, sym}
-use Rattle.std.specs.Prelude.{Option, Some, slice_get, if◌then◌else◌}
+use Rattle.std.proofs.Common.{◌≡◌, ℕ, ◌<◌, length, arith, refl, rules}
+use Rattle.std.specs.Prelude.{Some, slice_get}
 use Rattle.std.proofs.lemmas.Int.{to_z-of_z}
 use Rattle.std.proofs.lemmas.Option.{slice_get_within, slice_get_read}
 use mir.Val.{SFits}
 use mir.Syntax.{w32}
-use Rattle.mdp_arbiter.specs.Fates.{fate_among, fate_beside}
 use Rattle.mdp_arbiter.proofs.Fates.{fate_at, fate_unlisted}
 use Rattle.mdp_arbiter.proofs.arbiter.Arbiter.see_fate.Goals as goal
 

@@ -10,7 +10,7 @@ invariant_of-self g c =
     let less = subst (λ (ms : List Bool). c.args.slot < length ms) (sym c.self.view_is) c.requires in
     let wide = c.widened-low.ensures in
     subst (λ (ms : List Bool). AreWithin c.widened-low.result.0 c.widened-low.result.1 ms) (sym (byte_set inside.marks.items c.args.slot))
-    (set_within (marks_in inside.marks.items) inside.low inside.high _ _ c.args.slot c.self.invariant less wide.short wide.low wide.high wide.kept)
+    (set_within (marks_in inside.marks.items) inside.low inside.high _ _ c.args.slot c.self.invariant less wide.short wide.low wide.high wide.kept wide.first)
 
 pub returns : goal.returns
 returns g c = byte_set c.self.inside.marks.items c.args.slot ∙ ap (λ (ms : List Bool). set ms c.args.slot true) c.self.view_is
