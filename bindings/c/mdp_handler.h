@@ -191,10 +191,10 @@ static inline void mdp_handler_free(struct mdp_handler *handler) {
  * but at 0 and 41 nothing changes. At 41 the handle has failed: it takes no more datagrams, and all else is answered as before. */
 static inline uint32_t mdp_handler_datagram(struct mdp_handler *handler, uint32_t feed, const void *bytes, size_t length,
                                             struct mdp_became *became) {
-    const uint8_t none = 0;
     struct mdp_became unread;
     if (!handler || (!bytes && length)) return MDP_OUT_OF_RANGE;
-    return mdp_datagram(handler, feed, bytes ? (const uint8_t *)bytes : &none, length, became ? became : &unread);
+    if (!bytes) bytes = "";
+    return mdp_datagram(handler, feed, (const uint8_t *)bytes, length, became ? became : &unread);
 }
 
 /* Takes in that the channel was closed: no packet passes from now on, and no snapshot counts. 0, 41, 81 or 83. */
