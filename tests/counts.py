@@ -2,10 +2,11 @@
 """Tells how long and how wide the repository's code is: tests/counts.py [COMMIT]
 
 Prints lines of source, of definitions and of proofs; functions with more than 7 parameters; lines past 100 and past 120 columns;
-clauses past 100 columns; definitions with more than 5 arguments, the implicit ones aside; and the longest chain of crates. Tests and
-imports are left out of the counts of columns, and the crates that serve tests and measurements out of all but the lines. Of COMMIT,
-where one is given, else of the files as they lie here.
+clauses past 100 columns; definitions with more than 5 arguments, the implicit ones aside; lemmas that nothing names but the lines that
+begin with their names; and the longest chain of crates. Tests and imports are left out of the counts of columns, and the crates that
+serve tests and measurements out of all but the lines and lemmas. Of COMMIT, where one is given, else of the files as they lie here.
 """
+import collections
 import re
 import subprocess
 import sys
@@ -73,6 +74,16 @@ def arguments(text):
             yield sum(named)
 
 
+def unnamed(texts):
+    """Returns the lemmas that nothing names but the lines that begin with their names."""
+    named = collections.Counter(word for text in texts.values() for word in re.findall(r"[^\s(){}\[\],;.:]+", text))
+    for path, text in texts.items():
+        if part_of(path)[1] == "proofs" and not path.endswith(("/Answers.antt", "/Invariants.antt", "/Proof.antt")):
+            begun = re.findall(r"^(?:abbrev )?(?:pub )?(?:record )?([^\s(){}]+)(?=\s)( :)?", text, re.M)
+            own = collections.Counter(name for name, _ in begun)
+            yield from (name for name in {name for name, colon in begun if colon} if named[name] == own[name])
+
+
 def longest_chain(text):
     """Returns the crates of the longest chain, lowest first."""
     lines = [it.split("#")[0] for it in text.split("\n")]
@@ -115,6 +126,8 @@ def main():
         print(f"{wide[part, 100]} lines of {part} past 100 columns, {wide[part, 120]} past 120")
     print(f"{clauses[0]} of {clauses[1]} clauses begin with a line past 100 columns")
     print(f"{len(long_definitions)} definitions with more than 5 arguments, the most {max(long_definitions, default=5)}")
+    lemmas = sorted(unnamed(texts))
+    print(f"{len(lemmas)} lemmas that nothing names{': ' if lemmas else ''}{' '.join(lemmas)}")
     print(f"{len(chain)} crates in the longest chain: {' '.join(chain)}")
 
 

@@ -9,8 +9,8 @@ use memchr::memchr;
 use std::alloc::Allocator;
 use std::marker::Model;
 
-/// A mark for each of so many places, seen as their list. Those that are set stand from `low`, the first of them, on and
-/// below `high`.
+/// A mark for each of so many places, seen as their list. Those that are set stand from `low` on and below `high`, and the
+/// first of them at `low`.
 #[derive(Drop)]
 pub struct Marked<A: Allocator> {
     // 1 where the mark is set, and 0 where it isn't
