@@ -9,7 +9,7 @@ use memchr::memchr;
 use std::alloc::Allocator;
 use std::marker::Model;
 
-/// A mark for each of so many places, seen as their list. Those that are set stand from `low` on and below `high`, and the
+/// A mark for each of so many places, seen as their list. Those that are set stand from `low` on and below `high`, the
 /// first of them at `low`.
 #[derive(Drop)]
 pub struct Marked<A: Allocator> {
