@@ -508,13 +508,12 @@ fn a_packet_that_came_back_for_want_of_memory_can_be_handed_in_again(
     Ok(())
 }
 
-#[test]
-fn a_packet_that_came_back_for_want_of_memory_gives_no_packet_up(
-    rt: HostRuntime,
+/// Checks that packet 40, which comes back, gives no packet up, and gives them up once it is handed in again.
+fn gives_up_once_kept(
+    rt: &impl Abort,
+    alloc: Global,
+    arbiter: &mut OverRefusing,
 ) -> Result<(), Fail> {
-    let alloc = rt.alloc();
-    let heap = Refusing::new(alloc, 1);
-    let mut arbiter = Arbiter::new(alloc, &near()?, MapWindow::new(&heap, 32), Start::FromOne)?;
     let Put::Memory(far) = arbiter.packet(packet(alloc, 40, 1)?) else {
         return Err("there was memory".into());
     };
@@ -525,6 +524,16 @@ fn a_packet_that_came_back_for_want_of_memory_gives_no_packet_up(
     assert!(rt; is_kept(arbiter.packet(far)));
     assert!(rt; arbiter.lost());
     Ok(())
+}
+
+#[test]
+fn a_packet_that_came_back_for_want_of_memory_gives_no_packet_up(
+    rt: HostRuntime,
+) -> Result<(), Fail> {
+    let alloc = rt.alloc();
+    let heap = Refusing::new(alloc, 1);
+    let mut arbiter = Arbiter::new(alloc, &near()?, MapWindow::new(&heap, 32), Start::FromOne)?;
+    gives_up_once_kept(&rt, alloc, &mut arbiter)
 }
 
 #[test]

@@ -293,11 +293,15 @@ fn lends(rt: &impl Abort, alloc: Global, engine: &mut OverMap, rows: &[Row]) -> 
     Ok(())
 }
 
+/// Does so with both parts of a table.
+fn lends_two_parts(rt: &impl Abort, alloc: Global, engine: &mut OverMap) -> Result<(), Fail> {
+    lends(rt, alloc, engine, &REORDERED[..2])?;
+    lends(rt, alloc, engine, &REORDERED[2..])
+}
+
 #[test]
 fn lends_its_lines_until_they_are_cleared(rt: HostRuntime) -> Result<(), Fail> {
     let alloc = rt.alloc();
     let mut engine = Engine::new(alloc, &near()?, MapWindow::new(alloc, 4), Start::FromOne)?;
-    lends(&rt, alloc, &mut engine, &REORDERED[..2])?;
-    lends(&rt, alloc, &mut engine, &REORDERED[2..])?;
-    Ok(())
+    lends_two_parts(&rt, alloc, &mut engine)
 }

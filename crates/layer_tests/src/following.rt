@@ -100,7 +100,20 @@ fn take_all<A: Allocator + Copy>(
     Ok(())
 }
 
-/// Follows the channel of a capture, feed by feed.
+/// Takes what came on all feeds of a channel, one feed after another, and then its end.
+fn take_channel<A: Allocator + Copy>(
+    alloc: A,
+    handler: &mut Handler<A>,
+    capture: &Capture<A>,
+    followed: &mut Followed<A>,
+) -> Result<(), Memory> {
+    take_all(alloc, handler, Feed::A, capture.a(), followed)?;
+    take_all(alloc, handler, Feed::B, capture.b(), followed)?;
+    take_all(alloc, handler, Feed::S, capture.s(), followed)?;
+    handler.put_end(&mut followed.text)
+}
+
+/// Follows the channel of a capture from a new handler.
 fn follow<A: Allocator + Copy>(alloc: A, capture: &Capture<A>) -> Result<Followed<A>, Memory>
     requires { AreFit capture.now.instruments }
 {
@@ -111,10 +124,7 @@ fn follow<A: Allocator + Copy>(alloc: A, capture: &Capture<A>) -> Result<Followe
         quotes: Vec::new(alloc),
         text: Vec::new(alloc),
     };
-    take_all(alloc, &mut handler, Feed::A, capture.a(), &mut followed)?;
-    take_all(alloc, &mut handler, Feed::B, capture.b(), &mut followed)?;
-    take_all(alloc, &mut handler, Feed::S, capture.s(), &mut followed)?;
-    handler.put_end(&mut followed.text)?;
+    take_channel(alloc, &mut handler, capture, &mut followed)?;
     Ok(followed)
 }
 

@@ -1,4 +1,4 @@
-//! A handler that datagrams are pushed into, one by one, as an embedder does it. The manual shows this code.
+//! A handler that datagrams are pushed into, one by one, as an embedder does it.
 
 ghost use Rattle.std.specs.Prelude.{IfSome};
 ghost use Rattle.mdp_templates.specs.Instrument.{AreFit};
@@ -36,16 +36,26 @@ fn push<A: Allocator + Copy>(
     Ok(())
 }
 
+/// Pushes a capture into a handler, feed by feed, and hands on all lines, the end's too.
+fn push_all<A: Allocator + Copy>(
+    alloc: A,
+    handler: &mut Handler<A>,
+    capture: &Capture<A>,
+    text: &mut Vec<u8, A>,
+) -> Result<(), Memory> {
+    push(alloc, handler, Feed::A, capture.a(), text)?;
+    push(alloc, handler, Feed::B, capture.b(), text)?;
+    push(alloc, handler, Feed::S, capture.s(), text)?;
+    handler.put_end(text)
+}
+
 /// Gives the text that a handler makes of a capture, feed by feed.
 fn text_of<A: Allocator + Copy>(alloc: A, capture: &Capture<A>) -> Result<Vec<u8, A>, Memory>
     requires { AreFit capture.now.instruments }
 {
     let mut handler = Handler::new(alloc, capture.instruments(), 4, Start::FromOne)?;
     let mut text = Vec::new(alloc);
-    push(alloc, &mut handler, Feed::A, capture.a(), &mut text)?;
-    push(alloc, &mut handler, Feed::B, capture.b(), &mut text)?;
-    push(alloc, &mut handler, Feed::S, capture.s(), &mut text)?;
-    handler.put_end(&mut text)?;
+    push_all(alloc, &mut handler, capture, &mut text)?;
     Ok(text)
 }
 
@@ -262,6 +272,17 @@ fn pass_all<A: Allocator + Copy>(
     Ok(passed)
 }
 
+/// Checks that packets pass whose datagrams are of 2,048 bytes, less and more.
+fn passes_each_length<A: Allocator + Copy, T: Abort>(
+    rt: &T,
+    alloc: A,
+    handler: &mut Handler<A>,
+) -> Result<(), Memory> {
+    let lengths = [22, 2047, 2048, 2049, 22, 4096, 2048, 2049];
+    assert_eq!(rt; pass_all(alloc, handler, &lengths)?, lengths.len());
+    Ok(())
+}
+
 #[test]
 fn a_packet_passes_however_long_its_datagram_is(rt: HostRuntime) -> Result<(), Fail> {
     let alloc = rt.alloc();
@@ -269,8 +290,7 @@ fn a_packet_passes_however_long_its_datagram_is(rt: HostRuntime) -> Result<(), F
         return Err("no capture".into());
     };
     let mut handler = Handler::new(alloc, capture.instruments(), 4, Start::FromOne)?;
-    let lengths = [22, 2047, 2048, 2049, 22, 4096, 2048, 2049];
-    assert_eq!(rt; pass_all(alloc, &mut handler, &lengths)?, lengths.len());
+    passes_each_length(&rt, alloc, &mut handler)?;
     Ok(())
 }
 
@@ -406,6 +426,16 @@ fn loses_and_jumps_at_once<A: Allocator + Copy, T: Abort>(
     none_moves(rt, alloc, handler, &[10, 11, 40])
 }
 
+/// Checks both, one after the other.
+fn loses_and_jumps<A: Allocator + Copy, T: Abort>(
+    rt: &T,
+    alloc: A,
+    handler: &mut Handler<A>,
+) -> Result<(), Memory> {
+    loses_and_then_jumps(rt, alloc, handler)?;
+    loses_and_jumps_at_once(rt, alloc, handler)
+}
+
 /// Checks a receiver that joins: it has no loss, and its first jump begins at packet 1.
 fn joins<A: Allocator + Copy, T: Abort>(
     rt: &T,
@@ -434,8 +464,7 @@ fn a_handler_tells_each_loss_and_each_jump(rt: HostRuntime) -> Result<(), Fail> 
         return Err("no capture".into());
     };
     let mut handler = Handler::new(alloc, capture.instruments(), 4, Start::FromOne)?;
-    loses_and_then_jumps(&rt, alloc, &mut handler)?;
-    loses_and_jumps_at_once(&rt, alloc, &mut handler)?;
+    loses_and_jumps(&rt, alloc, &mut handler)?;
     Ok(())
 }
 
