@@ -3,7 +3,7 @@
 # Prints the table of docs/PERFORMANCE.md on a datagram by the library: instructions and nanoseconds of `Handler`, of the calls from C and
 # from Python, and of the plain handler, with lines and with books alone. Needs PROGRAM, the proved build of crates/handler_times, `make
 # library`, cargo, a C compiler and python3, and valgrind for instructions. Exit status 1 where they don't count the same books and bytes.
-#   RUNS=5          how many timed runs of each, by turns
+#   RUNS=5          how many timed runs of each, by turns; of nanoseconds it prints those of the least processor time
 #   SEED=1          the seed of the preset
 # What reading the capture takes is taken off: each program says `nothing`, and of the plain handler a run that is refused after reading.
 # Instructions are of the first 40,000 lines.
@@ -56,12 +56,20 @@ if command -v valgrind > "$tmp/out"; then
         "$(instructions "$tmp/piece" "$built/plain_handler" --books)" "$(instructions "$tmp/piece.late" "$built/plain_handler" --in-order)"
 fi
 count=$(grep -c '^[ABS] ' "$tmp/whole")
-for which in "\`Handler\`:$direct" "from C:$tmp/from_c" "from Python:$here/library_times.py"; do
-    at=${which#*:}
-    "$built/by_turns" "$runs" "$tmp/whole" -- "$at" lines -- "$at" books -- "$at" nothing > "$tmp/seconds" || exit 2
-    # shellcheck disable=SC2046
-    row "${which%%:*}, nanoseconds" "$count" 1e9 $(cut -d' ' -f3 "$tmp/seconds")
-done
+# Runs programs on the whole capture, each with each word, all by turns.
+by_turns() {
+    local at words=()
+    for at in "$@"; do words+=(-- "$at" lines -- "$at" books -- "$at" nothing); done
+    "$built/by_turns" "$runs" "$tmp/whole" "${words[@]}" > "$tmp/seconds" || exit 2
+}
+by_turns "$direct" "$tmp/from_c"
+# shellcheck disable=SC2046
+row "\`Handler\`, nanoseconds" "$count" 1e9 $(head -n 3 "$tmp/seconds" | cut -d' ' -f3)
+# shellcheck disable=SC2046
+row "from C, nanoseconds" "$count" 1e9 $(tail -n 3 "$tmp/seconds" | cut -d' ' -f3)
+by_turns "$here/library_times.py"
+# shellcheck disable=SC2046
+row "from Python, nanoseconds" "$count" 1e9 $(cut -d' ' -f3 "$tmp/seconds")
 "$built/by_turns" "$runs" "$tmp/whole" -- "$built/plain_handler" --in-order -- "$built/plain_handler" --books > "$tmp/seconds" || exit 2
 "$built/by_turns" "$runs" "$tmp/whole.late" -- "$built/plain_handler" --in-order >> "$tmp/seconds" || exit 2
 # shellcheck disable=SC2046

@@ -5,14 +5,14 @@
 #include <stdlib.h>
 #include <string.h>
 
-/* A datagram: its feed, and its bytes, which stand where its digits stood. */
+/* A datagram: its feed, and its bytes. */
 struct datagram {
     uint32_t feed;
     uint8_t *bytes;
     size_t length;
 };
 
-/* A capture: its bytes, and what its lines say. */
+/* A capture: its `I` lines, and the bytes of its datagrams, one behind another as a capture of `Handler` holds them. */
 struct capture {
     char *bytes;
     size_t length;
@@ -39,9 +39,9 @@ static uint8_t digit_of(char c) {
     return (uint8_t)(c <= '9' ? c - '0' : (c | 32) - 'a' + 10);
 }
 
-/* Decodes a datagram's digits where they stand. */
-static size_t decode(char *digits, size_t length) {
-    for (size_t n = 0; n < length / 2; n++) digits[n] = (char)(16 * digit_of(digits[2 * n]) + digit_of(digits[2 * n + 1]));
+/* Decodes digits to bytes that may begin in front of them, or with them. */
+static size_t decode(const char *digits, size_t length, uint8_t *to) {
+    for (size_t n = 0; n < length / 2; n++) to[n] = (uint8_t)(16 * digit_of(digits[2 * n]) + digit_of(digits[2 * n + 1]));
     return length / 2;
 }
 
@@ -52,14 +52,18 @@ static struct capture read_capture(void) {
         capture.bytes = grown(capture.bytes, capture.length + 65535, &room, 1);
         capture.length += count = fread(capture.bytes + capture.length, 1, 65535, stdin);
     } while (count);
+    uint8_t *to = NULL;
     for (char *line = capture.bytes, *all = line + capture.length, *end; line < all; line = end + 1) {
         end = memchr(line, '\n', (size_t)(all - line));
         if (!end) leave("the last line has no end");
-        if (*line == 'I') capture.listing = (size_t)(end + 1 - capture.bytes);
+        if (*line == 'I' && !to) capture.listing = (size_t)(end + 1 - capture.bytes);
         if (!strchr("ABS", *line)) continue;
+        if (!to) to = (uint8_t *)line;
+        const uint32_t feed = *line == 'S' ? MDP_FEED_S : (uint32_t)(*line - 'A');
+        const size_t length = decode(line + 2, (size_t)(end - line - 2), to);
         capture.datagrams = grown(capture.datagrams, capture.count, &most, sizeof(struct datagram));
-        capture.datagrams[capture.count++] = (struct datagram){
-            *line == 'S' ? MDP_FEED_S : (uint32_t)(*line - 'A'), (uint8_t *)line + 2, decode(line + 2, (size_t)(end - line - 2))};
+        capture.datagrams[capture.count++] = (struct datagram){feed, to, length};
+        to += length;
     }
     return capture;
 }
