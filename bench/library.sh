@@ -56,18 +56,16 @@ if command -v valgrind > "$tmp/out"; then
         "$(instructions "$tmp/piece" "$built/plain_handler" --books)" "$(instructions "$tmp/piece.late" "$built/plain_handler" --in-order)"
 fi
 count=$(grep -c '^[ABS] ' "$tmp/whole")
-# Runs programs on the whole capture, each with each word, all by turns.
-by_turns() {
-    local at words=()
-    for at in "$@"; do words+=(-- "$at" lines -- "$at" books -- "$at" nothing); done
-    "$built/by_turns" "$runs" "$tmp/whole" "${words[@]}" > "$tmp/seconds" || exit 2
-}
-by_turns "$direct" "$tmp/from_c"
+# `Handler` and the library by turns, ten handlers a run, so that reading takes a small part of the seconds.
+words=()
+for at in "$direct" "$tmp/from_c"; do words+=(-- "$at" lines 10 -- "$at" books 10 -- "$at" nothing); done
+"$built/by_turns" "$runs" "$tmp/whole" "${words[@]}" > "$tmp/seconds" || exit 2
 # shellcheck disable=SC2046
-row "\`Handler\`, nanoseconds" "$count" 1e9 $(head -n 3 "$tmp/seconds" | cut -d' ' -f3)
+row "\`Handler\`, nanoseconds" "$count" 1e8 $(head -n 3 "$tmp/seconds" | cut -d' ' -f3)
 # shellcheck disable=SC2046
-row "from C, nanoseconds" "$count" 1e9 $(tail -n 3 "$tmp/seconds" | cut -d' ' -f3)
-by_turns "$here/library_times.py"
+row "from C, nanoseconds" "$count" 1e8 $(tail -n 3 "$tmp/seconds" | cut -d' ' -f3)
+at=$here/library_times.py
+"$built/by_turns" "$runs" "$tmp/whole" -- "$at" lines -- "$at" books -- "$at" nothing > "$tmp/seconds" || exit 2
 # shellcheck disable=SC2046
 row "from Python, nanoseconds" "$count" 1e9 $(cut -d' ' -f3 "$tmp/seconds")
 "$built/by_turns" "$runs" "$tmp/whole" -- "$built/plain_handler" --in-order -- "$built/plain_handler" --books > "$tmp/seconds" || exit 2

@@ -1,5 +1,6 @@
 /* Passes what came on a channel to a handler of the library for C, one datagram after another, and lets go after each what it made, as the
- * crate handler_times does without C: library_times lines|books|nothing < capture. With `nothing` the capture is only read. */
+ * crate handler_times does without C: library_times lines|books|nothing [TIMES] < capture. With `nothing` the capture is only read; TIMES
+ * says how many handlers follow it, one after another. */
 #include "mdp_handler.h"
 #include <stdio.h>
 #include <stdlib.h>
@@ -7,9 +8,9 @@
 
 /* A datagram: its feed, and its bytes. */
 struct datagram {
+    const uint8_t *bytes;
+    uint32_t length;
     uint32_t feed;
-    uint8_t *bytes;
-    size_t length;
 };
 
 /* A capture: its `I` lines, and the bytes of its datagrams, one behind another as a capture of `Handler` holds them. */
@@ -62,19 +63,25 @@ static struct capture read_capture(void) {
         const uint32_t feed = *line == 'S' ? MDP_FEED_S : (uint32_t)(*line - 'A');
         const size_t length = decode(line + 2, (size_t)(end - line - 2), to);
         capture.datagrams = grown(capture.datagrams, capture.count, &most, sizeof(struct datagram));
-        capture.datagrams[capture.count++] = (struct datagram){feed, to, length};
+        capture.datagrams[capture.count++] = (struct datagram){to, (uint32_t)length, feed};
         to += length;
     }
     return capture;
 }
 
-static void follow(const struct capture *capture, uint32_t lines) {
+/* What a handler made of a capture. */
+struct counts {
+    uint64_t firsts, jumps, books, bytes;
+};
+
+static struct counts follow(const struct capture *capture, uint32_t lines) {
     struct mdp_handler handler = MDP_HANDLER_CLOSED;
     struct mdp_options options = {sizeof options, 65536, MDP_FROM_ONE, lines, 0};
     struct mdp_lent lent;
     struct mdp_became became;
     uint32_t slots[512];
-    uint64_t count, firsts = 0, jumps = 0, books = 0, bytes = 0;
+    struct counts counts = {0, 0, 0, 0};
+    uint64_t count;
     uint32_t status;
     if (mdp_handler_open_text(&handler, &options, capture->bytes, capture->listing, NULL)) leave("the instruments are refused");
     for (size_t n = 0; n < capture->count; n++) {
@@ -82,25 +89,32 @@ static void follow(const struct capture *capture, uint32_t lines) {
         status = mdp_handler_datagram(&handler, it->feed, it->bytes, it->length, &became);
         if (status == MDP_MEMORY) leave("out of memory");
         if (status == MDP_DONE) {
-            firsts += became.kind == 1 && became.fate == MDP_FIRST;
-            jumps += became.has_jump;
+            counts.firsts += became.kind == 1 && became.fate == MDP_FIRST;
+            counts.jumps += became.has_jump;
         }
         mdp_handler_changed(&handler, slots, 512, &count);
-        mdp_handler_lines(&handler, &lent);
+        counts.books += count;
+        if (lines) {
+            mdp_handler_lines(&handler, &lent);
+            counts.bytes += lent.length;
+        }
         mdp_handler_clear_lines(&handler);
-        books += count;
-        bytes += lent.length;
     }
     mdp_handler_free(&handler);
-    printf("%zu datagrams, %llu first copies, %llu jumps, %llu books, %llu bytes of text\n", capture->count, (unsigned long long)firsts,
-           (unsigned long long)jumps, (unsigned long long)books, (unsigned long long)bytes);
+    return counts;
 }
 
 int main(int count, char **words) {
-    const char *word = count == 2 ? words[1] : "";
+    const char *word = count > 1 ? words[1] : "";
+    const unsigned long times = count > 2 ? strtoul(words[2], NULL, 10) : 1;
     struct capture capture = read_capture();
-    if (!strcmp(word, "lines") || !strcmp(word, "books")) follow(&capture, *word == 'l');
-    else if (strcmp(word, "nothing")) leave("the first argument is lines, books or nothing");
+    if (!strcmp(word, "lines") || !strcmp(word, "books")) {
+        struct counts counts = follow(&capture, *word == 'l');
+        for (unsigned long n = 1; n < times; n++) counts = follow(&capture, *word == 'l');
+        printf("%zu datagrams, %llu first copies, %llu jumps, %llu books, %llu bytes of text\n", capture.count,
+               (unsigned long long)counts.firsts, (unsigned long long)counts.jumps, (unsigned long long)counts.books,
+               (unsigned long long)counts.bytes);
+    } else if (strcmp(word, "nothing")) leave("the first argument is lines, books or nothing");
     free(capture.datagrams);
     free(capture.bytes);
     return 0;

@@ -22,6 +22,6 @@ if word != "nothing":
             firsts += became.fate == Fate.FIRST
             jumps += became.jump is not None
             books += sum(1 for _ in handler.changed())
-            size += len(handler.lines())
+            size += len(handler.lines()) if word == "lines" else 0
             handler.clear_lines()
     print(f"{len(datagrams)} datagrams, {firsts} first copies, {jumps} jumps, {books} books, {size} bytes of text")

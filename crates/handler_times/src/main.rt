@@ -1,7 +1,7 @@
 //! Pushes what came on a channel into a handler, one datagram after another, asks what became of each and what it
 //! moved, and lets go what it made, so that the instructions of a datagram can be counted. A capture comes on standard
 //! input. The first word says what the handler keeps: `lines`, or `books` alone; with `nothing` the capture is only
-//! read.
+//! read. The second says how many handlers follow the capture, one after another: one where it isn't there.
 #![tactic(auto)]
 
 ghost use Rattle.mdp_templates.specs.Instrument.{AreFit};
@@ -40,18 +40,23 @@ fn count_told(counts: Counts, taken: Taken, moved: Moved) -> Counts {
     }
 }
 
-// Counts what a datagram made: the books that were printed and the bytes of text.
-fn count_made(counts: Counts, handler: &Handler<Global>) -> Counts {
+// Counts what a datagram made: the books that were printed and, where lines are kept, the bytes of text.
+fn count_made(counts: Counts, handler: &Handler<Global>, keeps_lines: bool) -> Counts {
     let mut books = counts.books;
     let mut from = 0;
     while let Some(slot) = handler.changed().next_from(from) {
         books = books.saturating_add(1);
         from = slot + 1;
     }
+    let length = if keeps_lines {
+        handler.lines().len()
+    } else {
+        0
+    };
     Counts {
         datagrams: counts.datagrams.saturating_add(1),
         books,
-        bytes: counts.bytes.saturating_add(handler.lines().len() as u64),
+        bytes: counts.bytes.saturating_add(length as u64),
         ..counts
     }
 }
@@ -80,8 +85,25 @@ fn follow(alloc: Global, capture: &Capture<Global>, keeps_lines: bool) -> Result
             }
             None => handler.close()?,
         }
-        counts = count_made(counts, &handler);
+        counts = count_made(counts, &handler, keeps_lines);
         handler.clear_lines();
+    }
+    Ok(counts)
+}
+
+// Pushes the records of a capture into a handler, and then into new ones, so many times in all and once at least. Gives
+// what the last one made.
+fn follow_often(
+    alloc: Global,
+    capture: &Capture<Global>,
+    keeps_lines: bool,
+    times: u32,
+) -> Result<Counts, Memory>
+    requires { AreFit capture.now.instruments }
+{
+    let mut counts = follow(alloc, capture, keeps_lines)?;
+    for _ in 1..times {
+        counts = follow(alloc, capture, keeps_lines)?;
     }
     Ok(counts)
 }
@@ -89,13 +111,17 @@ fn follow(alloc: Global, capture: &Capture<Global>, keeps_lines: bool) -> Result
 fn main(rt: HostRuntime) -> anyhow::Result<()> {
     let alloc = rt.alloc();
     let capture = read_capture(alloc, &mut CountingReader::new(rt.reader()))?;
-    let keeps_lines = match env::args(&rt)?.skip(1).next() {
+    let mut words = env::args(&rt)?.skip(1);
+    let keeps_lines = match words.next() {
         Some(word) if word.as_str() == "lines" => true,
         Some(word) if word.as_str() == "books" => false,
         Some(word) if word.as_str() == "nothing" => return Ok(()),
         _ => bail!("the first word is lines, books or nothing"),
     };
-    let Ok(counts) = follow(alloc, &capture, keeps_lines) else {
+    let Ok(times) = words.next().map_or(Ok(1), |word| word.parse::<u32>()) else {
+        bail!("the second word says how many handlers follow the capture");
+    };
+    let Ok(counts) = follow_often(alloc, &capture, keeps_lines, times) else {
         bail!("out of memory");
     };
     println!(rt;
