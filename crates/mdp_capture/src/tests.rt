@@ -6,13 +6,13 @@ mod instruments;
 mod lanes;
 mod over_threads;
 
-ghost use Rattle.std.specs.Prelude.{None};
+ghost use Rattle.std.specs.Prelude.{◌≡◌, None};
 
 use crate::{
     Capture, CaptureFault, CaptureRefusal, CountedRead, CountingReader, Record, Skip, SkippedLine,
     read_capture,
 };
-use mdp_templates::{InstrumentKind, are_fit};
+use mdp_templates::{Instrument, InstrumentKind, are_fit};
 use std::alloc::Global;
 use std::io;
 use std::process::Abort;
@@ -22,19 +22,59 @@ fn read(alloc: Global, text: &str) -> Result<Capture<Global>, CaptureFault> {
     read_capture(alloc, &mut CountingReader::new(text.as_bytes()))
 }
 
-fn refused(line: u32, refusal: CaptureRefusal) -> Option<CaptureFault> {
-    Some(CaptureFault::Refused { line, refusal })
+/// What a record says: the number of its line, and the bytes of its datagram, or none at a close.
+type Said<'a> = (u32, Option<&'a [u8]>);
+
+// Returns whether a record says this.
+fn is_said(record: &Record<Global>, said: Said<'_>) -> bool {
+    let (line, bytes) = said;
+    record.line() == line && record.bytes() == bytes
 }
 
-fn skipped(line: u32, skip: Skip) -> SkippedLine {
-    SkippedLine { line, skip }
-}
-
-fn has_bytes(record: &Record<Global>, bytes: &[u8]) -> bool {
-    match record.bytes() {
-        Some(found) => found == bytes,
-        None => false,
+// Sees that the records say this, in this order.
+fn are_said(rt: &impl Abort, records: &[Record<Global>], wanted: &[Said<'_>]) {
+    assert_eq!(rt; records.len(), wanted.len());
+    for (record, said) in records.iter().zip(wanted) {
+        assert!(rt; is_said(record, *said));
     }
+}
+
+// Sees that these lines are skipped, in this order, each for this.
+fn are_skipped(rt: &impl Abort, lines: &[SkippedLine], wanted: &[(u32, Skip)]) {
+    assert_eq!(rt; lines.len(), wanted.len());
+    for (line, (number, skip)) in lines.iter().zip(wanted) {
+        assert_eq!(rt; line.line, *number);
+        assert_eq!(rt; line.skip, *skip);
+    }
+}
+
+/// An instrument: its id, its name, what it is, and its depth.
+type Listed<'a> = (i32, &'a str, InstrumentKind, u8);
+
+// Sees that these instruments are listed, in this order.
+fn are_listed(rt: &impl Abort, instruments: &[Instrument], wanted: &[Listed<'_>]) {
+    assert_eq!(rt; instruments.len(), wanted.len());
+    for (instrument, (id, name, kind, depth)) in instruments.iter().zip(wanted) {
+        assert_eq!(rt; instrument.id, *id);
+        assert_eq!(rt; instrument.name.as_str(), *name);
+        assert_eq!(rt; instrument.kind, *kind);
+        assert_eq!(rt; instrument.depth, *depth);
+    }
+    assert!(rt; are_fit(instruments));
+}
+
+// Reads a text that lists so many instruments, and of which these lines are skipped.
+fn skips(
+    rt: &impl Abort,
+    alloc: Global,
+    text: &str,
+    instruments: usize,
+    wanted: &[(u32, Skip)],
+) -> Result<(), CaptureFault> {
+    let capture = read(alloc, text)?;
+    assert_eq!(rt; capture.instruments().len(), instruments);
+    are_skipped(rt, capture.skipped(), wanted);
+    Ok(())
 }
 
 // A text that begins as given and goes on with this many digits.
@@ -49,15 +89,12 @@ fn with_digits(alloc: Global, front: &str, digits: usize) -> Result<String, Fail
 #[test]
 fn reads_one_record(rt: HostRuntime) -> Result<(), Fail> {
     let capture = read(rt.alloc(), "I 1 N O\nA 00")?;
-    assert_eq!(rt; capture.instruments().len(), 1);
-    assert_eq!(rt; capture.instruments()[0].id, 1);
-    assert_eq!(rt; capture.instruments()[0].name.as_str(), "N");
-    assert_eq!(rt; capture.instruments()[0].kind, InstrumentKind::Outright);
-    assert_eq!(rt; capture.a().len(), 1);
-    assert_eq!(rt; capture.a()[0].line(), 2);
-    assert!(rt; has_bytes(&capture.a()[0], &[0u8]));
-    assert!(rt; capture.b().is_empty() && capture.s().is_empty() && capture.skipped().is_empty());
-    assert!(rt; are_fit(capture.instruments()));
+    let instruments = [(1, "N", InstrumentKind::Outright, 10)];
+    are_listed(&rt, capture.instruments(), &instruments);
+    are_said(&rt, capture.a(), &[(2, Some(&[0u8]))]);
+    are_said(&rt, capture.b(), &[]);
+    are_said(&rt, capture.s(), &[]);
+    are_skipped(&rt, capture.skipped(), &[]);
     Ok(())
 }
 
@@ -65,40 +102,42 @@ fn reads_one_record(rt: HostRuntime) -> Result<(), Fail> {
 fn reads_each_kind_of_line(rt: HostRuntime) -> Result<(), Fail> {
     let text =
         "I 1 NEAR O\r\n\nI 2147483647 12345678901234567890 O\nI 3 CAL C 1 2147483647\nA aF\nS 01\nB 0203\nX\n";
-    let capture = read(rt.alloc(), text)?;
-    assert_eq!(rt; capture.instruments().len(), 3);
-    assert_eq!(rt; capture.instruments()[1].id, 2147483647);
-    assert_eq!(rt;
-        capture.instruments()[1].name.as_str(),
-        "12345678901234567890"
-    );
     let spread = InstrumentKind::Calendar {
         leg1: 1,
         leg2: 2147483647,
     };
-    assert_eq!(rt; capture.instruments()[2].kind, spread);
-    assert_eq!(rt; capture.a().len(), 1);
-    assert!(rt; has_bytes(&capture.a()[0], &[175u8]));
-    assert_eq!(rt; capture.b().len(), 1);
-    assert_eq!(rt; capture.b()[0].line(), 7);
-    assert!(rt; has_bytes(&capture.b()[0], &[2u8, 3]));
-    assert_eq!(rt; capture.s().len(), 2);
-    assert_eq!(rt; capture.s()[0].line(), 6);
-    assert_eq!(rt; capture.s()[1].line(), 8);
-    assert!(rt; capture.s()[1].bytes().is_none());
-    assert!(rt; capture.skipped().is_empty());
+    let instruments = [
+        (1, "NEAR", InstrumentKind::Outright, 10),
+        (
+            2147483647,
+            "12345678901234567890",
+            InstrumentKind::Outright,
+            10,
+        ),
+        (3, "CAL", spread, 10),
+    ];
+    let capture = read(rt.alloc(), text)?;
+    are_listed(&rt, capture.instruments(), &instruments);
+    are_said(&rt, capture.a(), &[(5, Some(&[175u8]))]);
+    are_said(&rt, capture.b(), &[(7, Some(&[2u8, 3]))]);
+    are_said(&rt, capture.s(), &[(6, Some(&[1u8])), (8, None)]);
+    are_skipped(&rt, capture.skipped(), &[]);
     Ok(())
 }
 
 #[test]
 fn reads_depths(rt: HostRuntime) -> Result<(), Fail> {
     let text = "I 1 N O 1\nI 2 M O 10\nI 3 L O\nI 4 CAL C 1 2\n";
+    let spread = InstrumentKind::Calendar { leg1: 1, leg2: 2 };
+    let instruments = [
+        (1, "N", InstrumentKind::Outright, 1),
+        (2, "M", InstrumentKind::Outright, 10),
+        (3, "L", InstrumentKind::Outright, 10),
+        (4, "CAL", spread, 10),
+    ];
     let capture = read(rt.alloc(), text)?;
-    assert_eq!(rt; capture.skipped(), [].as_slice());
-    assert_eq!(rt; capture.instruments().len(), 4);
-    for (instrument, depth) in capture.instruments().iter().zip([1, 10, 10, 10].iter()) {
-        assert_eq!(rt; instrument.depth, *depth);
-    }
+    are_listed(&rt, capture.instruments(), &instruments);
+    are_skipped(&rt, capture.skipped(), &[]);
     Ok(())
 }
 
@@ -106,81 +145,90 @@ fn reads_depths(rt: HostRuntime) -> Result<(), Fail> {
 fn skips_other_depths(rt: HostRuntime) -> Result<(), Fail> {
     let text =
         "I 1 N O\nI 2 M O\nI 3 L O 0\nI 3 L O 11\nI 3 L O 05\nI 3 L O 5 5\nI 3 L O \nI 3 S C 1 2 10\n";
-    let capture = read(rt.alloc(), text)?;
-    assert_eq!(rt; capture.instruments().len(), 2);
     let wanted = [
-        skipped(3, Skip::LineForm),
-        skipped(4, Skip::LineForm),
-        skipped(5, Skip::LineForm),
-        skipped(6, Skip::LineForm),
-        skipped(7, Skip::LineForm),
-        skipped(8, Skip::LineForm),
+        (3, Skip::LineForm),
+        (4, Skip::LineForm),
+        (5, Skip::LineForm),
+        (6, Skip::LineForm),
+        (7, Skip::LineForm),
+        (8, Skip::LineForm),
     ];
-    assert_eq!(rt; capture.skipped(), wanted.as_slice());
+    skips(&rt, rt.alloc(), text, 2, &wanted)?;
     Ok(())
 }
 
 #[test]
 fn drops_one_carriage_return(rt: HostRuntime) -> Result<(), Fail> {
-    let capture = read(rt.alloc(), "I 1 N O\nA 00\r\r\n")?;
-    assert_eq!(rt; capture.skipped(), [skipped(2, Skip::Hex)].as_slice());
+    let alloc = rt.alloc();
+    skips(&rt, alloc, "I 1 N O\nA 00\r\r\n", 1, &[(2, Skip::Hex)])?;
     // With no line feed behind it a carriage return belongs to the line.
-    let capture = read(rt.alloc(), "I 1 N O\r\nA 00\r")?;
-    assert_eq!(rt; capture.skipped(), [skipped(2, Skip::Hex)].as_slice());
+    skips(&rt, alloc, "I 1 N O\r\nA 00\r", 1, &[(2, Skip::Hex)])?;
     Ok(())
 }
 
 #[test]
 fn skips_other_forms(rt: HostRuntime) -> Result<(), Fail> {
-    let capture = read(rt.alloc(), "I 1 N O\nA  00\na 00\nX \nA")?;
-    let lines = [
-        skipped(2, Skip::LineForm),
-        skipped(3, Skip::LineForm),
-        skipped(4, Skip::LineForm),
-        skipped(5, Skip::LineForm),
+    let wanted = [
+        (2, Skip::LineForm),
+        (3, Skip::LineForm),
+        (4, Skip::LineForm),
+        (5, Skip::LineForm),
     ];
-    assert_eq!(rt; capture.skipped(), lines.as_slice());
+    skips(&rt, rt.alloc(), "I 1 N O\nA  00\na 00\nX \nA", 1, &wanted)?;
     Ok(())
 }
 
 #[test]
 fn a_skipped_line_makes_no_instrument_late(rt: HostRuntime) -> Result<(), Fail> {
-    let capture = read(rt.alloc(), "A 0\nI 1 N O")?;
-    assert_eq!(rt; capture.instruments().len(), 1);
-    assert_eq!(rt; capture.skipped(), [skipped(1, Skip::Hex)].as_slice());
+    skips(&rt, rt.alloc(), "A 0\nI 1 N O", 1, &[(1, Skip::Hex)])?;
     Ok(())
 }
 
 #[test]
-fn refuses_instruments(rt: HostRuntime) -> Result<(), Fail> {
-    let late = read(rt.alloc(), "I 1 N O\nA 00\nI 1 N O").err();
-    assert_eq!(rt; late, refused(3, CaptureRefusal::InstrumentLate));
-    let same_legs = read(rt.alloc(), "I 1 N O\nI 3 S C 1 1").err();
-    assert_eq!(rt; same_legs, refused(2, CaptureRefusal::UnknownLeg));
-    let same_name = read(rt.alloc(), "I 1 N O\nI 2 N O").err();
-    assert_eq!(rt; same_name, refused(2, CaptureRefusal::DuplicateId));
-    let same_id = read(rt.alloc(), "I 1 NEAR O\nI 1 FAR O").err();
-    assert_eq!(rt; same_id, refused(2, CaptureRefusal::DuplicateId));
-    let none = read(rt.alloc(), "I 01 N O\nI 2147483648 M O").err();
-    assert_eq!(rt; none, refused(0, CaptureRefusal::NoInstrument));
-    let empty = read(rt.alloc(), "").err();
-    assert_eq!(rt; empty, refused(0, CaptureRefusal::NoInstrument));
+fn refuses_instruments(rt: HostRuntime) {
+    let rows = [
+        ("I 1 N O\nA 00\nI 1 N O", 3, CaptureRefusal::InstrumentLate),
+        ("I 1 N O\nI 3 S C 1 1", 2, CaptureRefusal::UnknownLeg),
+        ("I 1 N O\nI 2 N O", 2, CaptureRefusal::DuplicateId),
+        ("I 1 NEAR O\nI 1 FAR O", 2, CaptureRefusal::DuplicateId),
+        (
+            "I 01 N O\nI 2147483648 M O",
+            0,
+            CaptureRefusal::NoInstrument,
+        ),
+        ("", 0, CaptureRefusal::NoInstrument),
+    ];
+    for (text, line, refusal) in rows {
+        let fault = read(rt.alloc(), text).err();
+        assert_eq!(rt; fault, Some(CaptureFault::Refused { line, refusal }));
+    }
+}
+
+// Reads a datagram of so many digits, and sees that it has so many bytes, or that it is skipped for this.
+fn takes_digits(
+    rt: &impl Abort,
+    alloc: Global,
+    digits: usize,
+    wanted: Result<usize, Skip>,
+) -> Result<(), Fail> {
+    let text = with_digits(alloc, "I 1 N O\nA ", digits)?;
+    let capture = read(alloc, text.as_str())?;
+    match wanted {
+        Ok(length) => {
+            assert_eq!(rt; capture.a().len(), 1);
+            let bytes = capture.a()[0].bytes();
+            assert_eq!(rt; bytes.map_or(0, |bytes| bytes.len()), length);
+        }
+        Err(skip) => are_skipped(rt, capture.skipped(), &[(2, skip)]),
+    }
     Ok(())
 }
 
 #[test]
 fn takes_the_longest_datagram(rt: HostRuntime) -> Result<(), Fail> {
-    let text = with_digits(rt.alloc(), "I 1 N O\nA ", 4096)?;
-    let capture = read(rt.alloc(), text.as_str())?;
-    assert_eq!(rt; capture.a().len(), 1);
-    assert_eq!(rt; capture.a()[0].bytes().map_or(0, |bytes| bytes.len()), 2048);
-    let text = with_digits(rt.alloc(), "I 1 N O\nA ", 4097)?;
-    let capture = read(rt.alloc(), text.as_str())?;
-    assert_eq!(rt; capture.skipped(), [skipped(2, Skip::Hex)].as_slice());
-    let text = with_digits(rt.alloc(), "I 1 N O\nA ", 4098)?;
-    let capture = read(rt.alloc(), text.as_str())?;
-    assert_eq!(rt; capture.skipped(), [skipped(2, Skip::TooLong)].as_slice());
-    Ok(())
+    takes_digits(&rt, rt.alloc(), 4096, Ok(2048))?;
+    takes_digits(&rt, rt.alloc(), 4097, Err(Skip::Hex))?;
+    takes_digits(&rt, rt.alloc(), 4098, Err(Skip::TooLong))
 }
 
 #[test]
@@ -189,8 +237,11 @@ fn refuses_the_513th_instrument(rt: HostRuntime) -> Result<(), Fail> {
     for id in 1..=513u32 {
         write!(text, "I {id} N{id} O\n")?;
     }
-    let many = read(rt.alloc(), text.as_str()).err();
-    assert_eq!(rt; many, refused(513, CaptureRefusal::TooMany));
+    let many = CaptureFault::Refused {
+        line: 513,
+        refusal: CaptureRefusal::TooMany,
+    };
+    assert_eq!(rt; read(rt.alloc(), text.as_str()).err(), Some(many));
     Ok(())
 }
 
@@ -255,85 +306,105 @@ impl CountedRead for Slow<'_> {
     }
 }
 
-fn read_slowly(
-    alloc: Global,
-    text: &str,
-    step: usize,
-    fail_at: u64,
-) -> (Result<Capture<Global>, CaptureFault>, u64) {
-    let mut slow = Slow {
+// Gives a text in pieces of this size, and fails at one call.
+fn slow_reader(text: &str, step: usize, fail_at: u64) -> Slow<'_>
+    ensures { result.failures ≡ 0 }
+{
+    Slow {
         text: text.as_bytes(),
         step,
         fail_at,
         failures: 0,
         left: u64::MAX,
-    };
-    let answer = read_capture(alloc, &mut slow);
-    let failures = slow.failures();
-    (answer, failures)
+    }
 }
 
-fn is_same(rt: &impl Abort, one: &[Record<Global>], other: &[Record<Global>]) {
-    assert_eq!(rt; one.len(), other.len());
-    for (x, y) in one.iter().zip(other) {
-        assert_eq!(rt; x.line(), y.line());
-        assert_eq!(rt; x.bytes(), y.bytes());
+// Reads a capture, and answers the fault, if there is one, and how many reads failed.
+fn fault_of(alloc: Global, mut slow: Slow<'_>) -> (Option<CaptureFault>, u64)
+    requires { slow.failures ≡ 0 }
+{
+    let fault = read_capture(alloc, &mut slow).err();
+    (fault, slow.failures())
+}
+
+// Returns whether two records are of one line and say the same.
+fn is_same(one: &Record<Global>, other: &Record<Global>) -> bool {
+    is_said(one, (other.line(), other.bytes()))
+}
+
+// Sees that the records are the same.
+fn are_same_records(rt: &impl Abort, some: &[Record<Global>], others: &[Record<Global>]) {
+    assert_eq!(rt; some.len(), others.len());
+    for (one, other) in some.iter().zip(others) {
+        assert!(rt; is_same(one, other));
     }
+}
+
+/// Sees that two captures list as many instruments, and have the same records and skipped lines.
+fn are_same(rt: &impl Abort, one: &Capture<Global>, other: &Capture<Global>) {
+    assert_eq!(rt; one.instruments().len(), other.instruments().len());
+    are_same_records(rt, one.a(), other.a());
+    are_same_records(rt, one.b(), other.b());
+    are_same_records(rt, one.s(), other.s());
+    assert_eq!(rt; one.skipped(), other.skipped());
+}
+
+// Reads a text in pieces of this size, and sees that the capture is the same.
+fn is_read_slowly(
+    rt: &impl Abort,
+    alloc: Global,
+    at_once: &Capture<Global>,
+    text: &str,
+    step: usize,
+) -> Result<(), CaptureFault> {
+    let slowly = read_capture(alloc, &mut slow_reader(text, step, u64::MAX))?;
+    are_same(rt, at_once, &slowly);
+    Ok(())
 }
 
 const TEXT: &str = "I 1 NEAR O\r\nI 2 FAR O\nI 3 CAL C 1 2\n\nA 0102\nQ\nB ff\nS 7\nX";
 
 #[test]
 fn one_byte_at_a_time_is_the_same(rt: HostRuntime) -> Result<(), Fail> {
+    skips(
+        &rt,
+        rt.alloc(),
+        TEXT,
+        3,
+        &[(6, Skip::LineForm), (8, Skip::Hex)],
+    )?;
     let at_once = read(rt.alloc(), TEXT)?;
-    let (slowly, failures) = read_slowly(rt.alloc(), TEXT, 1, u64::MAX);
-    let slowly = slowly?;
-    assert_eq!(rt; failures, 0);
-    assert_eq!(rt; slowly.instruments().len(), 3);
-    is_same(&rt, at_once.a(), slowly.a());
-    is_same(&rt, at_once.b(), slowly.b());
-    is_same(&rt, at_once.s(), slowly.s());
-    assert_eq!(rt; at_once.skipped(), slowly.skipped());
-    assert_eq!(rt;
-        slowly.skipped(),
-        [skipped(6, Skip::LineForm), skipped(8, Skip::Hex)].as_slice()
-    );
+    is_read_slowly(&rt, rt.alloc(), &at_once, TEXT, 1)?;
     Ok(())
 }
 
 #[test]
-fn a_failed_read_is_told(rt: HostRuntime) -> Result<(), Fail> {
+fn a_failed_read_is_told(rt: HostRuntime) {
     // The last read finds the end.
     let reads = TEXT.len() as u64 + 1;
     for call in 0..reads {
-        let (answer, failures) = read_slowly(rt.alloc(), TEXT, 1, call);
-        assert_eq!(rt; answer.err(), Some(CaptureFault::Input));
-        assert_eq!(rt; failures, 1);
+        let told = fault_of(rt.alloc(), slow_reader(TEXT, 1, call));
+        assert_eq!(rt; told, (Some(CaptureFault::Input), 1));
     }
-    let (answer, failures) = read_slowly(rt.alloc(), TEXT, 1, reads);
-    assert!(rt; answer.is_ok());
-    assert_eq!(rt; failures, 0);
-    Ok(())
+    let told = fault_of(rt.alloc(), slow_reader(TEXT, 1, reads));
+    assert_eq!(rt; told, (None, 0));
 }
 
 #[test]
-fn a_reader_without_reads_fails(rt: HostRuntime) -> Result<(), Fail> {
-    let mut spent = Slow {
-        text: TEXT.as_bytes(),
-        step: 1,
-        fail_at: u64::MAX,
-        failures: 0,
+fn a_reader_without_reads_fails(rt: HostRuntime) {
+    let spent = Slow {
         left: 10,
+        ..slow_reader(TEXT, 1, u64::MAX)
     };
-    assert_eq!(rt;
-        read_capture(rt.alloc(), &mut spent).err(),
-        Some(CaptureFault::Input)
-    );
-    assert_eq!(rt; spent.failures(), 1);
+    let told = fault_of(rt.alloc(), spent);
+    assert_eq!(rt; told, (Some(CaptureFault::Input), 1));
+}
+
+#[test]
+fn a_reader_that_counts_has_no_failure(rt: HostRuntime) {
     let mut counting = CountingReader::new(TEXT.as_bytes());
     assert!(rt; read_capture(rt.alloc(), &mut counting).is_ok());
     assert_eq!(rt; counting.failures(), 0);
-    Ok(())
 }
 
 // Lines that repeat the digits of the line before, or nearly do.
@@ -342,45 +413,42 @@ const REPEATS: &str = concat!(
     "A 00 01\nB 00 01\nA 0001\nB 0002\nB 0002\r\nA 0002\r\nB 00020\nA 00\nC 00\n\nB 00\nB 0"
 );
 
-fn is_record(record: &Record<Global>, line: u32, bytes: &[u8]) -> bool {
-    record.line() == line && has_bytes(record, bytes)
-}
-
 #[test]
 fn a_repeat_is_what_its_line_says(rt: HostRuntime) -> Result<(), Fail> {
     let capture = read(rt.alloc(), REPEATS)?;
-    assert_eq!(rt; capture.a().len(), 5);
-    assert!(rt; is_record(&capture.a()[0], 2, &[10u8, 11]));
-    assert!(rt; is_record(&capture.a()[1], 4, &[10u8, 11]));
-    assert!(rt; is_record(&capture.a()[2], 13, &[0u8, 1]));
-    assert!(rt; is_record(&capture.a()[3], 16, &[0u8, 2]));
-    assert!(rt; is_record(&capture.a()[4], 18, &[0u8]));
-    assert_eq!(rt; capture.b().len(), 4);
-    assert!(rt; is_record(&capture.b()[0], 3, &[10u8, 11]));
-    assert!(rt; is_record(&capture.b()[1], 14, &[0u8, 2]));
-    assert!(rt; is_record(&capture.b()[2], 15, &[0u8, 2]));
-    assert!(rt; is_record(&capture.b()[3], 21, &[0u8]));
-    assert_eq!(rt; capture.s().len(), 3);
-    assert!(rt; is_record(&capture.s()[0], 5, &[10u8, 11]));
-    assert!(rt; capture.s()[1].bytes().is_none());
-    assert!(rt; is_record(&capture.s()[2], 7, &[10u8, 11]));
+    let a: [Said<'_>; 5] = [
+        (2, Some(&[10u8, 11])),
+        (4, Some(&[10u8, 11])),
+        (13, Some(&[0u8, 1])),
+        (16, Some(&[0u8, 2])),
+        (18, Some(&[0u8])),
+    ];
+    are_said(&rt, capture.a(), &a);
+    let b: [Said<'_>; 4] = [
+        (3, Some(&[10u8, 11])),
+        (14, Some(&[0u8, 2])),
+        (15, Some(&[0u8, 2])),
+        (21, Some(&[0u8])),
+    ];
+    are_said(&rt, capture.b(), &b);
+    let s: [Said<'_>; 3] = [(5, Some(&[10u8, 11])), (6, None), (7, Some(&[10u8, 11]))];
+    are_said(&rt, capture.s(), &s);
     Ok(())
 }
 
 #[test]
 fn a_repeat_is_skipped_as_its_line_says(rt: HostRuntime) -> Result<(), Fail> {
-    let capture = read(rt.alloc(), REPEATS)?;
     let lines = [
-        skipped(8, Skip::Hex),
-        skipped(9, Skip::Hex),
-        skipped(10, Skip::LineForm),
-        skipped(11, Skip::LineForm),
-        skipped(12, Skip::LineForm),
-        skipped(17, Skip::Hex),
-        skipped(19, Skip::LineForm),
-        skipped(22, Skip::Hex),
+        (8, Skip::Hex),
+        (9, Skip::Hex),
+        (10, Skip::LineForm),
+        (11, Skip::LineForm),
+        (12, Skip::LineForm),
+        (17, Skip::Hex),
+        (19, Skip::LineForm),
+        (22, Skip::Hex),
     ];
-    assert_eq!(rt; capture.skipped(), lines.as_slice());
+    skips(&rt, rt.alloc(), REPEATS, 1, &lines)?;
     Ok(())
 }
 
@@ -388,12 +456,7 @@ fn a_repeat_is_skipped_as_its_line_says(rt: HostRuntime) -> Result<(), Fail> {
 fn pieces_of_each_size_are_the_same(rt: HostRuntime) -> Result<(), Fail> {
     let at_once = read(rt.alloc(), REPEATS)?;
     for step in 1..=REPEATS.len() {
-        let (slowly, _) = read_slowly(rt.alloc(), REPEATS, step, u64::MAX);
-        let slowly = slowly?;
-        is_same(&rt, at_once.a(), slowly.a());
-        is_same(&rt, at_once.b(), slowly.b());
-        is_same(&rt, at_once.s(), slowly.s());
-        assert_eq!(rt; at_once.skipped(), slowly.skipped());
+        is_read_slowly(&rt, rt.alloc(), &at_once, REPEATS, step)?;
     }
     Ok(())
 }

@@ -6,6 +6,7 @@ use refusing::Refusing;
 use std::alloc::Global;
 use std::io;
 use std::io::ErrorKind;
+use std::process::Abort;
 use std::test::Fail;
 
 // Gives one byte a call, counts its calls, and fails at one of them.
@@ -41,31 +42,43 @@ fn read_once(tired: &mut Tired<'_>) -> (u64, usize, Option<ErrorKind>) {
     (counting.failures(), count, kind)
 }
 
+// Reads four times, of which one call fails: each read is one call.
+fn read_four_times(rt: &impl Abort, kind: ErrorKind, fail_at: u64) {
+    let mut tired = Tired {
+        text: TEXT.as_bytes(),
+        calls: 0,
+        fail_at,
+        kind,
+    };
+    for number in 1..5u64 {
+        let wanted = match number == fail_at {
+            true => (1, 0, Some(kind)),
+            false => (0, 1, None),
+        };
+        assert_eq!(rt; read_once(&mut tired), wanted);
+        assert_eq!(rt; tired.calls, number);
+    }
+}
+
 #[test]
-fn a_read_is_one_call_of_the_reader_inside(rt: HostRuntime) -> Result<(), Fail> {
+fn a_read_is_one_call_of_the_reader_inside(rt: HostRuntime) {
     for kind in [
         ErrorKind::Interrupted,
         ErrorKind::WouldBlock,
         ErrorKind::Other,
     ] {
         for fail_at in 1..5u64 {
-            let mut tired = Tired {
-                text: TEXT.as_bytes(),
-                calls: 0,
-                fail_at,
-                kind,
-            };
-            for number in 1..5u64 {
-                let wanted = match number == fail_at {
-                    true => (1, 0, Some(kind)),
-                    false => (0, 1, None),
-                };
-                assert_eq!(rt; read_once(&mut tired), wanted);
-                assert_eq!(rt; tired.calls, number);
-            }
+            read_four_times(&rt, kind, fail_at);
         }
     }
-    Ok(())
+}
+
+// Returns whether a capture of so many datagrams is read.
+fn is_read(heap: &Refusing<Global>, text: &str, datagrams: u32) -> bool {
+    match read_capture(heap, &mut CountingReader::new(text.as_bytes())) {
+        Ok(capture) => capture.a().len() == datagrams as usize,
+        Err(_) => false,
+    }
 }
 
 // Reads a capture of so many datagrams of two bytes, and returns whether it took an allocation of this number.
@@ -75,10 +88,7 @@ fn takes(alloc: Global, datagrams: u32, number: u64) -> Result<bool, Fail> {
         write!(text, "A {value:04}\n")?;
     }
     let heap = Refusing::new(alloc, number);
-    let is_read = match read_capture(&heap, &mut CountingReader::new(text.as_bytes())) {
-        Ok(capture) => capture.a().len() == datagrams as usize,
-        Err(_) => false,
-    };
+    let is_read = is_read(&heap, text.as_str(), datagrams);
     let is_refused = heap.has_refused();
     if is_read == is_refused {
         return Err("a capture is read unless an allocation is refused".into());

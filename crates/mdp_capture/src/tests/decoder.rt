@@ -8,6 +8,7 @@ use crate::{DecodedLine, LineDecoder};
 use mdp_templates::Feed;
 use refusing::Refusing;
 use std::alloc::{AllocError, Allocator, Global};
+use std::process::Abort;
 use std::test::Fail;
 
 // What a line says, in one word.
@@ -47,9 +48,42 @@ fn decode_again<A: Allocator + Copy>(
     }
 }
 
-// Decodes lines of all kinds, each with the one before at hand, and returns whether memory ran out.
-fn decode_all<A: Allocator + Copy>(alloc: A, too_long: &str) -> Result<bool, Fail> {
-    let rows = [
+/// A line, what it says in one word, and the bytes that it brings, if any are wanted.
+type Told<'a> = (&'a str, &'a str, &'a str);
+
+// Decodes lines, each with the one before at hand, and returns whether memory ran out.
+fn decode_all<A: Allocator + Copy>(alloc: A, lines: &[Told<'_>]) -> Result<bool, Fail> {
+    let mut decoder = LineDecoder::new(alloc);
+    let mut last = "".as_bytes();
+    let mut ran_out = false;
+    for (text, word, wanted) in lines {
+        let (line, failed) = decode_again(&mut decoder, alloc, text.as_bytes(), last)?;
+        if !is_as(&line, decoder.bytes(), word, wanted) {
+            return Err("a line is decoded as another".into());
+        }
+        ran_out |= failed;
+        last = text.as_bytes();
+    }
+    Ok(ran_out)
+}
+
+// Decodes lines with each allocation refused in turn, until none is, and returns how many were.
+fn count_refused(rt: &impl Abort, alloc: Global, lines: &[Told<'_>]) -> Result<u64, Fail> {
+    for number in 1..100u64 {
+        let heap = Refusing::new(alloc, number);
+        let ran_out = decode_all(&heap, lines)?;
+        assert_eq!(rt; ran_out, heap.has_refused());
+        if !ran_out {
+            return Ok(number - 1);
+        }
+    }
+    Err("an allocation is always refused".into())
+}
+
+#[test]
+fn a_decoder_goes_on_after_want_of_memory(rt: HostRuntime) -> Result<(), Fail> {
+    let too_long = with_digits(rt.alloc(), "B ", 4098)?;
+    let lines = [
         ("I 1 N O", "Instrument", ""),
         ("", "Blank", ""),
         ("A 4a4B", "A", "JK"),
@@ -62,38 +96,13 @@ fn decode_all<A: Allocator + Copy>(alloc: A, too_long: &str) -> Result<bool, Fai
         ("A 4a4b", "A", "JK"),
         ("B 4a b", "LineForm", ""),
         ("B 4a4", "Hex", ""),
-        (too_long, "TooLong", ""),
+        (too_long.as_str(), "TooLong", ""),
         ("A 4a4b", "A", "JK"),
         ("B 4a4c", "B", "JL"),
         ("Q", "LineForm", ""),
     ];
-    let mut decoder = LineDecoder::new(alloc);
-    let mut last = "".as_bytes();
-    let mut ran_out = false;
-    for (text, word, wanted) in rows {
-        let (line, failed) = decode_again(&mut decoder, alloc, text.as_bytes(), last)?;
-        if !is_as(&line, decoder.bytes(), word, wanted) {
-            return Err("a line is decoded as another".into());
-        }
-        ran_out |= failed;
-        last = text.as_bytes();
-    }
-    Ok(ran_out)
-}
-
-#[test]
-fn a_decoder_goes_on_after_want_of_memory(rt: HostRuntime) -> Result<(), Fail> {
-    let too_long = with_digits(rt.alloc(), "B ", 4098)?;
-    for number in 1..100u64 {
-        let heap = Refusing::new(rt.alloc(), number);
-        let ran_out = decode_all(&heap, too_long.as_str())?;
-        assert_eq!(rt; ran_out, heap.has_refused());
-        if !ran_out {
-            assert!(rt; number > 3);
-            return Ok(());
-        }
-    }
-    Err("an allocation is always refused".into())
+    assert!(rt; count_refused(&rt, rt.alloc(), &lines)? > 2);
+    Ok(())
 }
 
 // Decodes a datagram by itself, and returns how many bytes it has.

@@ -1,95 +1,103 @@
 //! Instruments that are listed line by line.
 
+use crate::tests::are_listed;
 use crate::{CaptureRefusal, InstrumentList, ListedLine};
+use mdp_templates::InstrumentKind;
 use refusing::Refusing;
-use std::alloc::{AllocError, Allocator, Global};
+use std::alloc::{AllocError, Global};
+use std::process::Abort;
 use std::test::Fail;
 
 // Takes a line, and answers what became of it and how many instruments are listed then.
-fn answer<A: Allocator>(
-    list: &mut InstrumentList<A>,
+fn answer(
+    list: &mut InstrumentList<Global>,
     text: &str,
 ) -> Result<(ListedLine, usize), AllocError> {
     let answer = list.take_line(text.as_bytes())?;
     Ok((answer, list.as_slice().len()))
 }
 
+/// A line, what becomes of it, and how many instruments are listed then.
+type Answered<'a> = (&'a str, ListedLine, usize);
+
+// Takes lines, and sees what becomes of each.
+fn answers(
+    rt: &impl Abort,
+    list: &mut InstrumentList<Global>,
+    lines: &[Answered<'_>],
+) -> Result<(), AllocError> {
+    for (text, became, count) in lines {
+        assert_eq!(rt; answer(list, text)?, (*became, *count));
+    }
+    Ok(())
+}
+
 #[test]
 fn lists_what_is_not_refused(rt: HostRuntime) -> Result<(), Fail> {
-    let mut list = InstrumentList::new(rt.alloc());
-    let rows = [
+    let twice = ListedLine::Refused(CaptureRefusal::DuplicateId);
+    let unknown = ListedLine::Refused(CaptureRefusal::UnknownLeg);
+    let lines = [
         ("I 1 NEAR O", ListedLine::Listed, 1),
-        (
-            "I 1 FAR O",
-            ListedLine::Refused(CaptureRefusal::DuplicateId),
-            1,
-        ),
-        (
-            "I 2 NEAR O",
-            ListedLine::Refused(CaptureRefusal::DuplicateId),
-            1,
-        ),
-        (
-            "I 3 CAL C 1 2",
-            ListedLine::Refused(CaptureRefusal::UnknownLeg),
-            1,
-        ),
+        ("I 1 FAR O", twice, 1),
+        ("I 2 NEAR O", twice, 1),
+        ("I 3 CAL C 1 2", unknown, 1),
         ("I 2 FAR O 5", ListedLine::Listed, 2),
         ("I 3 CAL C 1 2", ListedLine::Listed, 3),
-        (
-            "I 4 TWICE C 1 1",
-            ListedLine::Refused(CaptureRefusal::UnknownLeg),
-            3,
-        ),
-        (
-            "I 4 OVER C 1 3",
-            ListedLine::Refused(CaptureRefusal::UnknownLeg),
-            3,
-        ),
+        ("I 4 TWICE C 1 1", unknown, 3),
+        ("I 4 OVER C 1 3", unknown, 3),
     ];
-    for (text, became, count) in rows {
-        assert_eq!(rt; answer(&mut list, text)?, (became, count));
-    }
-    let instruments = list.into_vec();
-    assert_eq!(rt; instruments.len(), 3);
-    assert_eq!(rt; instruments[0].id, 1);
-    assert_eq!(rt; instruments[1].name.as_str(), "FAR");
-    assert_eq!(rt; instruments[1].depth, 5);
-    assert_eq!(rt; instruments[2].id, 3);
+    let spread = InstrumentKind::Calendar { leg1: 1, leg2: 2 };
+    let instruments = [
+        (1, "NEAR", InstrumentKind::Outright, 10),
+        (2, "FAR", InstrumentKind::Outright, 5),
+        (3, "CAL", spread, 10),
+    ];
+    let mut list = InstrumentList::new(rt.alloc());
+    answers(&rt, &mut list, &lines)?;
+    are_listed(&rt, &list.into_vec(), &instruments);
     Ok(())
 }
 
 #[test]
 fn lists_nothing_of_other_lines(rt: HostRuntime) -> Result<(), Fail> {
+    let lines = [
+        ("", ListedLine::NoSuchLine, 0),
+        ("A 00", ListedLine::NoSuchLine, 0),
+        ("X", ListedLine::NoSuchLine, 0),
+        ("Q", ListedLine::NoSuchLine, 0),
+        ("I", ListedLine::NoSuchLine, 0),
+        ("I 1 N", ListedLine::NoSuchLine, 0),
+        ("I 1 N O 11", ListedLine::NoSuchLine, 0),
+        ("I 1 N O 0", ListedLine::NoSuchLine, 0),
+        ("I 1 N O\r", ListedLine::NoSuchLine, 0),
+    ];
     let mut list = InstrumentList::new(rt.alloc());
-    for text in [
-        "",
-        "A 00",
-        "X",
-        "Q",
-        "I",
-        "I 1 N",
-        "I 1 N O 11",
-        "I 1 N O 0",
-        "I 1 N O\r",
-    ] {
-        assert_eq!(rt; answer(&mut list, text)?, (ListedLine::NoSuchLine, 0));
-    }
+    answers(&rt, &mut list, &lines)?;
     Ok(())
+}
+
+// Lists 512 instruments, and returns whether each was listed.
+fn lists_512(list: &mut InstrumentList<Global>, alloc: Global) -> Result<bool, Fail> {
+    let mut are_listed = true;
+    for id in 1..=512u32 {
+        let text = format!(in alloc; "I {id} N{id} O")?;
+        are_listed &= list.take_line(text.as_bytes())? == ListedLine::Listed;
+    }
+    Ok(are_listed)
 }
 
 #[test]
 fn refuses_the_513th_whatever_it_is(rt: HostRuntime) -> Result<(), Fail> {
     let mut list = InstrumentList::new(rt.alloc());
-    for id in 1..=512u32 {
-        let text = format!(in rt.alloc(); "I {id} N{id} O")?;
-        assert_eq!(rt; list.take_line(text.as_bytes())?, ListedLine::Listed);
-    }
-    let many = (ListedLine::Refused(CaptureRefusal::TooMany), 512);
-    for text in ["I 513 N513 O", "I 1 N1 O", "I 600 CAL C 700 800"] {
-        assert_eq!(rt; answer(&mut list, text)?, many);
-    }
-    assert_eq!(rt; answer(&mut list, "A 00")?, (ListedLine::NoSuchLine, 512));
+    assert!(rt; lists_512(&mut list, rt.alloc())?);
+    let many = ListedLine::Refused(CaptureRefusal::TooMany);
+    let lines = [
+        ("I 513 N513 O", many, 512),
+        ("I 1 N1 O", many, 512),
+        ("I 600 CAL C 700 800", many, 512),
+        ("A 00", ListedLine::NoSuchLine, 512),
+    ];
+    answers(&rt, &mut list, &lines)?;
     Ok(())
 }
 

@@ -4,7 +4,7 @@ ghost use Rattle.std.specs.Prelude.{◌<◌};
 
 use crate::over_threads::take_large_piece;
 use crate::reading::Reading;
-use crate::tests::{REPEATS, TEXT, is_same, read};
+use crate::tests::{REPEATS, TEXT, are_same, read};
 use crate::{Capture, CaptureFault, CaptureRefusal, CountingReader, read_capture_over_threads};
 use refusing::Refusing;
 use std::alloc::{Allocator, Global};
@@ -30,14 +30,6 @@ where
         take_large_piece(rt, alloc, &mut reading, bytes, part)?;
     }
     reading.finish(alloc)
-}
-
-fn are_same(rt: &impl Abort, one: &Capture<Global>, other: &Capture<Global>) {
-    assert_eq!(rt; one.instruments().len(), other.instruments().len());
-    is_same(rt, one.a(), other.a());
-    is_same(rt, one.b(), other.b());
-    is_same(rt, one.s(), other.s());
-    assert_eq!(rt; one.skipped(), other.skipped());
 }
 
 #[test]
@@ -122,47 +114,45 @@ fn threads_read_the_same(rt: HostRuntime) -> Result<(), Fail> {
     Ok(())
 }
 
-// Reads the repeats in parts, and returns whether the allocator refused: then memory ran out, and else all is there.
-fn is_refused(
-    rt: &(impl Abort + Threads + Sync),
+// Reads the repeats in parts, and returns how many records feed A has, and how many lines are skipped.
+fn counts(
+    rt: &(impl Threads + Sync),
     heap: &Refusing<Global>,
     part: usize,
-) -> Result<bool, Fail> {
-    match read_in_parts(rt, heap, REPEATS, REPEATS.len(), part) {
-        Ok(capture) => {
-            assert_eq!(rt; capture.a().len(), 5);
-            assert_eq!(rt; capture.skipped().len(), 8);
-        }
+) -> Result<(usize, usize), CaptureFault> {
+    let capture = read_in_parts(rt, heap, REPEATS, REPEATS.len(), part)?;
+    Ok((capture.a().len(), capture.skipped().len()))
+}
+
+// Reads the repeats in parts, and returns whether the allocator refused: then memory ran out, and else all is there.
+fn is_refused(rt: &(impl Abort + Threads + Sync), heap: &Refusing<Global>, part: usize) -> bool {
+    match counts(rt, heap, part) {
+        Ok(counts) => assert_eq!(rt; counts, (5, 8)),
         Err(fault) => {
             assert!(rt; fault == CaptureFault::Memory);
             assert!(rt; heap.has_refused());
         }
     }
-    Ok(heap.has_refused())
+    heap.has_refused()
 }
 
 // Refuses one allocation after the other, until none is refused, and returns how many were.
-fn count_refused(
-    rt: &(impl Abort + Threads + Sync),
-    alloc: Global,
-    part: usize,
-) -> Result<u64, Fail> {
+fn count_refused(rt: &(impl Abort + Threads + Sync), alloc: Global, part: usize) -> u64 {
     let mut refused = 0u64;
     for number in 1..1000u64 {
         let heap = Refusing::new(alloc, number);
-        if !is_refused(rt, &heap, part)? {
+        if !is_refused(rt, &heap, part) {
             break;
         }
         refused = number;
     }
-    Ok(refused)
+    refused
 }
 
 #[test]
-fn each_allocation_refused_over_threads(rt: HostRuntime) -> Result<(), Fail> {
-    let refused = count_refused(&rt, rt.alloc(), 0)?;
-    assert!(rt; refused > 10 && refused < 999);
-    let refused = count_refused(&rt, rt.alloc(), 30)?;
-    assert!(rt; refused > 10 && refused < 999);
-    Ok(())
+fn each_allocation_refused_over_threads(rt: HostRuntime) {
+    for part in [0, 30] {
+        let refused = count_refused(&rt, rt.alloc(), part);
+        assert!(rt; refused > 10 && refused < 999);
+    }
 }
