@@ -1,5 +1,5 @@
-/* Passes what came on a channel to a handler of the library for C, one datagram after another, and lets go after each what it made, as the
- * crate handler_times does without C: library_times lines|books|nothing [TIMES] < capture. With `nothing` the capture is only read; TIMES
+/* Passes what came on a channel to a handler of the library for C, one datagram after another, and lets go what it made after each that may
+ * have changed a book, as the crate handler_times does without C: library_times lines|books|nothing [TIMES] < capture. With `nothing` the capture is only read; TIMES
  * says how many handlers follow it, one after another. */
 #include "mdp_handler.h"
 #include <stdio.h>
@@ -88,9 +88,11 @@ static struct counts follow(const struct capture *capture, uint32_t lines) {
         const struct datagram *it = &capture->datagrams[n];
         status = mdp_handler_datagram(&handler, it->feed, it->bytes, it->length, &became);
         if (status == MDP_MEMORY) leave("out of memory");
-        if (status == MDP_DONE) {
-            counts.firsts += became.kind == 1 && became.fate == MDP_FIRST;
-            counts.jumps += became.has_jump;
+        if (status != MDP_DONE) continue;
+        counts.jumps += became.has_jump;
+        if (became.kind == 1) {
+            if (became.fate != MDP_FIRST) continue; /* it came before, or too late: no book changed */
+            counts.firsts++;
         }
         mdp_handler_changed(&handler, slots, 512, &count);
         counts.books += count;

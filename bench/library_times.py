@@ -1,6 +1,6 @@
 #!/usr/bin/env python3
-"""Passes what came on a channel to a handler of the library in Python, one datagram after another, and lets go after each what it made, as
-library_times.c does: library_times.py lines|books|nothing < capture. With `nothing` the capture is only read.
+"""Passes what came on a channel to a handler of the library in Python, one datagram after another, and lets go what it made after each that
+may have changed a book, as library_times.c does: library_times.py lines|books|nothing < capture. With `nothing` the capture is only read.
 """
 import sys
 from pathlib import Path
@@ -21,6 +21,8 @@ if word != "nothing":
             became = handler.datagram(feed, payload)
             firsts += became.fate == Fate.FIRST
             jumps += became.jump is not None
+            if became.fate not in (None, Fate.FIRST):
+                continue
             books += sum(1 for _ in handler.changed())
             size += len(handler.lines()) if word == "lines" else 0
             handler.clear_lines()

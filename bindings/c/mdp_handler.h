@@ -62,7 +62,7 @@ enum mdp_start { MDP_FROM_ONE = 0, MDP_JOIN = 1 };
 enum mdp_book { MDP_DIRECT = 0, MDP_IMPLIED = 1, MDP_CONSOLIDATED = 2 };
 enum mdp_side { MDP_BID = 0, MDP_OFFER = 1 };
 
-/* What became of a packet. */
+/* What became of a packet. One that is no first copy changes no book, and adds no line. */
 enum mdp_fate {
     MDP_FIRST = 0,      /* the first copy of its number */
     MDP_REPEAT = 1,     /* a packet of its number waits already */

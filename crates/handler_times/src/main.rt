@@ -1,7 +1,8 @@
 //! Pushes what came on a channel into a handler, one datagram after another, asks what became of each and what it
-//! moved, and lets go what it made, so that the instructions of a datagram can be counted. A capture comes on standard
-//! input. The first word says what the handler keeps: `lines`, or `books` alone; with `nothing` the capture is only
-//! read. The second says how many handlers follow the capture, one after another: one where it isn't there.
+//! moved, and lets go what the handler made, after each datagram that may have changed a book, so that the instructions
+//! of a datagram can be counted. A capture comes on standard input. The first word says what the handler keeps: `lines`,
+//! or `books` alone; with `nothing` the capture is only read. The second says how many handlers follow the capture, one
+//! after another: one where it isn't there.
 #![tactic(auto)]
 
 ghost use Rattle.mdp_templates.specs.Instrument.{AreFit};
@@ -29,11 +30,21 @@ struct Counts {
     bytes: u64,
 }
 
-// Counts what became of a datagram: whether it was the first copy of its packet, and whether recovery went on at
+// Returns whether a datagram may have changed a book. A packet that came before, or too late, changes none.
+fn may_change(taken: Taken) -> bool {
+    match taken {
+        Taken::Packet(fate) => fate == PacketFate::First,
+        Taken::Snapshots(_) => true,
+        Taken::Refused(_) => false,
+    }
+}
+
+// Counts a datagram and what became of it: whether it was the first copy of its packet, and whether recovery went on at
 // another number.
 fn count_told(counts: Counts, taken: Taken, moved: Moved) -> Counts {
     let is_first = taken == Taken::Packet(PacketFate::First);
     Counts {
+        datagrams: counts.datagrams.saturating_add(1),
         firsts: counts.firsts.saturating_add(u64::from(is_first)),
         jumps: counts.jumps.saturating_add(u64::from(moved.jump.is_some())),
         ..counts
@@ -54,7 +65,6 @@ fn count_made(counts: Counts, handler: &Handler<Global>, keeps_lines: bool) -> C
         0
     };
     Counts {
-        datagrams: counts.datagrams.saturating_add(1),
         books,
         bytes: counts.bytes.saturating_add(length as u64),
         ..counts
@@ -78,15 +88,16 @@ fn follow(alloc: Global, capture: &Capture<Global>, keeps_lines: bool) -> Result
     };
     let mut feeds = Feeds::of(capture);
     while let Some((feed, record)) = feeds.next_by_line() {
-        match record.bytes() {
-            Some(bytes) => {
-                let (taken, moved) = handler.datagram_with_moves(alloc, feed, bytes)?;
-                counts = count_told(counts, taken, moved);
-            }
-            None => handler.close()?,
+        let Some(bytes) = record.bytes() else {
+            handler.close()?;
+            continue;
+        };
+        let (taken, moved) = handler.datagram_with_moves(alloc, feed, bytes)?;
+        counts = count_told(counts, taken, moved);
+        if may_change(taken) {
+            counts = count_made(counts, &handler, keeps_lines);
+            handler.clear_lines();
         }
-        counts = count_made(counts, &handler, keeps_lines);
-        handler.clear_lines();
     }
     Ok(counts)
 }
