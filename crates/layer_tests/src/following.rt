@@ -113,18 +113,29 @@ fn take_channel<A: Allocator + Copy>(
     handler.put_end(&mut followed.text)
 }
 
-/// Follows the channel of a capture from a new handler.
-fn follow<A: Allocator + Copy>(alloc: A, capture: &Capture<A>) -> Result<Followed<A>, Memory>
+/// Takes the channel of a capture by a new handler.
+fn take_by_new<A: Allocator + Copy>(
+    alloc: A,
+    capture: &Capture<A>,
+    followed: &mut Followed<A>,
+) -> Result<(), Memory>
     requires { AreFit capture.now.instruments }
 {
     let mut handler = Handler::new(alloc, capture.instruments(), 4, Start::FromOne)?;
+    take_channel(alloc, &mut handler, capture, followed)
+}
+
+/// Follows the channel of a capture.
+fn follow<A: Allocator + Copy>(alloc: A, capture: &Capture<A>) -> Result<Followed<A>, Memory>
+    requires { AreFit capture.now.instruments }
+{
     let mut followed = Followed {
         moves: Vec::new(alloc),
         refused: Vec::new(alloc),
         quotes: Vec::new(alloc),
         text: Vec::new(alloc),
     };
-    take_channel(alloc, &mut handler, capture, &mut followed)?;
+    take_by_new(alloc, capture, &mut followed)?;
     Ok(followed)
 }
 

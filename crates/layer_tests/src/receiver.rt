@@ -49,13 +49,24 @@ fn push_all<A: Allocator + Copy>(
     handler.put_end(text)
 }
 
+/// Appends the text that a handler makes of a capture, feed by feed.
+fn put_text<A: Allocator + Copy>(
+    alloc: A,
+    capture: &Capture<A>,
+    text: &mut Vec<u8, A>,
+) -> Result<(), Memory>
+    requires { AreFit capture.now.instruments }
+{
+    let mut handler = Handler::new(alloc, capture.instruments(), 4, Start::FromOne)?;
+    push_all(alloc, &mut handler, capture, text)
+}
+
 /// Gives the text that a handler makes of a capture, feed by feed.
 fn text_of<A: Allocator + Copy>(alloc: A, capture: &Capture<A>) -> Result<Vec<u8, A>, Memory>
     requires { AreFit capture.now.instruments }
 {
-    let mut handler = Handler::new(alloc, capture.instruments(), 4, Start::FromOne)?;
     let mut text = Vec::new(alloc);
-    push_all(alloc, &mut handler, capture, &mut text)?;
+    put_text(alloc, capture, &mut text)?;
     Ok(text)
 }
 
@@ -194,14 +205,25 @@ fn tells_of_each<A: Allocator + Copy, T: Abort>(
     all_become(rt, alloc, handler, capture.a(), PacketFate::AfterClose)
 }
 
+/// Checks so with a new handler.
+fn new_tells_of_each<A: Allocator + Copy, T: Abort>(
+    rt: &T,
+    alloc: A,
+    capture: &Capture<A>,
+) -> Result<(), Memory>
+    requires { AreFit capture.now.instruments }
+{
+    let mut handler = Handler::new(alloc, capture.instruments(), 4, Start::FromOne)?;
+    tells_of_each(rt, alloc, &mut handler, capture)
+}
+
 #[test]
 fn a_handler_tells_what_became_of_each_datagram(rt: HostRuntime) -> Result<(), Fail> {
     let alloc = rt.alloc();
     let Some(capture) = recovery(alloc) else {
         return Err("no capture".into());
     };
-    let mut handler = Handler::new(alloc, capture.instruments(), 4, Start::FromOne)?;
-    tells_of_each(&rt, alloc, &mut handler, &capture)?;
+    new_tells_of_each(&rt, alloc, &capture)?;
     Ok(())
 }
 
@@ -225,16 +247,37 @@ fn books_stand<A: Allocator + Copy, T: Abort>(rt: &T, handler: &Handler<A>) -> R
     Ok(())
 }
 
+/// Checks the books before anything came, and after a recovery.
+fn lends_books<A: Allocator + Copy, T: Abort>(
+    rt: &T,
+    alloc: A,
+    handler: &mut Handler<A>,
+    capture: &Capture<A>,
+) -> Result<(), Fail> {
+    assert!(rt; handler.is_current(0) && handler.best(3).is_none());
+    recovers(rt, alloc, handler, capture)?;
+    books_stand(rt, handler)
+}
+
+/// Checks so with a new handler.
+fn new_lends_books<A: Allocator + Copy, T: Abort>(
+    rt: &T,
+    alloc: A,
+    capture: &Capture<A>,
+) -> Result<(), Fail>
+    requires { AreFit capture.now.instruments }
+{
+    let mut handler = Handler::new(alloc, capture.instruments(), 4, Start::FromOne)?;
+    lends_books(rt, alloc, &mut handler, capture)
+}
+
 #[test]
 fn a_handler_lends_the_books_as_they_stand(rt: HostRuntime) -> Result<(), Fail> {
     let alloc = rt.alloc();
     let Some(capture) = recovery(alloc) else {
         return Err("no capture".into());
     };
-    let mut handler = Handler::new(alloc, capture.instruments(), 4, Start::FromOne)?;
-    assert!(rt; handler.is_current(0) && handler.best(3).is_none());
-    recovers(&rt, alloc, &mut handler, &capture)?;
-    books_stand(&rt, &handler)
+    new_lends_books(&rt, alloc, &capture)
 }
 
 /// Fills a text with one message that is stepped over, behind the header of a packet of this number.
@@ -283,14 +326,25 @@ fn passes_each_length<A: Allocator + Copy, T: Abort>(
     Ok(())
 }
 
+/// Checks so with a new handler.
+fn new_passes_each_length<A: Allocator + Copy, T: Abort>(
+    rt: &T,
+    alloc: A,
+    capture: &Capture<A>,
+) -> Result<(), Memory>
+    requires { AreFit capture.now.instruments }
+{
+    let mut handler = Handler::new(alloc, capture.instruments(), 4, Start::FromOne)?;
+    passes_each_length(rt, alloc, &mut handler)
+}
+
 #[test]
 fn a_packet_passes_however_long_its_datagram_is(rt: HostRuntime) -> Result<(), Fail> {
     let alloc = rt.alloc();
     let Some(capture) = recovery(alloc) else {
         return Err("no capture".into());
     };
-    let mut handler = Handler::new(alloc, capture.instruments(), 4, Start::FromOne)?;
-    passes_each_length(&rt, alloc, &mut handler)?;
+    new_passes_each_length(&rt, alloc, &capture)?;
     Ok(())
 }
 
@@ -457,15 +511,38 @@ fn joins<A: Allocator + Copy, T: Abort>(
     Ok(())
 }
 
+/// Checks so with a new handler.
+fn new_loses_and_jumps<A: Allocator + Copy, T: Abort>(
+    rt: &T,
+    alloc: A,
+    capture: &Capture<A>,
+) -> Result<(), Memory>
+    requires { AreFit capture.now.instruments }
+{
+    let mut handler = Handler::new(alloc, capture.instruments(), 4, Start::FromOne)?;
+    loses_and_jumps(rt, alloc, &mut handler)
+}
+
 #[test]
 fn a_handler_tells_each_loss_and_each_jump(rt: HostRuntime) -> Result<(), Fail> {
     let alloc = rt.alloc();
     let Some(capture) = recovery(alloc) else {
         return Err("no capture".into());
     };
-    let mut handler = Handler::new(alloc, capture.instruments(), 4, Start::FromOne)?;
-    loses_and_jumps(&rt, alloc, &mut handler)?;
+    new_loses_and_jumps(&rt, alloc, &capture)?;
     Ok(())
+}
+
+/// Checks so with a new handler.
+fn new_joins<A: Allocator + Copy, T: Abort>(
+    rt: &T,
+    alloc: A,
+    capture: &Capture<A>,
+) -> Result<(), Memory>
+    requires { AreFit capture.now.instruments }
+{
+    let mut handler = Handler::new(alloc, capture.instruments(), 4, Start::Join)?;
+    joins(rt, alloc, &mut handler)
 }
 
 #[test]
@@ -474,7 +551,6 @@ fn a_handler_that_joins_tells_its_first_jump(rt: HostRuntime) -> Result<(), Fail
     let Some(capture) = recovery(alloc) else {
         return Err("no capture".into());
     };
-    let mut handler = Handler::new(alloc, capture.instruments(), 4, Start::Join)?;
-    joins(&rt, alloc, &mut handler)?;
+    new_joins(&rt, alloc, &capture)?;
     Ok(())
 }

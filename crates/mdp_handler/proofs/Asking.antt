@@ -1,18 +1,12 @@
 -- What the settings ask for, and the channel that a file says.
-use Rattle.std.proofs.Common.{◌≡◌, ◌<◌, ◌+◌, ℕ, Bool, true, false, List, [], ◌∷◌, length, Option, Some, None, Result, Ok, Err, inl, inr, refl, sym, ap, subst, ◌∙◌, arith}
-use Rattle.std.specs.Prelude.{◌==◌, IsSome, codes}
-use Rattle.std.proofs.lemmas.Bool.Decides.{nat_tests}
+use Rattle.std.proofs.Common.{◌≡◌, Bool, true, false, List, Option, Some, None, inl, inr, refl, subst}
+use Rattle.std.specs.Prelude.{IsSome, codes}
 use denote.Ref.{Bor}
 use Rattle.clap.specs.Words.{Text}
-use Rattle.mdp_channel.specs.Channel.{ChannelContent, IsAnswer, channel_of, whole}
-use Rattle.mdp_channel.specs.ChannelLine.{channel_lines}
-use Rattle.mdp_channel.specs.Channel.IsAnswer.{at_end, at_line}
-use Rattle.mdp_channel.specs.declared.fault.ChannelFault.{ChannelFault}
+use Rattle.mdp_channel.specs.Channel.{whole}
 use Rattle.mdp_channel.specs.declared.fault.ChannelFault.TheVariants as faults
-use Rattle.mdp_pcap.specs.declared.addresses.FeedAddress.{FeedAddress}
-use Rattle.mdp_templates.specs.declared.instrument.Instrument.{Instrument}
 use Rattle.mdp_handler.specs.CommandLine.{AreSettings, AsksForPieces, IsFlag, IsText}
-use Rattle.mdp_handler.specs.Outcome.{Way, way_asked, way_of}
+use Rattle.mdp_handler.specs.Outcome.{way_asked, way_of}
 use Rattle.mdp_handler.specs.Outcome.Way.{Whole}
 use Rattle.mdp_handler.specs.declared.settings.Settings.{Settings}
 

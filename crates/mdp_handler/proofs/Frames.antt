@@ -3,7 +3,6 @@ use Rattle.std.proofs.Common.{◌≡◌, ◌<◌, ◌+◌, ◌-◌, ℕ, List, [
 use Rattle.std.specs.Prelude.{◌==◌, ◌&&◌, if◌then◌else◌}
 use Rattle.std.proofs.lemmas.Bool.Decides.{nat_tests}
 use Rattle.std.specs.List.{flat_map}
-use Rattle.std.specs.Io.KnownBytes.{Consumes}
 use Rattle.mdp_arbiter.specs.Channel.{ListedChannel, channel_of}
 use Rattle.mdp_arbiter.specs.declared.arbiter.Standing.{Standing}
 use Rattle.mdp_capture.specs.Lines.{NumberedLine}

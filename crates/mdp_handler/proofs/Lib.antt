@@ -1,5 +1,6 @@
 mod Names
 mod Numbers
+mod Printing
 mod Asking
 pub mod Telling
 pub mod GoingOut

@@ -1,14 +1,17 @@
 //! What stands for files and streams in tests.
 
-ghost use Rattle.std.specs.Prelude.{◌≡◌};
+ghost use Rattle.std.specs.Prelude.{◌≡◌, ◌<◌, ◌-◌, ◌^◌};
 ghost use Rattle.mdp_capture.specs.CountedRead.{failures_of};
 
 use crate::files::{FileFault, ReadsFiles};
-use crate::program::Streams;
-use mdp_capture::CountingReader;
+use crate::program::{Streams, program};
+use mdp_capture::{CountedRead, CountingReader};
 use std::alloc::{Allocator, Global};
 use std::io;
 use std::io::{ErrorKind, Read};
+use std::process::Abort;
+use std::sync::Wait;
+use std::thread::Threads;
 use worked_runs::Kept;
 
 /// No file can be read.
@@ -82,12 +85,12 @@ impl<'a> Read for Pieces<'a> {
     }
 }
 
-/// Makes the streams of a run from this reader to this writer, and keeps what it tells.
-pub fn streams_over<R: Read + Drop>(
+// Makes the streams of a run from this reader to this writer, and keeps what it tells.
+fn streams_over<I: Read + Drop>(
     alloc: Global,
-    reader: R,
+    reader: I,
     output: Kept,
-) -> Streams<CountingReader<R>, Kept, Kept>
+) -> Streams<CountingReader<I>, Kept, Kept>
     ensures input { failures_of result.input ≡ 0 }
     ensures output { result.output ≡ output }
 {
@@ -95,5 +98,56 @@ pub fn streams_over<R: Read + Drop>(
         input: CountingReader::new(reader),
         output,
         faults: Kept::new(alloc),
+    }
+}
+
+/// What a run came to.
+#[derive(Drop)]
+pub struct Ended {
+    pub status: u8,
+    /// What was printed.
+    pub output: Kept,
+    /// What was told of faults.
+    pub faults: Kept,
+    /// How many reads failed.
+    pub failed_reads: u64,
+}
+
+impl Ended {
+    /// Sees that a run came to this status, that this was printed, and that this was told.
+    pub fn sees(&self, rt: &impl Abort, status: u8, text: &[u8], told: &[u8]) {
+        assert_eq!(rt; self.status, status);
+        assert_eq!(rt; self.output.bytes.as_slice(), text);
+        assert_eq!(rt; self.faults.bytes.as_slice(), told);
+    }
+}
+
+/// Runs the program from this reader to this writer. No test calls it otherwise: what it ensures is
+/// then no part of what their proofs have to go through.
+pub fn run_program<R, L, I, A>(
+    rt: &R,
+    files: &L,
+    alloc: Global,
+    heap: A,
+    words: &[&str],
+    reader: I,
+    output: Kept,
+) -> Ended
+where
+    R: Threads + Wait + Sync,
+    L: ReadsFiles,
+    I: Read + Drop,
+    A: Allocator + Copy + Send + Sync,
+    requires { output.failures < 2 ^ 64 - 1 }
+{
+    let mut streams = streams_over(alloc, reader, output);
+    let status = program(rt, files, alloc, heap, words, &mut streams);
+    let failed_reads = streams.input.failures();
+    let Streams { output, faults, .. } = streams;
+    Ended {
+        status,
+        output,
+        faults,
+        failed_reads,
     }
 }

@@ -1,7 +1,6 @@
 //! Each write of a run failing in turn, in each way, alone and where memory runs out too.
 
-use crate::doubles::{NoFiles, streams_over};
-use crate::program::{Streams, program};
+use crate::doubles::{Ended, NoFiles, run_program};
 use refusing::Refusing;
 use std::alloc::Global;
 use std::io::ErrorKind;
@@ -21,13 +20,11 @@ const FAILURES: [Failure; 3] = [
     Failure::NoByte,
 ];
 
-// Tells what is told of a write that failed behind so many bytes.
-fn told(alloc: Global, written: usize) -> Result<Vec<u8>, Fail> {
-    let mut text = Vec::new(alloc);
-    text.extend_from_slice(b"42 Output after ")?;
-    text.extend_from_slice(written.to_string(alloc)?.as_bytes())?;
-    text.extend_from_slice(b" bytes\n")?;
-    Ok(text)
+// Returns whether a run tells that a write failed, and how many bytes went out.
+fn tells_what_went_out(alloc: Global, ended: &Ended) -> Result<bool, Fail> {
+    let written = ended.output.bytes.len();
+    let text = format!(in alloc; "42 Output after {written} bytes\n")?;
+    Ok(ended.faults.bytes.as_slice() == text.as_bytes())
 }
 
 // Runs with each call of the writer failing in turn, until none does.
@@ -41,20 +38,17 @@ fn fail_each<R: Threads + Wait + Sync + Abort>(
 ) -> Result<(), Fail> {
     for call in 1..1000u64 {
         let output = Kept::slow(alloc, PIECE, call, failure);
-        let mut streams = streams_over(alloc, capture, output);
-        let status = program(rt, &NoFiles, alloc, alloc, words, &mut streams);
-        let Streams { output, faults, .. } = streams;
-        if output.failures == 0 {
-            assert_eq!(rt; status, 0);
-            assert_eq!(rt; output.bytes.as_slice(), wanted);
+        let ended = run_program(rt, &NoFiles, alloc, alloc, words, capture, output);
+        if ended.output.failures == 0 {
+            assert_eq!(rt; ended.status, 0);
+            assert_eq!(rt; ended.output.bytes.as_slice(), wanted);
             assert!(rt; call > 5);
             return Ok(());
         }
-        assert_eq!(rt; status, 1);
-        assert_eq!(rt; output.calls, call);
-        assert!(rt; wanted.starts_with(&output.bytes));
-        let text = told(alloc, output.bytes.len())?;
-        assert_eq!(rt; faults.bytes.as_slice(), text.as_slice());
+        assert_eq!(rt; ended.status, 1);
+        assert_eq!(rt; ended.output.calls, call);
+        assert!(rt; wanted.starts_with(&ended.output.bytes));
+        assert!(rt; tells_what_went_out(alloc, &ended)?);
     }
     Err("no run without a failed write".into())
 }
@@ -88,17 +82,14 @@ fn a_failed_write_goes_before_want_of_memory(rt: HostRuntime) -> Result<(), Fail
     for number in 1..10_000u64 {
         let heap = Refusing::new(alloc, number);
         let output = Kept::slow(alloc, PIECE, 2, Failure::NoByte);
-        let mut streams = streams_over(alloc, SPREAD, output);
         let words = ["mdp_handler", "--workers=2"];
-        let status = program(&rt, &NoFiles, alloc, &heap, &words, &mut streams);
-        let Streams { output, faults, .. } = streams;
-        assert_eq!(rt; status, 1);
-        if output.failures == 0 {
-            assert_eq!(rt; faults.bytes.as_slice(), b"41 Memory\n".as_slice());
+        let ended = run_program(&rt, &NoFiles, alloc, &heap, &words, SPREAD, output);
+        assert_eq!(rt; ended.status, 1);
+        if ended.output.failures == 0 {
+            assert_eq!(rt; ended.faults.bytes.as_slice(), b"41 Memory\n".as_slice());
             continue;
         }
-        let text = told(alloc, output.bytes.len())?;
-        assert_eq!(rt; faults.bytes.as_slice(), text.as_slice());
+        assert!(rt; tells_what_went_out(alloc, &ended)?);
         if !heap.has_refused() {
             assert!(rt; met_both);
             return Ok(());

@@ -7,8 +7,7 @@ mod faults;
 mod frames;
 mod notes;
 
-use crate::doubles::{OneFile, Pieces, streams_over};
-use crate::program::{Streams, program};
+use crate::doubles::{OneFile, Pieces, run_program};
 use frames::recording_of;
 use refusing::Refusing;
 use std::alloc::{Allocator, Global};
@@ -111,13 +110,11 @@ fn run_over<R: Threads + Wait + Sync, A: Allocator + Copy + Send + Sync>(
         pieces,
         reads: &mut reads,
     };
-    let mut streams = streams_over(alloc, reader, output);
-    let status = program(rt, &file, alloc, heap, WORDS, &mut streams);
-    let Streams { output, faults, .. } = streams;
+    let ended = run_program(rt, &file, alloc, heap, WORDS, reader, output);
     Ended {
-        status,
-        output,
-        told: faults.bytes,
+        status: ended.status,
+        output: ended.output,
+        told: ended.faults.bytes,
         reads,
     }
 }

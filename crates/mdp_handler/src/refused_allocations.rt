@@ -1,7 +1,6 @@
 //! Each allocation of a run refused in turn: what went out is a beginning of the run's text.
 
-use crate::doubles::{NoFiles, streams_over};
-use crate::program::program;
+use crate::doubles::{NoFiles, run_program};
 use refusing::Refusing;
 use std::alloc::Global;
 use std::process::Abort;
@@ -20,17 +19,16 @@ fn refuse_each<R: Threads + Wait + Sync + Abort>(
 ) -> Result<u64, Fail> {
     for number in 1..10_000u64 {
         let heap = Refusing::new(alloc, number);
-        let mut streams = streams_over(alloc, capture, Kept::new(alloc));
-        let status = program(rt, &NoFiles, alloc, &heap, words, &mut streams);
-        let printed = streams.output.bytes.as_slice();
+        let output = Kept::new(alloc);
+        let ended = run_program(rt, &NoFiles, alloc, &heap, words, capture, output);
         if !heap.has_refused() {
-            assert_eq!(rt; status, 0);
-            assert_eq!(rt; printed, wanted);
+            assert_eq!(rt; ended.status, 0);
+            assert_eq!(rt; ended.output.bytes.as_slice(), wanted);
             return Ok(number - 1);
         }
-        assert_eq!(rt; status, 1);
-        assert_eq!(rt; streams.faults.bytes.as_slice(), b"41 Memory\n".as_slice());
-        assert!(rt; wanted.starts_with(printed));
+        assert_eq!(rt; ended.status, 1);
+        assert_eq!(rt; ended.faults.bytes.as_slice(), b"41 Memory\n".as_slice());
+        assert!(rt; wanted.starts_with(&ended.output.bytes));
     }
     Err("no run without a refused allocation".into())
 }

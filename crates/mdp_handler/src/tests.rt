@@ -2,12 +2,10 @@
 
 ghost use Rattle.std.specs.Prelude.{◌<◌, ◌-◌, ◌^◌};
 
-use crate::doubles::{NoFiles, streams_over};
-use crate::program::program;
+use crate::doubles::{Ended, NoFiles, run_program};
 use crate::settings::{Settings, read_settings};
 use clap::error::ErrorKind as ClapKind;
 use mdp_arbiter::Start;
-use mdp_capture::CountedRead;
 use refusing::Refusing;
 use std::alloc::Global;
 use std::io;
@@ -48,7 +46,6 @@ impl<'a> Read for Halting<'a> {
 #[test]
 fn a_failed_read_prints_nothing(rt: HostRuntime) -> Result<(), Fail> {
     let alloc = rt.alloc();
-    let mut failed = 0u64;
     for fail_at in 1..100u64 {
         let reader = Halting {
             rest: PLAIN,
@@ -56,134 +53,120 @@ fn a_failed_read_prints_nothing(rt: HostRuntime) -> Result<(), Fail> {
             calls: 0,
             fail_at,
         };
-        let mut streams = streams_over(alloc, reader, Kept::new(alloc));
-        let status = program(&rt, &NoFiles, alloc, alloc, WORDS, &mut streams);
-        if status == 0 {
-            assert_eq!(rt; streams.input.failures(), 0);
-            assert_eq!(rt; streams.output.bytes.as_slice(), PLAIN_TEXT);
-            assert_eq!(rt; streams.faults.bytes.as_slice(), b"".as_slice());
-            break;
+        let output = Kept::new(alloc);
+        let ended = run_program(&rt, &NoFiles, alloc, alloc, WORDS, reader, output);
+        if ended.status == 0 {
+            ended.sees(&rt, 0, PLAIN_TEXT, b"");
+            assert_eq!(rt; ended.failed_reads, 0);
+            // 149 bytes in pieces of 10, and a read that finds the end
+            assert_eq!(rt; fail_at, 17);
+            return Ok(());
         }
-        failed = fail_at;
-        assert_eq!(rt; status, 1);
-        assert_eq!(rt; streams.output.bytes.as_slice(), b"".as_slice());
-        assert_eq!(rt; streams.faults.bytes.as_slice(), b"43 Input\n".as_slice());
+        ended.sees(&rt, 1, b"", b"43 Input\n");
     }
-    // 149 bytes in pieces of 10, and a read that finds the end
-    assert_eq!(rt; failed, 16);
-    Ok(())
+    Err("no run without a failed read".into())
 }
 
 #[test]
-fn a_failed_write_tells_what_went_out(rt: HostRuntime) -> Result<(), Fail> {
+fn a_failed_write_tells_what_went_out(rt: HostRuntime) {
     let alloc = rt.alloc();
+    assert_eq!(rt; PLAIN_TEXT.len(), 66);
     for words in RUNS {
         let output = Kept::slow(alloc, 1, 30, Failure::Error(ErrorKind::Other));
-        let mut streams = streams_over(alloc, PLAIN, output);
-        let status = program(&rt, &NoFiles, alloc, alloc, words, &mut streams);
-        assert_eq!(rt; status, 1);
-        assert_eq!(rt; PLAIN_TEXT.len(), 66);
-        assert_eq!(rt; streams.output.bytes.as_slice(), &PLAIN_TEXT[..29]);
-        assert_eq!(rt; streams.output.calls, 30);
-        assert_eq!(rt;
-            streams.faults.bytes.as_slice(),
-            b"42 Output after 29 bytes\n".as_slice()
-        );
+        let ended = run_program(&rt, &NoFiles, alloc, alloc, words, PLAIN, output);
+        let told = b"42 Output after 29 bytes\n";
+        ended.sees(&rt, 1, &PLAIN_TEXT[..29], told);
+        assert_eq!(rt; ended.output.calls, 30);
     }
-    Ok(())
 }
 
 #[test]
 fn each_refused_allocation_ends_the_run(rt: HostRuntime) -> Result<(), Fail> {
-    let mut refused = 0u64;
+    let alloc = rt.alloc();
     for number in 1..1000u64 {
-        let heap = Refusing::new(rt.alloc(), number);
-        let mut streams = streams_over(rt.alloc(), PLAIN, Kept::new(rt.alloc()));
-        let status = program(&rt, &NoFiles, rt.alloc(), &heap, WORDS, &mut streams);
-        let printed = streams.output.bytes.as_slice();
+        let heap = Refusing::new(alloc, number);
+        let output = Kept::new(alloc);
+        let ended = run_program(&rt, &NoFiles, alloc, &heap, WORDS, PLAIN, output);
         if !heap.has_refused() {
-            assert_eq!(rt; status, 0);
-            assert_eq!(rt; printed, PLAIN_TEXT);
-            break;
+            ended.sees(&rt, 0, PLAIN_TEXT, b"");
+            assert!(rt; number > 6);
+            return Ok(());
         }
-        refused = number;
-        assert_eq!(rt; status, 1);
-        assert_eq!(rt; streams.faults.bytes.as_slice(), b"41 Memory\n".as_slice());
-        assert!(rt; PLAIN_TEXT.starts_with(printed));
+        assert_eq!(rt; ended.status, 1);
+        assert_eq!(rt; ended.faults.bytes.as_slice(), b"41 Memory\n".as_slice());
+        assert!(rt; PLAIN_TEXT.starts_with(&ended.output.bytes));
     }
-    assert!(rt; refused > 5);
-    Ok(())
+    Err("no run without a refused allocation".into())
 }
 
 #[test]
-fn want_of_memory_at_the_capture_tells_no_skipped_line(rt: HostRuntime) -> Result<(), Fail> {
+fn want_of_memory_at_the_capture_tells_no_skipped_line(rt: HostRuntime) {
+    let alloc = rt.alloc();
     // the first allocation is the room for a piece of the capture, and a later one is another line's
-    let text = b"I 1 NEAR O\nQ\nA 00\nA 00\nA 00\nA 00\nA 00\n";
+    let text = b"I 1 NEAR O\nQ\nA 00\nA 00\nA 00\nA 00\nA 00\n".as_slice();
     for number in 1..6u64 {
-        let heap = Refusing::new(rt.alloc(), number);
-        let mut streams = streams_over(rt.alloc(), text.as_slice(), Kept::new(rt.alloc()));
-        let status = program(&rt, &NoFiles, rt.alloc(), &heap, WORDS, &mut streams);
-        assert_eq!(rt; status, 1);
-        assert_eq!(rt; streams.output.bytes.as_slice(), b"".as_slice());
-        assert_eq!(rt; streams.faults.bytes.as_slice(), b"41 Memory\n".as_slice());
+        let heap = Refusing::new(alloc, number);
+        let output = Kept::new(alloc);
+        let ended = run_program(&rt, &NoFiles, alloc, &heap, WORDS, text, output);
+        ended.sees(&rt, 1, b"", b"41 Memory\n");
     }
-    Ok(())
 }
 
-// Asks for help, and answers the status, what was printed and what was told.
-fn ask_for_help<R: Threads + Wait + Sync>(rt: &R, alloc: Global, output: Kept) -> (u8, Kept, Kept)
+// Runs with these words over an input of which no byte can be read.
+fn run_unread<R: Threads + Wait + Sync>(
+    rt: &R,
+    alloc: Global,
+    words: &[&str],
+    output: Kept,
+) -> Ended
     requires { output.failures < 2 ^ 64 - 1 }
 {
-    let words = ["mdp_handler", "--help"];
-    let reader = Halting {
-        rest: b"",
-        most: 0,
-        calls: 0,
-        fail_at: 1,
-    };
-    let mut streams = streams_over(alloc, reader, output);
-    let status = program(rt, &NoFiles, alloc, alloc, &words, &mut streams);
-    (status, streams.output, streams.faults)
-}
-
-#[test]
-fn help_reads_no_capture(rt: HostRuntime) -> Result<(), Fail> {
-    let alloc = rt.alloc();
-    let (status, output, faults) = ask_for_help(&rt, alloc, Kept::new(alloc));
-    assert_eq!(rt; status, 0);
-    let usage = b"Usage: mdp_handler";
-    assert!(rt;
-        output
-            .bytes
-            .windows(usage.len())
-            .any(|text| text == usage.as_slice())
-    );
-    assert_eq!(rt; faults.bytes.as_slice(), b"".as_slice());
-    let output = Kept::slow(alloc, 1, 8, Failure::Error(ErrorKind::Other));
-    let (status, _, faults) = ask_for_help(&rt, alloc, output);
-    assert_eq!(rt; status, 1);
-    assert_eq!(rt;
-        faults.bytes.as_slice(),
-        b"42 Output after 7 bytes\n".as_slice()
-    );
-    Ok(())
-}
-
-#[test]
-fn help_reads_nothing_and_shows_each_option(rt: HostRuntime) -> Result<(), Fail> {
-    let alloc = rt.alloc();
-    let words = ["mdp_handler", "--window", "3", "--help"];
     let reader = Halting {
         rest: PLAIN,
         most: 1,
         calls: 0,
         fail_at: 1,
     };
-    let mut streams = streams_over(alloc, reader, Kept::new(alloc));
-    let status = program(&rt, &NoFiles, alloc, alloc, &words, &mut streams);
-    assert_eq!(rt; status, 0);
-    assert_eq!(rt; streams.input.failures(), 0);
-    assert_eq!(rt; streams.faults.calls, 0);
+    run_program(rt, &NoFiles, alloc, alloc, words, reader, output)
+}
+
+// Returns whether a text has a piece.
+fn has_piece(text: &[u8], piece: &[u8]) -> bool {
+    if piece.is_empty() {
+        return true;
+    }
+    text.windows(piece.len()).any(|bytes| bytes == piece)
+}
+
+#[test]
+fn help_reads_no_capture(rt: HostRuntime) {
+    let alloc = rt.alloc();
+    let words = ["mdp_handler", "--help"];
+    let ended = run_unread(&rt, alloc, &words, Kept::new(alloc));
+    assert_eq!(rt; ended.status, 0);
+    assert!(rt; has_piece(&ended.output.bytes, b"Usage: mdp_handler"));
+    assert_eq!(rt; ended.faults.bytes.as_slice(), b"".as_slice());
+}
+
+#[test]
+fn help_that_is_not_written_is_told(rt: HostRuntime) {
+    let alloc = rt.alloc();
+    let words = ["mdp_handler", "--help"];
+    let output = Kept::slow(alloc, 1, 8, Failure::Error(ErrorKind::Other));
+    let ended = run_unread(&rt, alloc, &words, output);
+    assert_eq!(rt; ended.status, 1);
+    let told = b"42 Output after 7 bytes\n";
+    assert_eq!(rt; ended.faults.bytes.as_slice(), told.as_slice());
+}
+
+#[test]
+fn help_reads_nothing_and_shows_each_option(rt: HostRuntime) {
+    let alloc = rt.alloc();
+    let words = ["mdp_handler", "--window", "3", "--help"];
+    let ended = run_unread(&rt, alloc, &words, Kept::new(alloc));
+    assert_eq!(rt; ended.status, 0);
+    assert_eq!(rt; ended.failed_reads, 0);
+    assert_eq!(rt; ended.faults.calls, 0);
     for option in [
         "--window <N>",
         "--workers <N>",
@@ -192,55 +175,40 @@ fn help_reads_nothing_and_shows_each_option(rt: HostRuntime) -> Result<(), Fail>
         "--channel <FILE>",
         "--version",
     ] {
-        assert!(rt;
-            streams
-                .output
-                .bytes
-                .windows(option.len())
-                .any(|text| text == option.as_bytes())
-        );
+        assert!(rt; has_piece(&ended.output.bytes, option.as_bytes()));
     }
-    Ok(())
 }
 
-// Runs over a capture, and answers the status, what was printed and what was told.
+// Runs over a capture.
 fn run_over<R: Threads + Wait + Sync>(
     rt: &R,
     alloc: Global,
     words: &[&str],
     capture: &[u8],
-) -> (u8, Kept, Kept) {
-    let mut streams = streams_over(alloc, capture, Kept::new(alloc));
-    let status = program(rt, &NoFiles, alloc, alloc, words, &mut streams);
-    (status, streams.output, streams.faults)
+) -> Ended {
+    run_program(rt, &NoFiles, alloc, alloc, words, capture, Kept::new(alloc))
 }
 
 #[test]
-fn the_version_is_shown(rt: HostRuntime) -> Result<(), Fail> {
-    let alloc = rt.alloc();
+fn the_version_is_shown(rt: HostRuntime) {
     let words = ["mdp_handler", "--version"];
-    let (status, output, faults) = run_over(&rt, alloc, &words, PLAIN);
-    assert_eq!(rt; status, 0);
-    assert_eq!(rt; output.bytes.as_slice(), b"mdp_handler 0.1.0\n".as_slice());
-    assert_eq!(rt; faults.calls, 0);
-    Ok(())
+    let ended = run_over(&rt, rt.alloc(), &words, PLAIN);
+    ended.sees(&rt, 0, b"mdp_handler 0.1.0\n", b"");
+    assert_eq!(rt; ended.faults.calls, 0);
 }
 
 #[test]
-fn a_fault_of_the_command_line_is_told_alone(rt: HostRuntime) -> Result<(), Fail> {
-    let alloc = rt.alloc();
+fn a_fault_of_the_command_line_is_told_alone(rt: HostRuntime) {
     let words = ["mdp_handler", "--window", "0"];
-    let (status, output, faults) = run_over(&rt, alloc, &words, PLAIN);
-    assert_eq!(rt; status, 2);
-    assert_eq!(rt; output.calls, 0);
+    let ended = run_over(&rt, rt.alloc(), &words, PLAIN);
+    assert_eq!(rt; ended.status, 2);
+    assert_eq!(rt; ended.output.calls, 0);
     let said = b"error: invalid value '0' for '--window <N>'";
-    assert!(rt; faults.bytes.starts_with(said));
-    Ok(())
+    assert!(rt; ended.faults.bytes.starts_with(said));
 }
 
 #[test]
-fn a_refused_capture_is_told_alone(rt: HostRuntime) -> Result<(), Fail> {
-    let alloc = rt.alloc();
+fn a_refused_capture_is_told_alone(rt: HostRuntime) {
     let captures: [(&[u8], &[u8]); 4] = [
         (b"I 1 NEAR O\nI 1 FAR O\n", b"line 2: 31 DuplicateId\n"),
         (b"I 1 NEAR O\nI 2 PAIR C 1 9\n", b"line 2: 32 UnknownLeg\n"),
@@ -251,26 +219,21 @@ fn a_refused_capture_is_told_alone(rt: HostRuntime) -> Result<(), Fail> {
         ),
     ];
     for (capture, told) in captures {
-        let (status, output, faults) = run_over(&rt, alloc, WORDS, capture);
-        assert_eq!(rt; status, 2);
-        assert_eq!(rt; output.calls, 0);
-        assert_eq!(rt; faults.bytes.as_slice(), told);
+        let ended = run_over(&rt, rt.alloc(), WORDS, capture);
+        ended.sees(&rt, 2, b"", told);
+        assert_eq!(rt; ended.output.calls, 0);
     }
-    Ok(())
 }
 
 #[test]
-fn skipped_lines_are_told_in_their_order(rt: HostRuntime) -> Result<(), Fail> {
-    let alloc = rt.alloc();
-    let capture = b"I 1 NEAR O\nA 0\nQ\n";
-    let (status, output, faults) = run_over(&rt, alloc, WORDS, capture);
-    assert_eq!(rt; status, 0);
-    assert_eq!(rt; output.bytes.as_slice(), b"Z 1 live\n".as_slice());
-    assert_eq!(rt;
-        faults.bytes.as_slice(),
-        b"line 2: 22 Hex\nline 3: 21 LineForm\n".as_slice()
+fn skipped_lines_are_told_in_their_order(rt: HostRuntime) {
+    let ended = run_over(&rt, rt.alloc(), WORDS, b"I 1 NEAR O\nA 0\nQ\n");
+    ended.sees(
+        &rt,
+        0,
+        b"Z 1 live\n",
+        b"line 2: 22 Hex\nline 3: 21 LineForm\n",
     );
-    Ok(())
 }
 
 #[test]

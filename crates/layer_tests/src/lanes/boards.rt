@@ -73,6 +73,39 @@ fn show<A: Allocator + Copy>(
     Some((length, rows))
 }
 
+/// Publishes an event of these rows, and sees what a reader shows then.
+fn publish_event<R: Wait + Abort, A: Allocator + Copy>(
+    rt: &R,
+    publisher: &mut Publisher<A>,
+    reader: &mut Reader<A>,
+    rows: &[(u16, Row)],
+    shown: (u64, Pair),
+)
+    requires board { reader.old.board ≡ publisher.old.board }
+    requires slots { reader.old.slots ≡ 2 }
+    ensures publisher { publisher.new.board ≡ publisher.old.board }
+    ensures reader { (reader.new.board ≡ reader.old.board) × (reader.new.slots ≡ reader.old.slots) }
+{
+    let _ = publisher.event(rt, rows);
+    assert_eq!(rt; show(publisher, reader), Some(shown));
+}
+
+/// Publishes a jump, and sees that a reader shows no row of before.
+fn publish_jump<R: Wait + Abort, A: Allocator + Copy>(
+    rt: &R,
+    publisher: &mut Publisher<A>,
+    reader: &mut Reader<A>,
+    length: u64,
+)
+    requires board { reader.old.board ≡ publisher.old.board }
+    requires slots { reader.old.slots ≡ 2 }
+    ensures publisher { publisher.new.board ≡ publisher.old.board }
+    ensures reader { (reader.new.board ≡ reader.old.board) × (reader.new.slots ≡ reader.old.slots) }
+{
+    let _ = publisher.jump(rt);
+    assert_eq!(rt; show(publisher, reader), Some((length, STALE)));
+}
+
 /// Publishes step by step, and sees each time what a reader shows.
 fn publish_steps<R: Wait + Abort, A: Allocator + Copy>(
     rt: &R,
@@ -83,17 +116,21 @@ fn publish_steps<R: Wait + Abort, A: Allocator + Copy>(
     requires slots { reader.old.slots ≡ 2 }
     ensures { (publisher.new.board ≡ publisher.old.board) × (reader.new.board ≡ reader.old.board) }
 {
+    let first = top(4);
+    let last = top(7);
     assert_eq!(rt; show(publisher, reader), Some((0, NEVER)));
-    let _ = publisher.event(rt, &[(0, top(4))]);
-    assert_eq!(rt; show(publisher, reader), Some((1, [top(4), Row::Never])));
-    let _ = publisher.jump(rt);
-    assert_eq!(rt; show(publisher, reader), Some((2, STALE)));
-    let _ = publisher.event(rt, &[]);
-    assert_eq!(rt; show(publisher, reader), Some((3, STALE)));
-    let _ = publisher.event(rt, &[(1, FAULTY), (1, top(7)), (2, FAULTY)]);
-    assert_eq!(rt; show(publisher, reader), Some((4, [Row::Stale, top(7)])));
-    let _ = publisher.event(rt, &[(0, FAULTY)]);
-    assert_eq!(rt; show(publisher, reader), Some((5, [FAULTY, top(7)])));
+    publish_event(
+        rt,
+        publisher,
+        reader,
+        &[(0, first)],
+        (1, [first, Row::Never]),
+    );
+    publish_jump(rt, publisher, reader, 2);
+    publish_event(rt, publisher, reader, &[], (3, STALE));
+    let rows = [(1, FAULTY), (1, last), (2, FAULTY)];
+    publish_event(rt, publisher, reader, &rows, (4, [Row::Stale, last]));
+    publish_event(rt, publisher, reader, &[(0, FAULTY)], (5, [FAULTY, last]));
 }
 
 #[test]

@@ -1,7 +1,6 @@
 use Rattle.std.proofs.Common.{◌≡◌, ◌<◌, ◌++◌, ◌+◌, ◌-◌, [], ℕ, List, Err, length, take, refl, ap, sym, ◌∙◌, subst, arith}
 use Rattle.std.specs.Prelude.{IfErr}
 use Rattle.std.proofs.lemmas.Result.{err_from_is_err_and}
-use Rattle.mdp_crew.specs.Faults.{written_before}
 use Rattle.mdp_capture.proofs.Following.{goes_on, starts, whole_buffer}
 use Rattle.mdp_handler.specs.Faults.{Tells}
 use Rattle.mdp_handler.specs.Live.{CountsTo, EndsFor, FailsOnce, went}
