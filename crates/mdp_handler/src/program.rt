@@ -329,8 +329,9 @@ where
         start: settings.start,
         workers: u16::from(settings.worker_count()),
     };
+    let feeds = Feeds::of(capture);
     if settings.in_order {
-        return run_in_order(alloc, plan, Feeds::of(capture), output);
+        return run_in_order(alloc, plan, feeds, output);
     }
-    run(rt, alloc, plan, Feeds::of(capture), &Open, output)
+    run(rt, alloc, plan, feeds, &Open, output)
 }
