@@ -39,8 +39,8 @@ fn may_change(taken: Taken) -> bool {
     }
 }
 
-// Counts a datagram and what became of it: whether it was the first copy of its packet, and whether recovery went on at
-// another number.
+// Counts a datagram and what became of it: whether it was the first copy of its packet, and whether recovery went on
+// at another number.
 fn count_told(counts: Counts, taken: Taken, moved: Moved) -> Counts {
     let is_first = taken == Taken::Packet(PacketFate::First);
     Counts {
