@@ -1,8 +1,8 @@
 //! Pushes what came on a channel into a handler, one datagram after another, asks what became of each and what it
 //! moved, and lets go what the handler made, after each datagram that may have changed a book, so that the instructions
-//! of a datagram can be counted. A capture comes on standard input. The first word says what the handler keeps: `lines`,
-//! or `books` alone; with `nothing` the capture is only read. The second says how many handlers follow the capture, one
-//! after another: one where it isn't there.
+//! of a datagram can be counted. A capture comes on standard input. The first word says what the handler keeps:
+//! `lines`, or `books` alone; with `nothing` the capture is only read. The second says how many handlers follow the
+//! capture, one after another: one where it isn't there.
 #![tactic(auto)]
 
 ghost use Rattle.mdp_templates.specs.Instrument.{AreFit};
