@@ -111,6 +111,18 @@ fn answer_to<W: Window<Packet<Global>> + Drop>(
     })
 }
 
+/// Checks the answer to a call.
+fn answers<W: Window<Packet<Global>> + Drop>(
+    rt: &impl Abort,
+    alloc: Global,
+    arbiter: &mut Arbiter<Global, W>,
+    call: Call,
+    answer: Answer,
+) -> Result<(), Fail> {
+    assert_eq!(rt; answer_to(alloc, arbiter, call)?, answer);
+    Ok(())
+}
+
 /// Makes the calls of a table on a new arbiter over this window.
 fn follow<W: Window<Packet<Global>> + Drop>(
     rt: &impl Abort,
@@ -124,7 +136,7 @@ fn follow<W: Window<Packet<Global>> + Drop>(
 {
     let mut arbiter = Arbiter::new(alloc, &near()?, window, start)?;
     for (call, answer, next, lost) in table.iter() {
-        assert_eq!(rt; answer_to(alloc, &mut arbiter, *call)?, *answer);
+        answers(rt, alloc, &mut arbiter, *call, *answer)?;
         assert_eq!(rt; arbiter.next(), *next);
         assert_eq!(rt; arbiter.lost(), *lost);
     }
@@ -352,6 +364,26 @@ fn compare_with_walks<W: Window<Packet<Global>> + Drop>(
 /// and how many packets wait.
 type KeptRow = (Call, Option<usize>, u64, u64);
 
+/// Makes a call and then all steps, and checks what the arbiter keeps after the call and after the steps.
+fn follow_row<W: Window<Packet<Global>> + Drop>(
+    rt: &impl Abort,
+    alloc: Global,
+    arbiter: &mut Arbiter<Global, W>,
+    row: &KeptRow,
+) -> Result<(), Fail> {
+    let (call, stale, next, waiting) = *row;
+    answer_to(alloc, arbiter, call)?;
+    compare_with_walks(rt, arbiter);
+    for _ in 0..6 {
+        answer_to(alloc, arbiter, Call::Step)?;
+    }
+    compare_with_walks(rt, arbiter);
+    assert_eq!(rt; arbiter.first_stale(), stale);
+    assert_eq!(rt; arbiter.next(), next);
+    assert_eq!(rt; arbiter.waiting(), waiting);
+    Ok(())
+}
+
 /// Makes the calls of a table on a new arbiter of three securities over this window, of four places.
 fn follow_three<W: Window<Packet<Global>> + Drop>(
     rt: &impl Abort,
@@ -363,16 +395,8 @@ fn follow_three<W: Window<Packet<Global>> + Drop>(
     requires empty { (W.view window).held ≡ map.empty }
 {
     let mut arbiter = Arbiter::new(alloc, &three()?, window, Start::FromOne)?;
-    for (call, stale, next, waiting) in table.iter() {
-        answer_to(alloc, &mut arbiter, *call)?;
-        compare_with_walks(rt, &arbiter);
-        for _ in 0..6 {
-            answer_to(alloc, &mut arbiter, Call::Step)?;
-        }
-        compare_with_walks(rt, &arbiter);
-        assert_eq!(rt; arbiter.first_stale(), *stale);
-        assert_eq!(rt; arbiter.next(), *next);
-        assert_eq!(rt; arbiter.waiting(), *waiting);
+    for row in table {
+        follow_row(rt, alloc, &mut arbiter, row)?;
     }
     Ok(())
 }
@@ -469,21 +493,16 @@ fn take_in_all(rt: &impl Abort, alloc: Global, arbiter: &mut OverRefusing) -> Re
 }
 
 /// Jumps behind a snapshot that includes packet 8, and passes all packets from there.
-fn recovers(rt: &impl Abort, arbiter: &mut OverRefusing) {
+fn recovers(rt: &impl Abort, alloc: Global, arbiter: &mut OverRefusing) -> Result<(), Fail> {
     assert!(rt; arbiter.lost());
-    assert!(rt; arbiter.snapshot(snapshot(1, 8)).is_none());
-    assert!(rt; matches!(arbiter.step(), Some(Step::Jump { old: 1, new: 9 })));
+    answers(rt, alloc, arbiter, Call::Snapshot(1, 8), Answer::Kept)?;
+    answers(rt, alloc, arbiter, Call::Step, Answer::Jump(1, 9))?;
     for number in 9..=40u32 {
-        match arbiter.step() {
-            Some(Step::Pass(packet)) => {
-                assert_eq!(rt; packet.number(), number);
-                assert_eq!(rt; packet.len(), 1);
-            }
-            _ => assert!(rt; false),
-        }
+        answers(rt, alloc, arbiter, Call::Step, Answer::Pass(number, 1))?;
     }
-    assert!(rt; arbiter.step().is_none());
+    answers(rt, alloc, arbiter, Call::Step, Answer::Nothing)?;
     assert_eq!(rt; arbiter.next(), 41);
+    Ok(())
 }
 
 #[test]
@@ -496,7 +515,7 @@ fn a_packet_that_came_back_for_want_of_memory_can_be_handed_in_again(
         let heap = Refusing::new(alloc, number);
         let mut arbiter = Arbiter::new(alloc, &near()?, MapWindow::new(&heap, 32), Start::FromOne)?;
         let came_back = take_in_all(&rt, alloc, &mut arbiter)?;
-        recovers(&rt, &mut arbiter);
+        recovers(&rt, alloc, &mut arbiter)?;
         if !heap.has_refused() {
             assert_eq!(rt; came_back, 0);
             break;

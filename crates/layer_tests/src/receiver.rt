@@ -147,6 +147,28 @@ fn waits_up_to(highest: u64) -> ChannelState {
     }
 }
 
+/// The state once packets 2 to 5 have passed behind the snapshots.
+const RECOVERED: ChannelState = ChannelState {
+    next: 6,
+    lost: false,
+    highest: 5,
+    waiting: 0,
+    stale: None,
+};
+
+/// Checks what becomes of a record's datagram, and where the channel stands after it.
+fn becomes<A: Allocator + Copy, T: Abort>(
+    rt: &T,
+    alloc: A,
+    handler: &mut Handler<A>,
+    feed: Feed,
+    record: &Record<A>,
+    wanted: (Taken, ChannelState),
+) -> Result<(), Memory> {
+    assert_eq!(rt; one(alloc, handler, feed, record)?, wanted);
+    Ok(())
+}
+
 /// Checks what becomes of packets 2 to 5, of which the last gives packet 1 up, and of the snapshots that come then.
 fn recovers<A: Allocator + Copy, T: Abort>(
     rt: &T,
@@ -156,21 +178,18 @@ fn recovers<A: Allocator + Copy, T: Abort>(
 ) -> Result<(), Memory> {
     let mut highest = 2;
     for record in capture.a() {
-        let first = (Taken::Packet(PacketFate::First), waits_up_to(highest));
-        assert_eq!(rt; one(alloc, handler, Feed::A, record)?, first);
-        let again = (Taken::Packet(PacketFate::Repeat), waits_up_to(highest));
-        assert_eq!(rt; one(alloc, handler, Feed::B, record)?, again);
+        let state = waits_up_to(highest);
+        let first = (Taken::Packet(PacketFate::First), state);
+        becomes(rt, alloc, handler, Feed::A, record, first)?;
+        let again = (Taken::Packet(PacketFate::Repeat), state);
+        becomes(rt, alloc, handler, Feed::B, record, again)?;
         highest = highest.saturating_add(1);
     }
     for record in capture.s() {
-        let (taken, state) = one(alloc, handler, Feed::S, record)?;
-        assert_eq!(rt; taken, snapshots(3, 0));
-        assert_eq!(rt;
-            (state.next, state.lost, state.waiting, state.stale),
-            (6, false, 0, None)
-        );
-        let (taken, _) = one(alloc, handler, Feed::S, record)?;
-        assert_eq!(rt; taken, snapshots(0, 3));
+        let first = (snapshots(3, 0), RECOVERED);
+        becomes(rt, alloc, handler, Feed::S, record, first)?;
+        let again = (snapshots(0, 3), RECOVERED);
+        becomes(rt, alloc, handler, Feed::S, record, again)?;
     }
     Ok(())
 }
