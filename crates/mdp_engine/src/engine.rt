@@ -15,7 +15,7 @@ ghost use Rattle.mdp_print.specs.Pieces.{BeginsWith, BreaksOff};
 ghost use Rattle.mdp_desks.specs.Moments.{Moment, moments, shown_lines};
 ghost use Rattle.mdp_engine.specs.Kept.{kept_lines};
 ghost use Rattle.mdp_desks.specs.Changed.{changed_through};
-ghost use Rattle.mdp_engine.specs.Engine.{Advances, AreChanged, BreaksOffOnWay, HasBrokenOff, Stands, TakesIn};
+ghost use Rattle.mdp_engine.specs.Engine.{Advances, AreChanged, BreaksOffOnWay, HasBrokenOff, Stands, TakesIn, View};
 ghost use Rattle.mdp_engine.specs.Honest.{IsHonest};
 ghost use Rattle.mdp_engine.specs.Owed.{lines, numbered_moves};
 ghost use Rattle.mdp_engine.specs.Steps.{event_of, passes_now, stepped_desks, stepped_moments};
@@ -468,6 +468,20 @@ pub fn replay<A: Allocator + Copy, W: Window<Packet<A>> + Drop>(
         (map event_of events.now)))) }
 {
     let mut engine = Engine::new(alloc, instruments, window, start)?;
+    lines_of(&mut engine, alloc, events)
+}
+
+// Takes in the first events of an engine, and gives the lines that they show.
+fn lines_of<A: Allocator + Copy, W: Window<Packet<A>> + Drop>(
+    engine: &mut Engine<A, W>,
+    alloc: A,
+    events: &[Event<A>],
+) -> Result<Vec<u8, A>, Memory>
+    ensures { IfOk result (λ text. (listed : List Instrument) → Stands listed [] [] engine.old
+        → (then : View) × Stands listed (map event_of events.now) [] then
+        × (then.keeps_lines ≡ engine.old.keeps_lines)
+        × (then.arbiter.channel ≡ engine.old.arbiter.channel) × (text.items ≡ then.held)) }
+{
     for event in events {
         engine.on(event.copy(alloc)?)?;
     }
