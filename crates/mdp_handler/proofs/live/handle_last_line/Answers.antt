@@ -4,7 +4,7 @@ use Rattle.mdp_crew.specs.Faults.{written_before}
 use Rattle.mdp_handler.proofs.GoingOut.{end_cut, end_cut_refused, end_handled, end_refused, stays_so_far}
 use Rattle.mdp_handler.proofs.live.handle_last_line.Goals as goal
 
--- the search for it takes ten minutes
+-- the output is as it came
 pub hand_on_all-requires : goal.hand_on_all-requires
 hand_on_all-requires g c = c.requires
 
