@@ -381,36 +381,38 @@ pub reads_none : {T : Type 0} (result : Result T LiveFault) (before after : ℕ)
 reads_none (Ok x) before after same unread = same
 reads_none (Err fault) before after same unread = rw unread (omega (arith, same))
 
--- ---- the end of a run, of a text that has ended or of all that is read
+-- ---- the end of the input, and of a run over it
 
 module _ {A F : Type 0} (failed : F → ℕ) (taken : F → List ℕ) where
-  pub then_ended : {T : Type 0} (result : Result T LiveFault) (before mid after : List ℕ) (heard said told : F) (old new : StreamedRun A)
-      → ((setup : Setup) (text start : List ℕ) (first : F) → SoFar setup text (went start before (Tells failed taken first heard)) old → StandsAtEnd setup text (went start mid (Tells failed taken first said)) new)
-      → OnOk result ((setup : Setup) (text start : List ℕ) (first : F) → StandsAtEnd setup text (went start mid (Tells failed taken first said)) new → HasEnded setup text (went start after (Tells failed taken first told)))
-      → OnOk result ((setup : Setup) (text start : List ℕ) (first : F) → SoFar setup text (went start before (Tells failed taken first heard)) old → HasEnded setup text (went start after (Tells failed taken first told)))
-  then_ended (Ok x) before mid after heard said told old new handled ends = λ setup text start first so_far. ends setup text start first (handled setup text start first so_far)
-  then_ended (Err fault) before mid after heard said told old new handled ends = tt
+  pub input_ended : {T : Type 0} (result : Result T LiveFault) (input : Option (List ℕ)) (whole before mid after : List ℕ) (heard said told : F) (old now new : StreamedRun A) → IsInput input whole
+      → ((setup : Setup) (start : List ℕ) (first : F) → SoFar setup [] (went start before (Tells failed taken first heard)) old → SoFar setup whole (went start mid (Tells failed taken first said)) now)
+      → OnOk result ((setup : Setup) (text start : List ℕ) (first : F) → SoFar setup text (went start mid (Tells failed taken first said)) now → StandsAtEnd setup text (went start after (Tells failed taken first told)) new)
+      → OnOk result ((setup : Setup) (start : List ℕ) (first : F) → SoFar setup [] (went start before (Tells failed taken first heard)) old
+      → (w : List ℕ) × IsInput input w × StandsAtEnd setup w (went start after (Tells failed taken first told)) new)
+  input_ended (Ok x) input whole before mid after heard said told old now new is so_far ends = λ setup start first begins. (whole, is, ends setup whole start first (so_far setup start first begins))
+  input_ended (Err fault) input whole before mid after heard said told old now new is so_far ends = tt
 
-  pub then_failed : {T : Type 0} (result : Result T LiveFault) (before mid after : List ℕ) (heard said told : F) (old new : StreamedRun A)
-      → ((setup : Setup) (text start : List ℕ) (first : F) → SoFar setup text (went start before (Tells failed taken first heard)) old → StandsAtEnd setup text (went start mid (Tells failed taken first said)) new)
-      → IfErr result (λ fault. (setup : Setup) (text start : List ℕ) (first : F) → StandsAtEnd setup text (went start mid (Tells failed taken first said)) new → EndsFor setup text (went start after (Tells failed taken first told)) fault)
-      → IfErr result (λ fault. (setup : Setup) (text start : List ℕ) (first : F) → SoFar setup text (went start before (Tells failed taken first heard)) old → EndsFor setup text (went start after (Tells failed taken first told)) fault)
-  then_failed (Ok x) before mid after heard said told old new handled ends = tt
-  then_failed (Err fault) before mid after heard said told old new handled ends = λ setup text start first so_far. ends setup text start first (handled setup text start first so_far)
+  pub input_failed : {T : Type 0} (result : Result T LiveFault) (input : Option (List ℕ)) (whole before mid after : List ℕ) (heard said told : F) (old now : StreamedRun A) → IsInput input whole
+      → ((setup : Setup) (start : List ℕ) (first : F) → SoFar setup [] (went start before (Tells failed taken first heard)) old → SoFar setup whole (went start mid (Tells failed taken first said)) now)
+      → IfErr result (λ fault. (setup : Setup) (text start : List ℕ) (first : F) → SoFar setup text (went start mid (Tells failed taken first said)) now → EndsFor setup text (went start after (Tells failed taken first told)) fault)
+      → IfErr result (λ fault. (setup : Setup) (start : List ℕ) (first : F) → SoFar setup [] (went start before (Tells failed taken first heard)) old
+      → (w : List ℕ) × IsInput input w × EndsFor setup w (went start after (Tells failed taken first told)) fault)
+  input_failed (Ok x) input whole before mid after heard said told old now is so_far ends = tt
+  input_failed (Err fault) input whole before mid after heard said told old now is so_far ends = λ setup start first begins. (whole, is, ends setup whole start first (so_far setup start first begins))
 
-  pub input_ended : {T : Type 0} (result : Result T LiveFault) (setup : Setup) (whole : Option (List ℕ)) (text start before after : List ℕ) (heard told first : F) (run : StreamedRun A) → IsInput whole text
-      → SoFar setup text (went start before (Tells failed taken first heard)) run
-      → OnOk result ((setup : Setup) (text start : List ℕ) (first : F) → SoFar setup text (went start before (Tells failed taken first heard)) run → HasEnded setup text (went start after (Tells failed taken first told)))
-      → OnOk result ((w : List ℕ) × IsInput whole w × HasEnded setup w (went start after (Tells failed taken first told)))
-  input_ended (Ok x) setup whole text start before after heard told first run is so_far ends = (text, is, ends setup text start first so_far)
-  input_ended (Err fault) setup whole text start before after heard told first run is so_far ends = tt
+  pub then_ended : {T : Type 0} (result : Result T LiveFault) (setup : Setup) (input : Option (List ℕ)) (whole start before after : List ℕ) (first heard told : F) (run : StreamedRun A) → IsInput input whole
+      → StandsAtEnd setup whole (went start before (Tells failed taken first heard)) run
+      → OnOk result ((setup : Setup) (text start : List ℕ) (first : F) → StandsAtEnd setup text (went start before (Tells failed taken first heard)) run → HasEnded setup text (went start after (Tells failed taken first told)))
+      → OnOk result ((w : List ℕ) × IsInput input w × HasEnded setup w (went start after (Tells failed taken first told)))
+  then_ended (Ok x) setup input whole start before after first heard told run is stands ends = (whole, is, ends setup whole start first stands)
+  then_ended (Err fault) setup input whole start before after first heard told run is stands ends = tt
 
-  pub input_failed : {T : Type 0} (result : Result T LiveFault) (setup : Setup) (whole : Option (List ℕ)) (text start before after : List ℕ) (heard told first : F) (run : StreamedRun A) → IsInput whole text
-      → SoFar setup text (went start before (Tells failed taken first heard)) run
-      → IfErr result (λ fault. (setup : Setup) (text start : List ℕ) (first : F) → SoFar setup text (went start before (Tells failed taken first heard)) run → EndsFor setup text (went start after (Tells failed taken first told)) fault)
-      → IfErr result (λ fault. (w : List ℕ) × IsInput whole w × EndsFor setup w (went start after (Tells failed taken first told)) fault)
-  input_failed (Ok x) setup whole text start before after heard told first run is so_far ends = tt
-  input_failed (Err fault) setup whole text start before after heard told first run is so_far ends = (text, is, ends setup text start first so_far)
+  pub then_failed : {T : Type 0} (result : Result T LiveFault) (setup : Setup) (input : Option (List ℕ)) (whole start before after : List ℕ) (first heard told : F) (run : StreamedRun A) → IsInput input whole
+      → StandsAtEnd setup whole (went start before (Tells failed taken first heard)) run
+      → IfErr result (λ fault. (setup : Setup) (text start : List ℕ) (first : F) → StandsAtEnd setup text (went start before (Tells failed taken first heard)) run → EndsFor setup text (went start after (Tells failed taken first told)) fault)
+      → IfErr result (λ fault. (w : List ℕ) × IsInput input w × EndsFor setup w (went start after (Tells failed taken first told)) fault)
+  then_failed (Ok x) setup input whole start before after first heard told run is stands ends = tt
+  then_failed (Err fault) setup input whole start before after first heard told run is stands ends = (whole, is, ends setup whole start first stands)
 
 -- ---- why it ended is told behind all else
 

@@ -1,6 +1,6 @@
 //! A run over a capture as it comes, on one thread.
 
-ghost use Rattle.std.specs.Prelude.{◌≡◌, ◌≢◌, ◌<◌, ◌≤◌, ◌-◌, ◌++◌, ◌^◌, ◌⊎◌, List, ℕ, IfOk, IfErr, OnOk, length, take, vec_len};
+ghost use Rattle.std.specs.Prelude.{◌≡◌, ◌≢◌, ◌<◌, ◌≤◌, ◌-◌, ◌++◌, ◌^◌, ◌⊎◌, [], List, ℕ, IfOk, IfErr, OnOk, length, take, vec_len};
 ghost use Rattle.mdp_crew.specs.Faults.{FailsBy, written_before};
 ghost use Rattle.mdp_print.specs.Written.{HasCounted};
 ghost use Rattle.mdp_pipeline.specs.Streamed.{HasHandedOn, Setup, text_held};
@@ -187,34 +187,45 @@ fn finish<O: CountedWrite, F: CountedWrite, A: Allocator + Copy>(
     }
 }
 
-// Handles the end of a capture: its last line, and what a run prints at its end.
-fn handle_end<O: CountedWrite, F: CountedWrite, A: Allocator + Copy>(
+// Handles a capture piece by piece, to its end or to what ends the run early.
+fn read_pieces<I: CountedRead, O: CountedWrite, F: CountedWrite, A: Allocator + Copy>(
     alloc: A,
-    mut run: StreamedRun<A>,
+    run: &mut StreamedRun<A>,
+    piece: &mut [u8],
+    input: &mut I,
     output: &mut O,
     faults: &mut F,
     since: u64,
 ) -> Result<(), LiveFault>
-    requires { O.failed output.old < 2 ^ 64 - 1 }
-    ensures done { OnOk result ((setup : Setup) (text start : List ℕ) (first : F)
-        → SoFar setup text
-        (went start (O.taken output.old) (Tells F.failed F.taken first faults.old)) run
-        → HasEnded setup text
-        (went start (O.taken output.new) (Tells F.failed F.taken first faults.new))) }
-    ensures ended { IfErr result (λ fault. (setup : Setup) (text start : List ℕ) (first : F)
-        → SoFar setup text
-        (went start (O.taken output.old) (Tells F.failed F.taken first faults.old)) run
-        → EndsFor setup text
+    requires room { 0 < length piece.old }
+    requires input { I.failed input.old < 2 ^ 64 - 1 }
+    requires output { O.failed output.old < 2 ^ 64 - 1 }
+    ensures read { OnOk result ((setup : Setup) (start : List ℕ) (first : F)
+        → SoFar setup []
+        (went start (O.taken output.old) (Tells F.failed F.taken first faults.old)) run.old
+        → (whole : List ℕ) × IsInput (I.rest input.old) whole
+        × StandsAtEnd setup whole
+        (went start (O.taken output.new) (Tells F.failed F.taken first faults.new)) run.new) }
+    ensures ended { IfErr result (λ fault. (setup : Setup) (start : List ℕ) (first : F)
+        → SoFar setup []
+        (went start (O.taken output.old) (Tells F.failed F.taken first faults.old)) run.old
+        → (whole : List ℕ) × IsInput (I.rest input.old) whole
+        × EndsFor setup whole
         (went start (O.taken output.new) (Tells F.failed F.taken first faults.new)) fault) }
     ensures counted { IfErr result (CountsTo (length (O.taken output.new) - since)) }
-    ensures failed { FailsOnce result (O.failed output.old) (O.failed output.new) }
-    ensures unread { IfErr result (λ fault. reads_failed fault ≡ 0) }
+    ensures reads { ReadsOnce result (I.failed input.old) (I.failed input.new) }
+    ensures writes { FailsOnce result (O.failed output.old) (O.failed output.new) }
 {
-    handle_last_line(alloc, &mut run, output, faults, since)?;
-    finish(alloc, run, output, faults, since)
+    loop {
+        match input.read(piece) {
+            Ok(0) => return handle_last_line(alloc, run, output, faults, since),
+            Ok(n) => handle_piece(alloc, run, &piece[..n], output, faults, since)?,
+            Err(_) => return Err(LiveFault::Input),
+        }
+    }
 }
 
-// Handles a capture piece by piece to its end.
+// Handles a capture to its end.
 fn handle_all<I: CountedRead, O: CountedWrite, F: CountedWrite, A: Allocator + Copy>(
     alloc: A,
     settings: Settings<'_>,
@@ -237,17 +248,20 @@ fn handle_all<I: CountedRead, O: CountedWrite, F: CountedWrite, A: Allocator + C
     ensures writes { FailsOnce result (O.failed output.old) (O.failed output.new) }
 {
     let since = output.written();
-    let mut run = StreamedRun::new(alloc, settings.window, settings.start);
     let Ok(mut piece) = room(alloc) else {
         return Err(LiveFault::Run(out_of_memory(output, since)));
     };
-    loop {
-        match input.read(piece.as_mut_slice()) {
-            Ok(0) => return handle_end(alloc, run, output, faults, since),
-            Ok(n) => handle_piece(alloc, &mut run, &piece[..n], output, faults, since)?,
-            Err(_) => return Err(LiveFault::Input),
-        }
-    }
+    let mut run = StreamedRun::new(alloc, settings.window, settings.start);
+    read_pieces(
+        alloc,
+        &mut run,
+        piece.as_mut_slice(),
+        input,
+        output,
+        faults,
+        since,
+    )?;
+    finish(alloc, run, output, faults, since)
 }
 
 /// Makes room for a piece, all zeros.

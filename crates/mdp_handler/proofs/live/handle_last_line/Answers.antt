@@ -4,10 +4,6 @@ use Rattle.mdp_crew.specs.Faults.{written_before}
 use Rattle.mdp_handler.proofs.GoingOut.{end_cut, end_cut_refused, end_handled, end_refused, stays_so_far}
 use Rattle.mdp_handler.proofs.live.handle_last_line.Goals as goal
 
--- the output is as it came
-pub hand_on_all-requires : goal.hand_on_all-requires
-hand_on_all-requires g c = c.requires
-
 pub returns-in_ok-hand_on_all-in-Ok-clause-handled : goal.returns-in_ok-hand_on_all-in-Ok-clause-handled
 returns-in_ok-hand_on_all-in-Ok-clause-handled g c =
     end_handled g.F.CountedWrite.failed g.F.CountedWrite.taken c.args.run.now c.take_end.new.self c.hand_on_all.new.run
