@@ -94,10 +94,10 @@ where
         workers,
     } = plan;
     let alloc = site.means.alloc;
+    let round = Vec::with_capacity(alloc, usize::from(workers))?;
+    let collector = Collector::new(alloc, instruments)?;
     let window = RingWindow::new(alloc, u64::from(window))?;
     let arbiter = Arbiter::new(alloc, instruments, window, start)?;
-    let collector = Collector::new(alloc, instruments)?;
-    let round = Vec::with_capacity(alloc, usize::from(workers))?;
     let (senders, posts) = hire_all(site, instruments, workers)?;
     let collecting = Collecting::new(alloc, collector, round, posts);
     Ok(Ready {

@@ -176,31 +176,37 @@ pub enum Came {
     Many,
 }
 
-// An intake into which the readers have put the events of the worked text.
-fn channel_over<R: Wait, A: Allocator + Copy>(rt: &R, alloc: A) -> Result<Ends<A>, Memory>
-    ensures { IfOk result (λ ends. ends.3.taken ≡ []) }
-{
-    let (mut a, mut b, mut s, receiver) = Intake::new(alloc, 16)?;
-    put(rt, &mut a, packets(alloc, &FIRST, false)?);
-    put(rt, &mut b, packets(alloc, &SECOND, true)?);
-    put(rt, &mut s, snapshots(alloc)?);
-    put(rt, &mut a, packets(alloc, &LAST, true)?);
-    Ok((a, b, s, receiver))
+// Puts the events of the worked text.
+fn put_channel<R: Wait, A: Allocator + Copy>(
+    rt: &R,
+    alloc: A,
+    a: &mut IntakeSender<Batch<A>, A>,
+    b: &mut IntakeSender<Batch<A>, A>,
+    s: &mut IntakeSender<Batch<A>, A>,
+) -> Result<(), Memory> {
+    put(rt, a, packets(alloc, &FIRST, false)?);
+    put(rt, b, packets(alloc, &SECOND, true)?);
+    put(rt, s, snapshots(alloc)?);
+    put(rt, a, packets(alloc, &LAST, true)?);
+    Ok(())
 }
 
-// An intake into which the reader of A has put a batch for each of 200 packets, and each reader an empty one as its last.
-fn many_over<R: Wait, A: Allocator + Copy>(rt: &R, alloc: A) -> Result<Ends<A>, Memory>
-    ensures { IfOk result (λ ends. ends.3.taken ≡ []) }
-{
-    let (mut a, mut b, mut s, receiver) = Intake::new(alloc, 256)?;
+// Puts a batch for each of 200 packets as the reader of A, and an empty one as each reader's last.
+fn put_many<R: Wait, A: Allocator + Copy>(
+    rt: &R,
+    alloc: A,
+    a: &mut IntakeSender<Batch<A>, A>,
+    b: &mut IntakeSender<Batch<A>, A>,
+    s: &mut IntakeSender<Batch<A>, A>,
+) -> Result<(), Memory> {
     for number in 1..201u32 {
         let quote = (number, NEAR, Kind::Bid, 100, 5);
-        put(rt, &mut a, packets(alloc, &[quote], false)?);
+        put(rt, a, packets(alloc, &[quote], false)?);
     }
-    put(rt, &mut a, packets(alloc, &[], true)?);
-    put(rt, &mut b, packets(alloc, &[], true)?);
-    put(rt, &mut s, packets(alloc, &[], true)?);
-    Ok((a, b, s, receiver))
+    put(rt, a, packets(alloc, &[], true)?);
+    put(rt, b, packets(alloc, &[], true)?);
+    put(rt, s, packets(alloc, &[], true)?);
+    Ok(())
 }
 
 /// An intake into which the readers have put all that they hand over.
@@ -211,8 +217,11 @@ pub fn handed_over<R: Wait, A: Allocator + Copy>(
 ) -> Result<Ends<A>, Memory>
     ensures { IfOk result (λ ends. ends.3.taken ≡ []) }
 {
-    match came {
-        Came::Channel => channel_over(rt, alloc),
-        Came::Many => many_over(rt, alloc),
-    }
+    let (mut a, mut b, mut s, receiver) = Intake::new(alloc, 256)?;
+    let handed = match came {
+        Came::Channel => put_channel(rt, alloc, &mut a, &mut b, &mut s),
+        Came::Many => put_many(rt, alloc, &mut a, &mut b, &mut s),
+    };
+    handed?;
+    Ok((a, b, s, receiver))
 }

@@ -8,7 +8,7 @@ use crate::shared_moves::SharedMoves;
 use crate::tests::channel::{listed, packet, snapshots};
 use mdp_arbiter::{Arbiter, OwnedMove, Start};
 use mdp_engine::Event;
-use mdp_templates::{Instrument, Kind, Memory, Snapshot};
+use mdp_templates::{Instrument, Kind, Memory, Packet, Snapshot};
 use mdp_window::MapWindow;
 use refusing::Refusing;
 use std::alloc::{Allocator, Global};
@@ -86,50 +86,70 @@ fn are_first<A: Allocator>(rt: &impl Abort, owned_moves: &[OwnedMove<A>]) {
     }
 }
 
+/// The second packet makes no move, and then the first makes both.
+fn makes_two(
+    rt: &impl Abort,
+    alloc: Global,
+    arbiter: &mut Arbiter<Global, MapWindow<Packet<Global>, Global>>,
+) -> Result<(), Memory> {
+    let mut owned_moves = Vec::new(alloc);
+    feed_all(alloc, arbiter, one_packet(alloc, 2)?, &mut owned_moves)?;
+    assert_eq!(rt; owned_moves.len(), 0);
+    feed_all(alloc, arbiter, one_packet(alloc, 1)?, &mut owned_moves)?;
+    assert_eq!(rt; owned_moves.len(), 2);
+    are_first(rt, &owned_moves);
+    Ok(())
+}
+
 #[test]
 fn an_event_makes_the_turns_that_are_then_possible(rt: HostRuntime) -> Result<(), Fail> {
     let alloc = rt.alloc();
     let mut arbiter = Arbiter::new(alloc, &listed()?, MapWindow::new(alloc, 4), Start::FromOne)?;
+    makes_two(&rt, alloc, &mut arbiter)?;
+    Ok(())
+}
+
+/// Makes the moves of all events. Those that were made are the first, also where memory runs out.
+fn moves_of<A: Allocator + Copy>(
+    rt: &impl Abort,
+    alloc: A,
+    instruments: &[Instrument],
+) -> Result<Vec<OwnedMove<A>, A>, Memory>
+    requires { AreFit instruments.now }
+{
+    let events = all_events(alloc)?;
     let mut owned_moves = Vec::new(alloc);
-    feed_all(alloc, &mut arbiter, one_packet(alloc, 2)?, &mut owned_moves)?;
-    assert_eq!(rt; owned_moves.len(), 0);
-    feed_all(alloc, &mut arbiter, one_packet(alloc, 1)?, &mut owned_moves)?;
-    assert_eq!(rt; owned_moves.len(), 2);
-    are_first(&rt, &owned_moves);
+    let mut arbiter = Arbiter::new(alloc, instruments, MapWindow::new(alloc, 4), Start::FromOne)?;
+    let fed = feed_all(alloc, &mut arbiter, events, &mut owned_moves);
+    are_first(rt, &owned_moves);
+    fed?;
+    Ok(owned_moves)
+}
+
+/// The moves are all of them.
+fn are_all<A: Allocator>(rt: &impl Abort, owned_moves: &[OwnedMove<A>]) {
+    assert_eq!(rt; owned_moves.len(), ALL.len());
+    are_first(rt, owned_moves);
+}
+
+/// Makes the moves of all events, and shares them.
+fn share_all<A: Allocator + Copy>(
+    rt: &impl Abort,
+    alloc: A,
+    instruments: &[Instrument],
+) -> Result<(), Memory>
+    requires { AreFit instruments.now }
+{
+    let moves = SharedMoves::new(alloc, moves_of(rt, alloc, instruments)?)?;
+    let share = moves.share()?;
+    are_all(rt, moves.as_slice());
+    are_all(rt, share.as_slice());
     Ok(())
 }
 
 #[test]
 fn a_share_has_the_turns_of_the_first(rt: HostRuntime) -> Result<(), Fail> {
-    let alloc = rt.alloc();
-    let mut arbiter = Arbiter::new(alloc, &listed()?, MapWindow::new(alloc, 4), Start::FromOne)?;
-    let mut owned_moves = Vec::new(alloc);
-    feed_all(alloc, &mut arbiter, all_events(alloc)?, &mut owned_moves)?;
-    let moves = SharedMoves::new(alloc, owned_moves)?;
-    let share = moves.share()?;
-    assert_eq!(rt; moves.as_slice().len(), ALL.len());
-    are_first(&rt, moves.as_slice());
-    assert_eq!(rt; share.as_slice().len(), ALL.len());
-    are_first(&rt, share.as_slice());
-    Ok(())
-}
-
-/// Makes the moves of all events, and shares them; those that were made are the first. All memory comes from the heap.
-fn share_all(
-    rt: &impl Abort,
-    heap: &Refusing<Global>,
-    instruments: &[Instrument],
-) -> Result<(), Memory>
-    requires { AreFit instruments.now }
-{
-    let mut arbiter = Arbiter::new(heap, instruments, MapWindow::new(heap, 4), Start::FromOne)?;
-    let mut owned_moves = Vec::new(heap);
-    let fed = feed_all(heap, &mut arbiter, all_events(heap)?, &mut owned_moves);
-    are_first(rt, &owned_moves);
-    fed?;
-    let moves = SharedMoves::new(heap, owned_moves)?;
-    let share = moves.share()?;
-    assert_eq!(rt; share.as_slice().len(), ALL.len());
+    share_all(&rt, rt.alloc(), &listed()?)?;
     Ok(())
 }
 
