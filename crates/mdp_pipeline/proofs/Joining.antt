@@ -37,7 +37,7 @@ use Rattle.mdp_pipeline.specs.Merging.{Tagged, IsMerge, events_from, events_in, 
 use Rattle.mdp_pipeline.specs.Output.{BeginsToPublish, Prints, SaysAll, SaysSome, end_lines, end_text, shown_output, standing_in}
 use Rattle.mdp_pipeline.specs.Reading.{Readings, events_of, refusals_text}
 use Rattle.mdp_pipeline.specs.Readers.{HasRead}
-use Rattle.mdp_pipeline.specs.RefusalTexts.{RefusalTexts}
+use Rattle.mdp_pipeline.specs.RefusalTexts.{RefusalTexts, all_refused}
 use Rattle.mdp_pipeline.specs.Running.{EndsAs, joined_texts}
 use Rattle.mdp_pipeline.proofs.Beginnings.{readings_exist}
 use Rattle.mdp_pipeline.proofs.OnBoards.{publishes}
@@ -189,8 +189,17 @@ map_err (Err e) P Q f is = f e is
 
 -- ---- the refusals of the three feeds
 
-pub told_all : {a b s x y z : List ℕ} → a ≡ x → b ≡ y → s ≡ z → a ++ (b ++ s) ≡ x ++ (y ++ z)
+told_all : {a b s x y z : List ℕ} → a ≡ x → b ≡ y → s ≡ z → a ++ (b ++ s) ≡ x ++ (y ++ z)
 told_all {a} {b} {s} {x} {y} {z} p q r = ap (λ (t : List ℕ). t ++ (b ++ s)) p ∙ ap (λ (t : List ℕ). x ++ (t ++ s)) q ∙ ap (λ (t : List ℕ). x ++ (y ++ t)) r
+
+-- what holds of each text holds where none is missing
+together : {E : Type 0} {ra rb rs all : Type 0} (a b s : Result (List ℕ) E) (x y z : List ℕ) → (ra → rb → rs → all)
+    → OnOk a ra → OnOk b rb → OnOk s rs → IfOk a (λ t. t ≡ x) → IfOk b (λ t. t ≡ y) → IfOk s (λ t. t ≡ z)
+    → IfOk (all_refused a b s) (λ (texts : RefusalTexts). all × (joined_texts texts ≡ x ++ (y ++ z)))
+together (Ok a) (Ok b) (Ok s) x y z join on_a on_b on_s p q r = (join on_a on_b on_s, told_all p q r)
+together (Ok a) (Ok b) (Err e) x y z join on_a on_b on_s p q r = tt
+together (Ok a) (Err e) s x y z join on_a on_b on_s p q r = tt
+together (Err e) b s x y z join on_a on_b on_s p q r = tt
 
 -- ---- what was taken
 
@@ -348,12 +357,22 @@ module _ {A : Type 0} where
   -- ---- what the end of a run answers
 
   -- memory sufficed in all readers
-  pub none_left : (receiver : IntakeReceiverView (Batch A)) (records : FeedRecords) (left_a left_b left_s : ReaderOutcome A) (joined : Joined receiver records left_a left_b left_s)
+  none_left : (receiver : IntakeReceiverView (Batch A)) (records : FeedRecords) (left_a left_b left_s : ReaderOutcome A) (joined : Joined receiver records left_a left_b left_s)
       → joined.read_a.2.over.rest ≡ [] → joined.read_b.2.over.rest ≡ [] → joined.read_s.2.over.rest ≡ [] → rest_in joined ≡ []
   none_left receiver records left_a left_b left_s joined ra rb rs =
       ap (λ (t : List Event). t ++ (joined.read_b.2.over.rest ++ joined.read_s.2.over.rest)) ra
       ∙ ap (λ (t : List Event). t ++ joined.read_s.2.over.rest) rb
       ∙ rs
+
+  -- where all readers had memory, nothing is left of their events, and what they refused is what is told
+  pub all_told : (receiver : IntakeReceiverView (Batch A)) (records : FeedRecords) (left_a left_b left_s : ReaderOutcome A) (joined : Joined receiver records left_a left_b left_s)
+      → IfOk (all_refused left_a.refusals left_b.refusals left_s.refusals)
+      (λ (texts : RefusalTexts). (rest_in joined ≡ []) × (joined_texts texts ≡ refusals_text (readings_in joined)))
+  all_told receiver records left_a left_b left_s joined =
+      together left_a.refusals left_b.refusals left_s.refusals _ _ _
+      (none_left receiver records left_a left_b left_s joined)
+      joined.read_a.2.whole joined.read_b.2.whole joined.read_s.2.whole
+      joined.read_a.2.refusals joined.read_b.2.refusals joined.read_s.2.refusals
 
   pub ends_well : (receiver : IntakeReceiverView (Batch A)) (records : FeedRecords) (left_a left_b left_s : ReaderOutcome A) (joined : Joined receiver records left_a left_b left_s)
       (taken after : List ℕ) (outcome : Result Standing RunFault) (standing : Standing) (refusals : RefusalTexts) (result : Result Summary RunFault)

@@ -1,5 +1,5 @@
 -- The lines of refused datagrams, feed by feed.
-use Rattle.std.specs.Prelude.{ℕ, List, [], ◌++◌, Option, Some, None, refl}
+use Rattle.std.specs.Prelude.{ℕ, List, [], ◌++◌, Option, Some, None, Result, Ok, Err, refl}
 use Rattle.std.specs.Coded.{Coded, code_by, coded×, coded_ℕ, coded_list}
 use Rattle.mdp_sbe.specs.declared.refusal.Refusal.{Refusal}
 use Rattle.mdp_templates.specs.declared.feed.Feed.{Feed}
@@ -38,3 +38,11 @@ with_refusal feeds.S line refusal texts =
 abbrev pub with_told : Feed → ℕ → Option Refusal → RefusalTexts → RefusalTexts
 with_told feed line None texts = texts
 with_told feed line (Some refusal) texts = with_refusal feed line refusal texts
+
+-- the texts of the three feeds, unless one is missing
+abbrev pub all_refused : {E : Type 0} → Result (List ℕ) E → Result (List ℕ) E → Result (List ℕ) E
+    → Result RefusalTexts E
+all_refused (Ok a) (Ok b) (Ok s) = Ok (record { a = a; b = b; s = s })
+all_refused (Ok a) (Ok b) (Err missing) = Err missing
+all_refused (Ok a) (Err missing) s = Err missing
+all_refused (Err missing) b s = Err missing

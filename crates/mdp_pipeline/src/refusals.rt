@@ -2,7 +2,7 @@
 
 ghost use Rattle.std.specs.Prelude.{◌≡◌, ◌<◌, ◌^◌, ◌-◌, ◌++◌, ℕ, List, length, IfErr, OnOk};
 ghost use Rattle.mdp_crew.specs.Faults.{FailsBy, written_before};
-ghost use Rattle.mdp_pipeline.specs.RefusalTexts.{no_refusals, with_refusal};
+ghost use Rattle.mdp_pipeline.specs.RefusalTexts.{all_refused, no_refusals, with_refusal};
 ghost use Rattle.mdp_pipeline.specs.Running.{joined_texts};
 ghost use Rattle.mdp_pipeline.specs.Sending.{SendsFront};
 
@@ -45,11 +45,23 @@ impl<A: Allocator + Copy> Refusals<A> {
         }
     }
 
-    /// Makes texts of these lines of the three feeds.
-    pub fn of(a: RefusedLines<A>, b: RefusedLines<A>, s: RefusedLines<A>) -> Refusals<A>
-        ensures { result ≡ record { a = a; b = b; s = s } }
+    /// Makes texts of the lines of the three feeds.
+    ///
+    /// # Errors
+    ///
+    /// Memory ran out for the lines of a feed.
+    pub fn of(
+        a: Result<RefusedLines<A>, Memory>,
+        b: Result<RefusedLines<A>, Memory>,
+        s: Result<RefusedLines<A>, Memory>,
+    ) -> Result<Refusals<A>, Memory>
+        ensures { result ≡ all_refused a b s }
     {
-        Refusals { a, b, s }
+        Ok(Refusals {
+            a: a?,
+            b: b?,
+            s: s?,
+        })
     }
 
     /// Appends the line of a datagram of a feed.

@@ -78,15 +78,8 @@ pub fn settle_and_finish<W: CountedWrite, A: Allocator + Copy>(
     } = readers;
     Intake::settle(receiver, left_a.sender, left_b.sender, left_s.sender);
     let standing = standing?;
-    let Ok(refused_a) = left_a.refusals else {
+    let Ok(refusals) = Refusals::of(left_a.refusals, left_b.refusals, left_s.refusals) else {
         return Err(out_of_memory(writer, since));
     };
-    let Ok(refused_b) = left_b.refusals else {
-        return Err(out_of_memory(writer, since));
-    };
-    let Ok(refused_s) = left_s.refusals else {
-        return Err(out_of_memory(writer, since));
-    };
-    let refusals = Refusals::of(refused_a, refused_b, refused_s);
     write_end(alloc, writer, refusals, standing, since)
 }
