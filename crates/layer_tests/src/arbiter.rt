@@ -123,6 +123,21 @@ fn answers<W: Window<Packet<Global>> + Drop>(
     Ok(())
 }
 
+/// Makes the calls of a table on an arbiter, one by one.
+fn make_calls<W: Window<Packet<Global>> + Drop>(
+    rt: &impl Abort,
+    alloc: Global,
+    arbiter: &mut Arbiter<Global, W>,
+    table: &[Row],
+) -> Result<(), Fail> {
+    for (call, answer, next, lost) in table.iter() {
+        answers(rt, alloc, arbiter, *call, *answer)?;
+        assert_eq!(rt; arbiter.next(), *next);
+        assert_eq!(rt; arbiter.lost(), *lost);
+    }
+    Ok(())
+}
+
 /// Makes the calls of a table on a new arbiter over this window.
 fn follow<W: Window<Packet<Global>> + Drop>(
     rt: &impl Abort,
@@ -135,12 +150,7 @@ fn follow<W: Window<Packet<Global>> + Drop>(
     requires empty { (W.view window).held ≡ map.empty }
 {
     let mut arbiter = Arbiter::new(alloc, &near()?, window, start)?;
-    for (call, answer, next, lost) in table.iter() {
-        answers(rt, alloc, &mut arbiter, *call, *answer)?;
-        assert_eq!(rt; arbiter.next(), *next);
-        assert_eq!(rt; arbiter.lost(), *lost);
-    }
-    Ok(())
+    make_calls(rt, alloc, &mut arbiter, table)
 }
 
 /// Follows a table over each window, of four places.
@@ -364,6 +374,17 @@ fn compare_with_walks<W: Window<Packet<Global>> + Drop>(
 /// and how many packets wait.
 type KeptRow = (Call, Option<usize>, u64, u64);
 
+/// Makes all steps.
+fn make_steps<W: Window<Packet<Global>> + Drop>(
+    alloc: Global,
+    arbiter: &mut Arbiter<Global, W>,
+) -> Result<(), Fail> {
+    for _ in 0..6 {
+        answer_to(alloc, arbiter, Call::Step)?;
+    }
+    Ok(())
+}
+
 /// Makes a call and then all steps, and checks what the arbiter keeps after the call and after the steps.
 fn follow_row<W: Window<Packet<Global>> + Drop>(
     rt: &impl Abort,
@@ -374,13 +395,24 @@ fn follow_row<W: Window<Packet<Global>> + Drop>(
     let (call, stale, next, waiting) = *row;
     answer_to(alloc, arbiter, call)?;
     compare_with_walks(rt, arbiter);
-    for _ in 0..6 {
-        answer_to(alloc, arbiter, Call::Step)?;
-    }
+    make_steps(alloc, arbiter)?;
     compare_with_walks(rt, arbiter);
     assert_eq!(rt; arbiter.first_stale(), stale);
     assert_eq!(rt; arbiter.next(), next);
     assert_eq!(rt; arbiter.waiting(), waiting);
+    Ok(())
+}
+
+/// Makes the calls of a table on an arbiter of three securities, one by one.
+fn follow_rows<W: Window<Packet<Global>> + Drop>(
+    rt: &impl Abort,
+    alloc: Global,
+    arbiter: &mut Arbiter<Global, W>,
+    table: &[KeptRow],
+) -> Result<(), Fail> {
+    for row in table {
+        follow_row(rt, alloc, arbiter, row)?;
+    }
     Ok(())
 }
 
@@ -395,10 +427,7 @@ fn follow_three<W: Window<Packet<Global>> + Drop>(
     requires empty { (W.view window).held ≡ map.empty }
 {
     let mut arbiter = Arbiter::new(alloc, &three()?, window, Start::FromOne)?;
-    for row in table {
-        follow_row(rt, alloc, &mut arbiter, row)?;
-    }
-    Ok(())
+    follow_rows(rt, alloc, &mut arbiter, table)
 }
 
 /// The same over each window, and over one that keeps no count of what it holds.
@@ -473,6 +502,17 @@ fn a_jump_makes_the_newest_snapshots_the_bases(rt: HostRuntime) -> Result<(), Fa
 
 type OverRefusing<'a> = Arbiter<Global, MapWindow<Packet<Global>, &'a Refusing<Global>>>;
 
+/// Hands in once more what came back for want of memory: the packet of this number, whole, with nothing changed.
+fn hand_in_again(rt: &impl Abort, arbiter: &mut OverRefusing, number: u32, back: Packet<Global>) {
+    assert_eq!(rt; back.number(), number);
+    assert_eq!(rt; back.len(), 1);
+    assert_eq!(rt; arbiter.next(), 1);
+    // so far packet 33 came, which is as far ahead of packet 1 as the window has room
+    assert_eq!(rt; arbiter.lost(), number > 33);
+    assert!(rt; arbiter.step().is_none());
+    assert!(rt; is_kept(arbiter.packet(back)));
+}
+
 /// Takes in packets 2 to 40, each once more where it came back for want of memory, and answers how often that was.
 fn take_in_all(rt: &impl Abort, alloc: Global, arbiter: &mut OverRefusing) -> Result<u32, Fail> {
     let mut came_back = 0u32;
@@ -481,13 +521,7 @@ fn take_in_all(rt: &impl Abort, alloc: Global, arbiter: &mut OverRefusing) -> Re
             continue;
         };
         came_back = came_back.saturating_add(1);
-        assert_eq!(rt; back.number(), number);
-        assert_eq!(rt; back.len(), 1);
-        assert_eq!(rt; arbiter.next(), 1);
-        // so far packet 33 came, which is as far ahead of packet 1 as the window has room
-        assert_eq!(rt; arbiter.lost(), number > 33);
-        assert!(rt; arbiter.step().is_none());
-        assert!(rt; is_kept(arbiter.packet(back)));
+        hand_in_again(rt, arbiter, number, back);
     }
     Ok(came_back)
 }
@@ -505,17 +539,35 @@ fn recovers(rt: &impl Abort, alloc: Global, arbiter: &mut OverRefusing) -> Resul
     Ok(())
 }
 
+/// Takes in and passes all packets, and answers how often one came back.
+fn pass_all(rt: &impl Abort, alloc: Global, arbiter: &mut OverRefusing) -> Result<u32, Fail> {
+    let came_back = take_in_all(rt, alloc, arbiter)?;
+    recovers(rt, alloc, arbiter)?;
+    Ok(came_back)
+}
+
+/// The same on a new arbiter, whose window has its memory from this heap.
+fn pass_all_over(
+    rt: &impl Abort,
+    alloc: Global,
+    heap: &Refusing<Global>,
+    listed: &[Instrument],
+) -> Result<u32, Fail>
+    requires { AreFit listed.now }
+{
+    let mut arbiter = Arbiter::new(alloc, listed, MapWindow::new(heap, 32), Start::FromOne)?;
+    pass_all(rt, alloc, &mut arbiter)
+}
+
 #[test]
 fn a_packet_that_came_back_for_want_of_memory_can_be_handed_in_again(
     rt: HostRuntime,
 ) -> Result<(), Fail> {
-    let alloc = rt.alloc();
+    let listed = near()?;
     let mut refused = 0u64;
     for number in 1..100u64 {
-        let heap = Refusing::new(alloc, number);
-        let mut arbiter = Arbiter::new(alloc, &near()?, MapWindow::new(&heap, 32), Start::FromOne)?;
-        let came_back = take_in_all(&rt, alloc, &mut arbiter)?;
-        recovers(&rt, alloc, &mut arbiter)?;
+        let heap = Refusing::new(rt.alloc(), number);
+        let came_back = pass_all_over(&rt, rt.alloc(), &heap, &listed)?;
         if !heap.has_refused() {
             assert_eq!(rt; came_back, 0);
             break;
@@ -550,21 +602,23 @@ fn a_packet_that_came_back_for_want_of_memory_gives_no_packet_up(
     rt: HostRuntime,
 ) -> Result<(), Fail> {
     let alloc = rt.alloc();
+    let listed = near()?;
     let heap = Refusing::new(alloc, 1);
-    let mut arbiter = Arbiter::new(alloc, &near()?, MapWindow::new(&heap, 32), Start::FromOne)?;
+    let mut arbiter = Arbiter::new(alloc, &listed, MapWindow::new(&heap, 32), Start::FromOne)?;
     gives_up_once_kept(&rt, alloc, &mut arbiter)
 }
 
 #[test]
 fn no_arbiter_is_made_without_its_room(rt: HostRuntime) -> Result<(), Fail> {
     let alloc = rt.alloc();
+    let listed = near()?;
     let mut refused = 0u64;
     for number in 1..100u64 {
         let heap = Refusing::new(alloc, number);
         let window: MapWindow<Packet<&Refusing<Global>>, &Refusing<Global>> = MapWindow::new(
             &heap, 4,
         );
-        let made = Arbiter::new(&heap, &near()?, window, Start::FromOne).is_ok();
+        let made = Arbiter::new(&heap, &listed, window, Start::FromOne).is_ok();
         assert_eq!(rt; made, !heap.has_refused());
         if made {
             break;
