@@ -3,15 +3,16 @@
 # tshark is there, the rows, captures as they come, recordings of a channel, cut and bent datagrams, the refusals of the system, refused
 # allocations and the manual's commands on the programs that the gate has built, the library with its callers (which it builds: the gate
 # makes no archive), the samples of captured traffic beside the crate's, the manual page beside the help, and a look at the documents: the
-# names in docs/DEFINITIONS.md, English and links, and the code that they show. The last line is 'N passed, M failed', over all of them.
-# The exit status is 1 if any failed.
+# names in docs/DEFINITIONS.md, English and links, and the code that they show. Where memory has room, the library is proved beside the
+# gate. The last line is 'N passed, M failed', over all of them. The exit status is 1 if any failed.
 set -u
 
 cd "$(dirname "$(realpath "$0")")/.." || exit 2
 program=crates/mdp_handler/out/mdp_handler
 demo=crates/board_demo/out/board_demo
 scratch=$(mktemp -d)
-trap 'rm -rf "$scratch"' EXIT
+library=
+trap '[ -z "$library" ] || kill -- "-$library" 2>/dev/null; rm -rf "$scratch"' EXIT
 passed=0
 failed=0
 
@@ -102,15 +103,37 @@ run_recordings() {
     tests/run_channel.py "${words[@]}"
 }
 
+# Prints how many checks memory has room for, where one takes $1 GB.
+checks_in_memory() {
+    awk -v size="$1" '/^MemAvailable:/ { print int($2 / 1000000 / size) }' /proc/meminfo
+}
+
 # Prints how many checks may run at once: one for each processor, where there are 5 GB for each.
 checks_at_once() {
-    awk -v processors="$(nproc)" '/^MemAvailable:/ { most = int($2 / 5000000); print most < 1 ? 1 : most < processors ? most : processors }' \
-        /proc/meminfo
+    local most processors
+    most=$(checks_in_memory 5) processors=$(nproc)
+    echo $((most < 1 ? 1 : most < processors ? most : processors))
+}
+
+# Begins to prove the library, in a process group of its own. `rt ci` and `rt lib` take no proof from each other, so this goes on beside
+# the gate; and in one checkout they wait for each other, so it is a copy that it is proved in. What is proved there is then kept here.
+start_library() {
+    mkdir "$scratch/library"
+    tar -c --exclude=out HANDLES crates.txt crates tools bindings | tar -x -C "$scratch/library"
+    setsid "$scratch/library/tools/library.sh" >"$scratch/library.text" 2>&1 &
+    library=$!
+}
+
+# Waits for the library's proof. Where it failed, that is told as its callers are built.
+end_library() {
+    [ -z "$library" ] || wait "$library"
+    library=
 }
 
 # Without RT_JOBS `rt` reckons with two to three times the memory that a large crate's check takes, and processors stand idle.
 export RT_JOBS=${RT_JOBS:-$(checks_at_once)}
 
+[ "$(checks_in_memory 4)" -le "$RT_JOBS" ] || start_library
 run_part "rt ci" rt ci
 run_part "the examples" run_examples
 run_part "the demonstration" run_demo
@@ -121,6 +144,7 @@ run_part "the rows" tests/run_rows.sh "$program"
 run_part "captures as they come" tests/run_live.py "$program"
 run_part "recordings of a channel" run_recordings
 run_part "cut and bent datagrams" tests/run_cut_and_bent.sh "$program" crates/datagram_rows/out/datagram_rows
+end_library
 run_part "the library" tests/run_library.sh "$program"
 run_part "the refusals of the system" tests/run_refusals.sh "$program"
 run_part "refused allocations" tests/run_refused_allocations.sh "$program"
